@@ -4,7 +4,7 @@ use Rattle.std.specs.Prelude.{Option, Some, None, option_map, is_some, unwrap_or
 use Rattle.processor.specs.Requests.{loaded_value}
 use Rattle.processor.specs.declared.cause.Cause.{Cause}
 use Rattle.processor.specs.declared.mode.Mode.{Mode}
-use Rattle.reference.specs.Counting.{counted, count_retired}
+use Rattle.reference.specs.Counting.{with_count, count_retired}
 use Rattle.reference.specs.Devices.{DeviceLoad, DeviceStore}
 use Rattle.reference.specs.States.{Devices, Journal}
 use Rattle.machine_model.specs.HostHarts.{host_with, host_passed, host_exception, host_device_load, host_device_store}
@@ -15,7 +15,7 @@ use Rattle.access_answers.specs.Accessed.{with_devices}
 
 pub loaded_there : (m : Machine) (h : ℕ) (host : HostHart) (mode : Mode) (rd address width : ℕ) (signed : Bool)
     (d : Devices) (j : Journal) (l : Option DeviceLoad) (value : ℕ) → option_map (λ (l : DeviceLoad). l.value) l ≡ Some value
-    → with_devices m h (host_with rd (loaded_value signed width value) host) (devices_loaded d l) (counted count_retired j)
+    → with_devices m h (host_with rd (loaded_value signed width value) host) (devices_loaded d l) (with_count count_retired j)
     ≡ host_device_load (with_devices m h host d j) h host mode rd address width signed l
 unfolding host_device_load
 loaded_there m h host mode rd address width signed d j None value e = cc
@@ -33,7 +33,7 @@ not_loaded m h host mode rd address width signed d j (Some l) e = cc
 
 pub stored_there : (m : Machine) (h : ℕ) (host : HostHart) (mode : Mode) (address : ℕ) (d : Devices) (j : Journal)
     (s : Option DeviceStore) → is_some s ≡ true
-    → with_devices m h (host_passed host) (devices_stored d s) (counted count_retired (journal_stored j s))
+    → with_devices m h (host_passed host) (devices_stored d s) (with_count count_retired (journal_stored j s))
     ≡ host_device_store (with_devices m h host d j) h host mode address s
 unfolding host_device_store
 stored_there m h host mode address d j None e = cc

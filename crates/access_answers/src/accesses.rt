@@ -11,6 +11,7 @@ ghost use Rattle.machine_model.specs.Machine.{Machine};
 ghost use Rattle.page_guard.specs.Sides.{mode_of};
 ghost use Rattle.hart_answers.specs.Hosts.{host_at};
 ghost use Rattle.access_answers.specs.Accessed.{with_devices};
+ghost use Rattle.processor.specs.Bytes.{instruction_size};
 
 use crate::values::loaded_value;
 use devices::Devices;
@@ -43,7 +44,7 @@ pub struct Store {
 /// A load of a device's register, or the guest's access fault where none is there. It takes all that a trap takes, and the
 /// devices.
 pub fn device_load<D: DiskPort>(
-    which: u8,
+    hart: u8,
     seat: &mut Seat,
     guard: &Guard,
     entries: &Entries,
@@ -51,10 +52,10 @@ pub fn device_load<D: DiskPort>(
     journal: &mut Journal,
     load: Load,
 )
-    requires aligned { seat.old.hart.core.pc % 4 ≡ 0 }
+    requires aligned { seat.old.hart.core.pc % instruction_size ≡ 0 }
     requires counts { MayCount journal.old.counts }
     requires register { load.rd < register_count }
-    ensures machine { (m : Machine) → m.rules.entries ≡ entries.now.entries → m.rules.bound ≡ entries.now.bound → with_devices m which (host_at seat.new) devices.new journal.new ≡ host_device_load (with_devices m which (host_at seat.old) devices.old journal.old) which (host_at seat.old) (mode_of seat.old.side) load.rd load.address load.width load.signed (device_load devices.old load.gpa load.width) }
+    ensures machine { (m : Machine) → m.rules.entries ≡ entries.now.entries → m.rules.bound ≡ entries.now.bound → with_devices m hart (host_at seat.new) devices.new journal.new ≡ host_device_load (with_devices m hart (host_at seat.old) devices.old journal.old) hart (host_at seat.old) (mode_of seat.old.side) load.rd load.address load.width load.signed (device_load devices.old load.gpa load.width) }
 {
     match devices.load(load.gpa, load.width) {
         Some(value) => {
@@ -64,7 +65,7 @@ pub fn device_load<D: DiskPort>(
         }
         None => {
             let fault = access_fault(Cause::LoadAccess, load.address);
-            guest_trap(which, seat, guard, entries, journal, fault);
+            guest_trap(hart, seat, guard, entries, journal, fault);
         }
     }
 }
@@ -72,7 +73,7 @@ pub fn device_load<D: DiskPort>(
 /// A store to a device's register, or the guest's access fault where none is there. It takes all that a trap takes, and the
 /// devices.
 pub fn device_store<D: DiskPort>(
-    which: u8,
+    hart: u8,
     seat: &mut Seat,
     guard: &Guard,
     entries: &Entries,
@@ -80,17 +81,17 @@ pub fn device_store<D: DiskPort>(
     journal: &mut Journal,
     store: Store,
 )
-    requires aligned { seat.old.hart.core.pc % 4 ≡ 0 }
+    requires aligned { seat.old.hart.core.pc % instruction_size ≡ 0 }
     requires counts { MayCount journal.old.counts }
     requires room { length journal.old.printed < most_printed }
-    ensures machine { (m : Machine) → m.rules.entries ≡ entries.now.entries → m.rules.bound ≡ entries.now.bound → with_devices m which (host_at seat.new) devices.new journal.new ≡ host_device_store (with_devices m which (host_at seat.old) devices.old journal.old) which (host_at seat.old) (mode_of seat.old.side) store.address (device_store devices.old journal.old store.gpa store.width store.value) }
+    ensures machine { (m : Machine) → m.rules.entries ≡ entries.now.entries → m.rules.bound ≡ entries.now.bound → with_devices m hart (host_at seat.new) devices.new journal.new ≡ host_device_store (with_devices m hart (host_at seat.old) devices.old journal.old) hart (host_at seat.old) (mode_of seat.old.side) store.address (device_store devices.old journal.old store.gpa store.width store.value) }
 {
     if devices.store(journal, store.gpa, store.width, store.value) {
         pass(&mut seat.hart);
         journal.count_retired();
     } else {
         let fault = access_fault(Cause::StoreAccess, store.address);
-        guest_trap(which, seat, guard, entries, journal, fault);
+        guest_trap(hart, seat, guard, entries, journal, fault);
     }
 }
 

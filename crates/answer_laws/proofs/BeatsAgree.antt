@@ -10,7 +10,7 @@ use Rattle.processor_laws.proofs.ByteLemmas.{length_low_bytes}
 use Rattle.reference.specs.States.{State, Disk, BlockDevice, BlockDisk, VirtioDisk, protection_in, protection_by, is_protected, is_approved_in, has_number}
 use Rattle.reference.specs.BlockDisk.{block_beat, block_to_memory, block_to_disk, block_after_beat, beat_place, beat_gpa, beat_size, is_busy, is_to_memory, transfer_ended}
 use Rattle.reference.specs.VirtioDevice.{VirtioDevice, Request}
-use Rattle.reference.specs.VirtioBeats.{VirtioBeat, nothing, broken, with_request, with_written, refused, to_memory, put_last, finished, make, make_first, go_on, is_live, virtio_beat}
+use Rattle.reference.specs.VirtioBeats.{VirtioBeat, nothing, broken_beat, with_request, with_written, last_moves_alone, to_memory, put_last, finish_request, make, make_first, go_on, is_live, virtio_beat}
 use Rattle.reference.specs.Disk.{block_beaten, virtio_beaten, disk_beat, is_writable}
 use Rattle.reference.specs.Move.{Move, Idle, FromRam, IntoRam, DeniedAt, OutsideRam}
 use Rattle.reference.specs.Devices.{beat, after_beaten, after_move, with_bytes}
@@ -61,16 +61,16 @@ block_meets d ram f g agree =
     beat_by d ram f g (is_busy d.block) (in_ram ram (beat_gpa d.block) beat_size) (is_to_memory d.block.status) (agree (beat_gpa d.block) beat_size (omega arith))
 
 memory_meets : (d : VirtioDevice) (q : Request) (gpa place size : ℕ) (f g : ℕ → Bool) (inside : Bool) → (inside ≡ true → f (page_of gpa) ≡ g (page_of gpa))
-    → (if not inside then broken d OutsideRam else if f (page_of gpa) then record { device = with_request d (with_written q size); move = IntoRam gpa (part d.bytes place size) } else record { device = with_request d (refused q); move = DeniedAt gpa })
-    ≡ (if not inside then broken d OutsideRam else if g (page_of gpa) then record { device = with_request d (with_written q size); move = IntoRam gpa (part d.bytes place size) } else record { device = with_request d (refused q); move = DeniedAt gpa })
+    → (if not inside then broken_beat d OutsideRam else if f (page_of gpa) then record { device = with_request d (with_written q size); move = IntoRam gpa (part d.bytes place size) } else record { device = with_request d (last_moves_alone q); move = DeniedAt gpa })
+    ≡ (if not inside then broken_beat d OutsideRam else if g (page_of gpa) then record { device = with_request d (with_written q size); move = IntoRam gpa (part d.bytes place size) } else record { device = with_request d (last_moves_alone q); move = DeniedAt gpa })
 memory_meets d q gpa place size f g true same =
-    ap (λ (b : Bool). if b then record { device = with_request d (with_written q size); move = IntoRam gpa (part d.bytes place size) } else record { device = with_request d (refused q); move = DeniedAt gpa }) (same refl)
+    ap (λ (b : Bool). if b then record { device = with_request d (with_written q size); move = IntoRam gpa (part d.bytes place size) } else record { device = with_request d (last_moves_alone q); move = DeniedAt gpa }) (same refl)
 memory_meets d q gpa place size f g false same = refl
 
 put_meets : (d next : VirtioDevice) (gpa : ℕ) (bytes : List ℕ) (f g : ℕ → Bool) (inside : Bool) → (inside ≡ true → f (page_of gpa) ≡ g (page_of gpa))
-    → (if not inside then broken d OutsideRam else if f (page_of gpa) then record { device = next; move = IntoRam gpa bytes } else broken d (DeniedAt gpa))
-    ≡ (if not inside then broken d OutsideRam else if g (page_of gpa) then record { device = next; move = IntoRam gpa bytes } else broken d (DeniedAt gpa))
-put_meets d next gpa bytes f g true same = ap (λ (b : Bool). if b then record { device = next; move = IntoRam gpa bytes } else broken d (DeniedAt gpa)) (same refl)
+    → (if not inside then broken_beat d OutsideRam else if f (page_of gpa) then record { device = next; move = IntoRam gpa bytes } else broken_beat d (DeniedAt gpa))
+    ≡ (if not inside then broken_beat d OutsideRam else if g (page_of gpa) then record { device = next; move = IntoRam gpa bytes } else broken_beat d (DeniedAt gpa))
+put_meets d next gpa bytes f g true same = ap (λ (b : Bool). if b then record { device = next; move = IntoRam gpa bytes } else broken_beat d (DeniedAt gpa)) (same refl)
 put_meets d next gpa bytes f g false same = refl
 
 last_meets : (d next : VirtioDevice) (gpa width value : ℕ) (ram : List ℕ) (f g : ℕ → Bool) → 1 ≤ width → AgreeInRam ram f g
@@ -87,7 +87,7 @@ make_meets d q (VirtioMove.ToDisk gpa place size) ram f g stays agree = refl
 make_meets d q (VirtioMove.PutResult gpa) ram f g stays agree = last_meets d (with_request d q) gpa 1 (result_number q.result) ram f g stays.0 agree
 make_meets d q (VirtioMove.PutHead gpa head) ram f g stays agree = last_meets d (with_request d q) gpa 4 head ram f g (omega arith) agree
 make_meets d q (VirtioMove.PutLength gpa) ram f g stays agree = last_meets d (with_request d q) gpa 4 (q.written + 1) ram f g (omega arith) agree
-make_meets d q (VirtioMove.PutIndex gpa index) ram f g stays agree = last_meets d (finished d) gpa 2 index ram f g (omega arith) agree
+make_meets d q (VirtioMove.PutIndex gpa index) ram f g stays agree = last_meets d (finish_request d) gpa 2 index ram f g (omega arith) agree
 
 first_meets : (d : VirtioDevice) (q : Request) (moves : List VirtioMove) (ram : List ℕ) (f g : ℕ → Bool) → AreSoundMoves moves → AgreeInRam ram f g
     → make_first d q moves ram f ≡ make_first d q moves ram g

@@ -5,8 +5,8 @@ use Rattle.std.proofs.Common.{◌≡◌, ℕ, zero, suc, ◌+◌, ◌≤◌, Lis
 use Rattle.std.specs.Prelude.{Some, None, if◌then◌else◌, IsTrue}
 use Rattle.processor.specs.HypervisorRegisters.{HypervisorRegisters, registers_at_boot}
 use Rattle.attempt_laws.specs.Agree.{IsAt}
-use Rattle.reference.specs.Answers.{replied, devices_beside, journal_beside, harts_beside, answered, call}
-use Rattle.reference.specs.Calls.{Facts, asked_by, facts_of, mask_names, interrupted, with_software, hart_at, started_hart, extension_of}
+use Rattle.reference.specs.Answers.{with_reply, devices_beside, journal_beside, harts_beside, state_after_answer, call}
+use Rattle.reference.specs.Calls.{Facts, asked_by, facts_of, mask_names, interrupt_harts, with_software, hart_at, started_hart, extension_of}
 use Rattle.reference.specs.ModuleCalls.{answer_of}
 use Rattle.reference.specs.declared.answers.Answer.{Answer}
 use Rattle.reference.specs.declared.answers.Beside.{Beside}
@@ -28,15 +28,15 @@ use Rattle.machine_model.proofs.Sides.{same_mode}
 
 -- ---- an answer, by what becomes of the hart and by what happens beside
 
-mirror_replied : (t : ℕ) (c : HypervisorRegisters) (reply : Reply) (hart : Hart) → host_replied reply (host_hart t c hart) ≡ host_hart t c (replied reply hart)
-unfolding host_replied replied host_with host_answered host_stayed host_stopped
+mirror_replied : (t : ℕ) (c : HypervisorRegisters) (reply : Reply) (hart : Hart) → host_replied reply (host_hart t c hart) ≡ host_hart t c (with_reply reply hart)
+unfolding host_replied with_reply host_with host_answered host_stayed host_stopped
 mirror_replied t c (Gives a0) hart = refl
 mirror_replied t c (Replies a0 a1) hart = refl
 mirror_replied t c Stays hart = refl
 mirror_replied t c Stops hart = rw (same_mode hart.mode hart.entry) refl
 
-replied_counteren : (reply : Reply) (hart : Hart) → hart.supervisor.scounteren ≡ (replied reply hart).supervisor.scounteren
-unfolding replied
+replied_counteren : (reply : Reply) (hart : Hart) → hart.supervisor.scounteren ≡ (with_reply reply hart).supervisor.scounteren
+unfolding with_reply
 replied_counteren (Gives a0) hart = refl
 replied_counteren (Replies a0 a1) hart = refl
 replied_counteren Stays hart = refl
@@ -66,8 +66,8 @@ interrupts_by t c true hart = refl
 interrupts_by t c false hart = refl
 
 hosts_interrupted : (t : ℕ) (named : ℕ → Bool) (first : ℕ) (exits : List HypervisorRegisters) (harts : List Hart)
-    → interrupted_hosts named first (host_harts t exits harts) ≡ host_harts t exits (interrupted named first harts)
-unfolding host_harts interrupted_hosts interrupted
+    → interrupted_hosts named first (host_harts t exits harts) ≡ host_harts t exits (interrupt_harts named first harts)
+unfolding host_harts interrupted_hosts interrupt_harts
 hosts_interrupted t named first [] harts = refl
 hosts_interrupted t named first (c ∷ exits) [] = refl
 hosts_interrupted t named first (c ∷ exits) (x ∷ harts) =
@@ -149,7 +149,7 @@ may_beside o r _ size may = _
 changed : (o : Unseen) (r : State) (h : ℕ) (hart : Hart) (c : HypervisorRegisters) (a : Answer) → IsAt o r h hart c → MayBeside r a.beside → Changed o r h
 changed o r h hart c a at may =
     let t : ℕ = length o.tables in
-    let next : Hart = replied a.reply hart in
+    let next : Hart = with_reply a.reply hart in
     let change : HostHart → HostHart = host_replied a.reply in
     let same : change (host_hart t c hart) ≡ host_hart t c next = mirror_replied t c a.reply hart in
     record {
@@ -169,14 +169,14 @@ changed o r h hart c a at may =
     }
 
 pub given_mirrors : (o : Unseen) (r : State) (h : ℕ) (hart : Hart) (c : HypervisorRegisters) (a : Answer) → IsAt o r h hart c → MayBeside r a.beside
-    → Mirrors o r h (host_given (machine_of o r) h a) (answered r h hart a)
-unfolding machine_of host_given answered changed
+    → Mirrors o r h (host_given (machine_of o r) h a) (state_after_answer r h hart a)
+unfolding machine_of host_given state_after_answer changed
 given_mirrors o r h hart c a at may =
     subst (λ (j : Journal). Mirrors o r h (record (host_pages_beside a.beside h (machine_of o r)) {
       harts = hosts_beside a.beside (update (hosts_in o r) h (host_replied a.reply));
       devices = devices_beside a.beside h r.devices;
       journal = j;
-    }) (answered r h hart a))
+    }) (state_after_answer r h hart a))
     (sym (journals_beside o.cleared a.beside h r.journal at.right.cleared))
     (paged o r h a.beside (changed o r h hart c a at may) at.right at.sound may)
 

@@ -17,13 +17,13 @@ use Rattle.sv_types.specs.declared.event.Note.TheVariants.{Denied}
 use Rattle.sv_types.specs.declared.event.Verdict.{Verdict}
 use Rattle.sv_types.specs.declared.event.Verdict.TheVariants.{Running}
 use Rattle.reference.specs.States.{State, Disk, Journal, protection_in, is_protected, is_approved_in, has_number}
-use Rattle.reference.specs.Counting.{count, counted, count_beat, count_key, count_tick, count_dropped, noted, count_denied}
+use Rattle.reference.specs.Counting.{count, with_count, count_beat, count_key, count_tick, count_dropped, with_note, count_denied}
 use Rattle.reference.specs.Disk.{disk_beat, Beaten}
 use Rattle.reference.specs.Move.{Move, Idle, FromRam, IntoRam, DeniedAt, OutsideRam}
 use Rattle.reference.specs.Devices.{beat, key, tick, after_move, with_bytes, with_disk, hart_after_write}
 use Rattle.sv_types.specs.Protections.{is_free}
-use Rattle.machine_model.specs.Machine.{Machine, raised}
-use Rattle.machine_model.specs.HardwareEvent.{recorded, IsPermitted, OnlyDisk, IsEvent, Happens, HappensUnder}
+use Rattle.machine_model.specs.Machine.{Machine, with_count_raised}
+use Rattle.machine_model.specs.HardwareEvent.{with_records, IsPermitted, OnlyDisk, IsEvent, Happens, HappensUnder}
 use Rattle.machine_model.specs.HostEvents.{beat_served, key_served, tick_served, event_served}
 use Rattle.reference.specs.Run.{step, happen}
 use Rattle.machine_model.specs.StandsFor.{Unseen, IsRightFor, StandsFor, machine_of, protections_of, without_printed}
@@ -61,7 +61,7 @@ unfolding beat
 open_beat o r p s =
     open_moved o r (disk_beat r.devices.disk r.ram (λ page. not (is_protected r page))).disk (disk_beat r.devices.disk r.ram (λ page. not (is_protected r page))).move p (beat_sound r s).move
 
-open_key : (o : Unseen) (r : State) (byte : ℕ) (room : Bool) → IsRightFor o r → o.cleared ≤ length (if room then r.journal else counted count_dropped r.journal).printed
+open_key : (o : Unseen) (r : State) (byte : ℕ) (room : Bool) → IsRightFor o r → o.cleared ≤ length (if room then r.journal else with_count count_dropped r.journal).printed
 open_key o r byte true p = p.cleared
 open_key o r byte false p = p.cleared
 
@@ -117,7 +117,7 @@ moved_frame o r f disk (IntoRam gpa bytes) s free = record {
   same = rw (hosts_forget (length o.tables) o.exits r.harts (ram_place gpa) (length bytes), bytes_keep_load r (ram_place gpa) bytes s (beat_page r gpa bytes free)) refl;
 }
 moved_frame o r f disk (DeniedAt gpa) s free =
-    let j : Journal = noted (Denied gpa) (counted count_denied (counted f r.journal)) in
+    let j : Journal = with_note (Denied gpa) (with_count count_denied (with_count f r.journal)) in
     record { disk = disk; bytes = None; new = record { counts = j.counts; notes = j.notes }; permitted = tt; same = refl }
 moved_frame o r f disk OutsideRam s free =
     record { disk = disk; bytes = None; new = record { counts = f r.journal.counts; notes = r.journal.notes }; permitted = tt; same = refl }
@@ -145,26 +145,26 @@ beat_frame o r f s t =
 key_frame : (o : Unseen) (r : State) (byte : ℕ) (room : Bool)
     → record (machine_of o r) {
       devices = record r.devices { console = after_key r.devices.console byte };
-      journal = without_printed o.cleared (if room then counted count_key r.journal else counted count_dropped (counted count_key r.journal));
+      journal = without_printed o.cleared (if room then with_count count_key r.journal else with_count count_dropped (with_count count_key r.journal));
     }
-    ≡ recorded (record (machine_of o r) { devices = record r.devices { console = after_key r.devices.console byte } }) (record {
-      counts = (if room then counted count_key r.journal else counted count_dropped (counted count_key r.journal)).counts;
-      notes = (if room then counted count_key r.journal else counted count_dropped (counted count_key r.journal)).notes;
+    ≡ with_records (record (machine_of o r) { devices = record r.devices { console = after_key r.devices.console byte } }) (record {
+      counts = (if room then with_count count_key r.journal else with_count count_dropped (with_count count_key r.journal)).counts;
+      notes = (if room then with_count count_key r.journal else with_count count_dropped (with_count count_key r.journal)).notes;
     })
 unfolding machine_of
 key_frame o r byte true = refl
 key_frame o r byte false = refl
 
-key_same : (o : Unseen) (r : State) (byte : ℕ) → key_served (raised (machine_of o r) count_key) byte ≡ machine_of o (key (count r count_key) byte)
+key_same : (o : Unseen) (r : State) (byte : ℕ) → key_served (with_count_raised (machine_of o r) count_key) byte ≡ machine_of o (key (count r count_key) byte)
 unfolding key_served key machine_of
 key_same o r byte = choice (has_room r.devices.console)
   where
     choice : (room : Bool) → record (machine_of o r) {
       devices = record r.devices { console = after_key r.devices.console byte };
-      journal = if room then counted count_key (without_printed o.cleared r.journal) else counted count_dropped (counted count_key (without_printed o.cleared r.journal));
+      journal = if room then with_count count_key (without_printed o.cleared r.journal) else with_count count_dropped (with_count count_key (without_printed o.cleared r.journal));
     } ≡ record (machine_of o r) {
       devices = record r.devices { console = after_key r.devices.console byte };
-      journal = without_printed o.cleared (if room then counted count_key r.journal else counted count_dropped (counted count_key r.journal));
+      journal = without_printed o.cleared (if room then with_count count_key r.journal else with_count count_dropped (with_count count_key r.journal));
     }
     choice true = refl
     choice false = refl
@@ -173,10 +173,10 @@ key_event : (o : Unseen) (r : State) (byte : ℕ) → Happens (machine_of o r) (
 unfolding key machine_of
 key_event o r byte =
     let room : Bool = has_room r.devices.console in
-    let j : Journal = if room then counted count_key r.journal else counted count_dropped (counted count_key r.journal) in
+    let j : Journal = if room then with_count count_key r.journal else with_count count_dropped (with_count count_key r.journal) in
     record { console = after_key r.devices.console byte; new = record { counts = j.counts; notes = j.notes }; same = key_frame o r byte room }
 
-tick_same : (o : Unseen) (r : State) (n : ℕ) → tick_served (raised (machine_of o r) count_tick) n ≡ machine_of o (tick (count r count_tick) n)
+tick_same : (o : Unseen) (r : State) (n : ℕ) → tick_served (with_count_raised (machine_of o r) count_tick) n ≡ machine_of o (tick (count r count_tick) n)
 unfolding tick_served tick machine_of
 tick_same o r n = refl
 
@@ -196,7 +196,7 @@ IsNoTurn Beat = Unit {0}
 IsNoTurn (Key byte) = Unit {0}
 IsNoTurn (Tick n) = Unit {0}
 
-raised_same : (o : Unseen) (r : State) (f : Counts → Counts) → raised (machine_of o r) f ≡ machine_of o (count r f)
+raised_same : (o : Unseen) (r : State) (f : Counts → Counts) → with_count_raised (machine_of o r) f ≡ machine_of o (count r f)
 unfolding machine_of
 raised_same o r f = refl
 

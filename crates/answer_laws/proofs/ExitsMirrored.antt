@@ -11,7 +11,7 @@ use Rattle.processor.specs.declared.mode.Mode.{Mode}
 use Rattle.sv_types.specs.declared.protection.Protection.{Protection}
 use Rattle.attempt_laws.specs.Agree.{IsAt}
 use Rattle.answer_laws.specs.Laws.{MakesAttempt, TablesLaw}
-use Rattle.machine_model.specs.HardwareEvent.{attempted, left_by}
+use Rattle.machine_model.specs.HardwareEvent.{attempt_of, left_by}
 use Rattle.processor.specs.declared.outcome.Outcome.{Outcome}
 use Rattle.machine_model.specs.Steps.{AreTables}
 use Rattle.machine_model.specs.HardwareEvent.{Answers}
@@ -29,7 +29,7 @@ use Rattle.reference.specs.Turn.{turn}
 use Rattle.answer_laws.proofs.CallsMirrored.{call_mirrors}
 use Rattle.answer_laws.proofs.HartsMirrored.{host_in, trap_mirrors, return_mirrors, demote_mirrors, write_stop_mirrors, device_load_mirrors, load_leaves_time, device_store_mirrors}
 use Rattle.attempt_laws.proofs.Hosts.{hosts_get}
-use Rattle.answer_laws.proofs.LawsHold.{exit_turn, asked, asked_same}
+use Rattle.answer_laws.proofs.LawsHold.{exit_turn, answer_at_exit, asked_same}
 use Rattle.answer_laws.proofs.Mirrored.{Mirrors, host_there}
 use Rattle.answer_laws.proofs.ProtectionsChange.{views_from, views_to}
 use Rattle.run_laws.proofs.StepsSound.{turn_goes}
@@ -145,7 +145,7 @@ served_stands m r h hart exit next tables stands found started same last sound t
 
 -- an exit, over a turn whose count was raised already
 pub served_turn : (m : Machine) (r : State) (h : ℕ) (host : HostHart) (hart : Hart) (exit : Exit) (tables : List ℕ) → MakesAttempt m r h host hart
-    → (attempted m h host).outcome ≡ Outcome.Exit exit → is_again (asked m host exit) ≡ false
+    → (attempt_of m h host).outcome ≡ Outcome.Exit exit → is_again (answer_at_exit m host exit) ≡ false
     → AreTables (left_by m h host) (served_exit (left_by m h host) h exit) tables
     → Answered (left_by m h host) h (with_tables (served_exit (left_by m h host) h exit) tables) (turn r h)
 served_turn m r h host hart exit tables makes left once t =

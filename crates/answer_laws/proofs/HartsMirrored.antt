@@ -5,7 +5,7 @@ use Rattle.processor.specs.Causes.{cause_number}
 use Rattle.processor.specs.HypervisorRegisters.{registers_at_trap, HypervisorRegisters, registers_at_return}
 use Rattle.sv_types.specs.Policies.{Rules}
 use Rattle.processor.specs.Requests.{loaded_value}
-use Rattle.sv_types.specs.Console.{after_load, loaded}
+use Rattle.sv_types.specs.Console.{after_load, console_load}
 use Rattle.processor.specs.Traps.{supervisor_at_trap, trap_target, supervisor_at_return, mode_at_return}
 use Rattle.processor.specs.declared.cause.Cause.{Cause}
 use Rattle.processor.specs.declared.mode.Mode.{Mode}
@@ -13,16 +13,16 @@ use Rattle.sv_types.specs.declared.event.Note.TheVariants.{Demote}
 use Rattle.sv_types.specs.declared.event.Rule.TheVariants.{Entry, Write}
 use Rattle.sv_types.specs.declared.event.Verdict.TheVariants.{Stopped}
 use Rattle.attempt_laws.specs.Agree.{IsAt}
-use Rattle.reference.specs.Counting.{counted, noted, machine_ended, count_retired, count_return, count_demote, count_trap, printed_low}
+use Rattle.reference.specs.Counting.{with_count, with_note, machine_ended, count_retired, count_return, count_demote, count_trap, printed_low}
 use Rattle.reference.specs.Disk.{disk_load}
 use Rattle.reference.specs.Devices.{port_load, device_load_of, DeviceLoad, DeviceStore, Port, ConsoleAt, DiskAt, Nowhere, device_load, device_store, port_store, port_at}
 use Rattle.machine_model.specs.HostHarts.{host_at_return, host_demoted, host_outside, host_passed, host_with, host_trap, host_exception, host_return, host_demote, host_device_load, host_device_store, host_write_stopped, host_at_trap}
 use Rattle.machine_model.specs.Machine.{HostHart}
 use Rattle.reference.specs.States.{State, Hart, Devices, Disk, Journal, without_reservation}
-use Rattle.reference.specs.Requests.{carry_out_device_load, carry_out_device_store, write_stopped, stepped, stepped_with}
+use Rattle.reference.specs.Requests.{carry_out_device_load, carry_out_device_store, write_stopped, at_next_instruction, stepped_with}
 use Rattle.machine_model.specs.StandsFor.{Unseen, machine_of, host_hart, without_printed}
 use Rattle.reference.specs.Trapping.{hart_at_trap, hart_at_return, trap_from, exception, returned_from_trap, may_enter}
-use Rattle.reference.specs.Turn.{demote, demoted, outside}
+use Rattle.reference.specs.Turn.{demote, in_user_mode, outside}
 use Rattle.answer_laws.proofs.Mirrored.{Mirrors, choose, one_hart, no_hart, Adds, prints_none, dropped_more}
 use Rattle.machine_model.proofs.Sides.{same_mode}
 
@@ -51,7 +51,7 @@ pub trap_mirrors : (o : Unseen) (r : State) (h : ℕ) (hart : Hart) (c : Hypervi
 unfolding machine_of trap_from
 trap_mirrors o r h hart c interrupt cause tval at =
     choose o r h (may_enter r.rules hart.mode (trap_target hart.supervisor.stvec interrupt cause)) _ _ _ _
-    (one_hart o r h hart (hart_at_trap r.rules hart hart.mode interrupt cause tval) c (host_at_trap r.rules interrupt cause tval) r.devices (counted (count_trap hart.mode) r.journal) at
+    (one_hart o r h hart (hart_at_trap r.rules hart hart.mode interrupt cause tval) c (host_at_trap r.rules interrupt cause tval) r.devices (with_count (count_trap hart.mode) r.journal) at
     (mirror_trap (length o.tables) c r.rules hart interrupt cause tval) (same_counteren r.rules hart hart.mode interrupt cause tval) refl (prints_none r.journal.printed))
     (stopped o r h hart c (machine_ended (Stopped (Entry (trap_target hart.supervisor.stvec interrupt cause)) h r.journal.counts.turns) r.journal) at (prints_none r.journal.printed))
 
@@ -73,12 +73,12 @@ pub return_mirrors : (o : Unseen) (r : State) (h : ℕ) (hart : Hart) (c : Hyper
     → Mirrors o r h (host_return (machine_of o r) h (host_in o c hart)) (returned_from_trap r h hart)
 unfolding machine_of returned_from_trap
 return_mirrors o r h hart c at =
-    one_hart o r h hart (hart_at_return hart) c host_at_return r.devices (counted (count_return (mode_at_return hart.supervisor.sstatus)) r.journal) at
+    one_hart o r h hart (hart_at_return hart) c host_at_return r.devices (with_count (count_return (mode_at_return hart.supervisor.sstatus)) r.journal) at
     (mirror_return (length o.tables) c hart) (returned_counteren hart) refl (prints_none r.journal.printed)
 
 -- ---- demotion
 
-mirror_demoted : (t : ℕ) (c : HypervisorRegisters) (hart : Hart) → host_demoted (host_hart t c hart) ≡ host_hart t c (demoted hart)
+mirror_demoted : (t : ℕ) (c : HypervisorRegisters) (hart : Hart) → host_demoted (host_hart t c hart) ≡ host_hart t c (in_user_mode hart)
 unfolding host_demoted
 mirror_demoted t c hart = refl
 
@@ -86,7 +86,7 @@ pub demote_mirrors : (o : Unseen) (r : State) (h : ℕ) (hart : Hart) (c : Hyper
     → Mirrors o r h (host_demote (machine_of o r) h (host_in o c hart) gpa) (demote r h hart gpa)
 unfolding machine_of
 demote_mirrors o r h hart c gpa at =
-    one_hart o r h hart (demoted hart) c host_demoted r.devices (noted (Demote h r.journal.counts.turns hart.pc gpa) (counted count_demote r.journal)) at
+    one_hart o r h hart (in_user_mode hart) c host_demoted r.devices (with_note (Demote h r.journal.counts.turns hart.pc gpa) (with_count count_demote r.journal)) at
     (mirror_demoted (length o.tables) c hart) refl refl (prints_none r.journal.printed)
 
 -- the entry is left
@@ -109,7 +109,7 @@ mirror_with : (t : ℕ) (c : HypervisorRegisters) (hart : Hart) (rd value : ℕ)
 unfolding host_with
 mirror_with t c hart rd value = refl
 
-mirror_passed : (t : ℕ) (c : HypervisorRegisters) (hart : Hart) → host_passed (host_hart t c hart) ≡ host_hart t c (stepped (without_reservation hart))
+mirror_passed : (t : ℕ) (c : HypervisorRegisters) (hart : Hart) → host_passed (host_hart t c hart) ≡ host_hart t c (at_next_instruction (without_reservation hart))
 unfolding host_passed
 mirror_passed t c hart = refl
 
@@ -124,7 +124,7 @@ loads_time d e (Some value) same = same
 
 port_loads_time : (d : Devices) (p : Port) (width : ℕ) → LeavesTime d (port_load d p width)
 unfolding port_load
-port_loads_time d (ConsoleAt offset) width = loads_time d (record d { console = after_load d.console offset width }) (loaded d.console offset width) refl
+port_loads_time d (ConsoleAt offset) width = loads_time d (record d { console = after_load d.console offset width }) (console_load d.console offset width) refl
 port_loads_time d (DiskAt offset) width = loads_time d d (disk_load d.disk offset width) refl
 port_loads_time d Nowhere width = tt
 
@@ -139,7 +139,7 @@ unfolding machine_of host_device_load carry_out_device_load
 device_load_mirrors o r h hart c rd address width signed None at time = exception_mirrors o r h hart c Cause.LoadAccess address at
 device_load_mirrors o r h hart c rd address width signed (Some l) at time =
     one_hart o r h hart (stepped_with (without_reservation hart) rd (loaded_value signed width l.value)) c (host_with rd (loaded_value signed width l.value)) l.devices
-    (counted count_retired r.journal) at (mirror_with (length o.tables) c hart rd (loaded_value signed width l.value)) refl time (prints_none r.journal.printed)
+    (with_count count_retired r.journal) at (mirror_with (length o.tables) c hart rd (loaded_value signed width l.value)) refl time (prints_none r.journal.printed)
 
 -- a device's store with the journal's printed bytes as they are left
 abbrev pub left_printed : ℕ → DeviceStore → DeviceStore
@@ -177,7 +177,7 @@ stored_by : (o : Unseen) (r : State) (h : ℕ) (hart : Hart) (c : HypervisorRegi
 unfolding machine_of host_device_store carry_out_device_store
 stored_by o r h hart c address None at leaves = exception_mirrors o r h hart c Cause.StoreAccess address at
 stored_by o r h hart c address (Some s) at leaves =
-    one_hart o r h hart (stepped (without_reservation hart)) c host_passed s.devices (counted count_retired s.journal) at (mirror_passed (length o.tables) c hart) refl leaves.0 leaves.1
+    one_hart o r h hart (at_next_instruction (without_reservation hart)) c host_passed s.devices (with_count count_retired s.journal) at (mirror_passed (length o.tables) c hart) refl leaves.0 leaves.1
 
 pub device_store_mirrors : (o : Unseen) (r : State) (h : ℕ) (hart : Hart) (c : HypervisorRegisters) (address gpa width value : ℕ) → IsAt o r h hart c
     → Mirrors o r h (host_device_store (machine_of o r) h (host_in o c hart) hart.mode address (device_store (machine_of o r).devices (machine_of o r).journal gpa width value))

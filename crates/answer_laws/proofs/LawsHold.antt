@@ -6,7 +6,7 @@ use Rattle.processor.specs.HypervisorRegisters.{HypervisorRegisters, registers_a
 use Rattle.processor.specs.declared.outcome.Outcome.{Outcome}
 use Rattle.processor.specs.declared.exit.Exit.{Exit}
 use Rattle.reference.specs.States.{State, Hart, Loading}
-use Rattle.machine_model.specs.Machine.{Machine, HostHart, raised, after_attempt, after_quiet_attempt, all_forget, with_core}
+use Rattle.machine_model.specs.Machine.{Machine, HostHart, with_count_raised, after_attempt, after_quiet_attempt, all_forget, with_core}
 use Rattle.machine_model.specs.HostHarts.{with_host, host_outside, host_seen}
 use Rattle.machine_model.specs.declared.exits.ExitAnswer.{ExitAnswer}
 use Rattle.machine_model.specs.declared.exits.ExitAnswer.TheVariants.{Traps, Returns, Demotes, LeavesEntry, StopsAtWrite, LoadsDevice, StoresDevice, Calls}
@@ -18,7 +18,7 @@ use Rattle.reference.specs.Turn.{turn, outside, leave_entry}
 use Rattle.reference.specs.Counting.{count, count_turn}
 use Rattle.attempt_laws.specs.Agree.{IsAt, AgreesBy, IsNotLoading, region_at, core_at, one_attempt_more}
 use Rattle.answer_laws.specs.Laws.{MakesAttempt, IsQuiet, QuietLaw, ExitLaw}
-use Rattle.machine_model.specs.HardwareEvent.{attempted}
+use Rattle.machine_model.specs.HardwareEvent.{attempt_of}
 use Rattle.attempt_laws.proofs.Hosts.{hosts_get, hosts_exit, hosts_update}
 use Rattle.attempt_laws.proofs.Stays.{length_set}
 use Rattle.attempt_laws.proofs.AttemptLawHolds.{attempt_law}
@@ -42,29 +42,29 @@ same_host : (x : Option HostHart) (a b : HostHart) → x ≡ Some a → x ≡ So
 same_host x a b e f = cc
 
 quiet_at : (o : Unseen) (r : State) (h : ℕ) (hart : Hart) (c : HypervisorRegisters) (host : HostHart) → IsAt o r h hart c → IsNotLoading h r.loading
-    → host ≡ host_hart (length o.tables) c hart → IsQuiet (attempted (machine_of o r) h host).outcome
-    → StandsFor (after_quiet_attempt (machine_of o r) h (attempted (machine_of o r) h host)) (turn r h)
+    → host ≡ host_hart (length o.tables) c hart → IsQuiet (attempt_of (machine_of o r) h host).outcome
+    → StandsFor (after_quiet_attempt (machine_of o r) h (attempt_of (machine_of o r) h host)) (turn r h)
 unfolding machine_of
 quiet_at o r h hart c host at other e =
-    subst (λ (x : HostHart). IsQuiet (attempted (machine_of o r) h x).outcome → StandsFor (after_quiet_attempt (machine_of o r) h (attempted (machine_of o r) h x)) (turn r h))
+    subst (λ (x : HostHart). IsQuiet (attempt_of (machine_of o r) h x).outcome → StandsFor (after_quiet_attempt (machine_of o r) h (attempt_of (machine_of o r) h x)) (turn r h))
     (sym e)
-    (λ quiet. quiet_by o r h hart c (attempted (machine_of o r) h (host_hart (length o.tables) c hart)) (attempted (machine_of o r) h (host_hart (length o.tables) c hart)).outcome
+    (λ quiet. quiet_by o r h hart c (attempt_of (machine_of o r) h (host_hart (length o.tables) c hart)) (attempt_of (machine_of o r) h (host_hart (length o.tables) c hart)).outcome
     at (attempt_law o r h hart c at other) quiet)
 
 quiet_same : (m : Machine) (r : State) (h : ℕ) (host : HostHart) (hart : Hart) (o : Unseen) → m ≡ machine_of o r → IsRightFor o r → IsSound r
     → slice_get m.harts h ≡ Some host → slice_get r.harts h ≡ Some hart → hart.started ≡ true → IsNotLoading h r.loading
-    → IsQuiet (attempted m h host).outcome → StandsFor (after_quiet_attempt m h (attempted m h host)) (turn r h)
+    → IsQuiet (attempt_of m h host).outcome → StandsFor (after_quiet_attempt m h (attempt_of m h host)) (turn r h)
 unfolding machine_of
 quiet_same m r h host hart o same parts sound host_is hart_is started other =
     let c = hosts_get (length o.tables) o.exits r.harts h hart parts.exits hart_is in
     let there : slice_get (machine_of o r).harts h ≡ Some host = subst (λ (x : Machine). slice_get x.harts h ≡ Some host) same host_is in
     let e : host ≡ host_hart (length o.tables) c.0 hart = same_host (slice_get (machine_of o r).harts h) host (host_hart (length o.tables) c.0 hart) there c.1.1 in
-    subst (λ (x : Machine). IsQuiet (attempted x h host).outcome → StandsFor (after_quiet_attempt x h (attempted x h host)) (turn r h)) (sym same)
+    subst (λ (x : Machine). IsQuiet (attempt_of x h host).outcome → StandsFor (after_quiet_attempt x h (attempt_of x h host)) (turn r h)) (sym same)
     (quiet_at o r h hart c.0 host (record { right = parts; sound = sound; found = hart_is; exits = c.1.0; started = started }) other e)
 
 -- over a turn whose count was raised already
 pub quiet_turn : (m : Machine) (r : State) (h : ℕ) (host : HostHart) (hart : Hart) → MakesAttempt m r h host hart
-    → IsQuiet (attempted m h host).outcome → StandsFor (after_quiet_attempt m h (attempted m h host)) (turn r h)
+    → IsQuiet (attempt_of m h host).outcome → StandsFor (after_quiet_attempt m h (attempt_of m h host)) (turn r h)
 quiet_turn m r h host hart makes quiet =
     quiet_same m r h host hart makes.stands.unseen makes.stands.same makes.stands.unseen_is_right makes.stands.sound makes.host_is makes.hart_is makes.started
     (not_loading h r.loading makes.loads) quiet
@@ -101,29 +101,29 @@ exit_by o r h hart c a (Outcome.Exit other) exit at agrees e =
     )
 
 exit_at : (o : Unseen) (r : State) (h : ℕ) (hart : Hart) (c : HypervisorRegisters) (host : HostHart) (exit : Exit) → IsAt o r h hart c → IsNotLoading h r.loading
-    → host ≡ host_hart (length o.tables) c hart → (attempted (machine_of o r) h host).outcome ≡ Outcome.Exit exit
-    → StandsFor (after_attempt (machine_of o r) h (attempted (machine_of o r) h host)) r × (turn r h ≡ serve_exit r h hart exit)
+    → host ≡ host_hart (length o.tables) c hart → (attempt_of (machine_of o r) h host).outcome ≡ Outcome.Exit exit
+    → StandsFor (after_attempt (machine_of o r) h (attempt_of (machine_of o r) h host)) r × (turn r h ≡ serve_exit r h hart exit)
 unfolding machine_of
 exit_at o r h hart c host exit at other e =
-    subst (λ (x : HostHart). (attempted (machine_of o r) h x).outcome ≡ Outcome.Exit exit
-    → StandsFor (after_attempt (machine_of o r) h (attempted (machine_of o r) h x)) r × (turn r h ≡ serve_exit r h hart exit))
+    subst (λ (x : HostHart). (attempt_of (machine_of o r) h x).outcome ≡ Outcome.Exit exit
+    → StandsFor (after_attempt (machine_of o r) h (attempt_of (machine_of o r) h x)) r × (turn r h ≡ serve_exit r h hart exit))
     (sym e)
-    (λ left_by. exit_by o r h hart c (attempted (machine_of o r) h (host_hart (length o.tables) c hart)) (attempted (machine_of o r) h (host_hart (length o.tables) c hart)).outcome exit
+    (λ left_by. exit_by o r h hart c (attempt_of (machine_of o r) h (host_hart (length o.tables) c hart)) (attempt_of (machine_of o r) h (host_hart (length o.tables) c hart)).outcome exit
     at (attempt_law o r h hart c at other) left_by)
 
 exit_same : (m : Machine) (r : State) (h : ℕ) (host : HostHart) (hart : Hart) (exit : Exit) (o : Unseen) → m ≡ machine_of o r → IsRightFor o r → IsSound r
     → slice_get m.harts h ≡ Some host → slice_get r.harts h ≡ Some hart → hart.started ≡ true → IsNotLoading h r.loading
-    → (attempted m h host).outcome ≡ Outcome.Exit exit → StandsFor (after_attempt m h (attempted m h host)) r × (turn r h ≡ serve_exit r h hart exit)
+    → (attempt_of m h host).outcome ≡ Outcome.Exit exit → StandsFor (after_attempt m h (attempt_of m h host)) r × (turn r h ≡ serve_exit r h hart exit)
 unfolding machine_of
 exit_same m r h host hart exit o same parts sound host_is hart_is started other =
     let c = hosts_get (length o.tables) o.exits r.harts h hart parts.exits hart_is in
     let there : slice_get (machine_of o r).harts h ≡ Some host = subst (λ (x : Machine). slice_get x.harts h ≡ Some host) same host_is in
     let e : host ≡ host_hart (length o.tables) c.0 hart = same_host (slice_get (machine_of o r).harts h) host (host_hart (length o.tables) c.0 hart) there c.1.1 in
-    subst (λ (x : Machine). (attempted x h host).outcome ≡ Outcome.Exit exit → StandsFor (after_attempt x h (attempted x h host)) r × (turn r h ≡ serve_exit r h hart exit)) (sym same)
+    subst (λ (x : Machine). (attempt_of x h host).outcome ≡ Outcome.Exit exit → StandsFor (after_attempt x h (attempt_of x h host)) r × (turn r h ≡ serve_exit r h hart exit)) (sym same)
     (exit_at o r h hart c.0 host exit (record { right = parts; sound = sound; found = hart_is; exits = c.1.0; started = started }) other e)
 
 pub exit_turn : (m : Machine) (r : State) (h : ℕ) (host : HostHart) (hart : Hart) (exit : Exit) → MakesAttempt m r h host hart
-    → (attempted m h host).outcome ≡ Outcome.Exit exit → StandsFor (after_attempt m h (attempted m h host)) r × (turn r h ≡ serve_exit r h hart exit)
+    → (attempt_of m h host).outcome ≡ Outcome.Exit exit → StandsFor (after_attempt m h (attempt_of m h host)) r × (turn r h ≡ serve_exit r h hart exit)
 exit_turn m r h host hart exit makes left_by =
     exit_same m r h host hart exit makes.stands.unseen makes.stands.same makes.stands.unseen_is_right makes.stands.sound makes.host_is makes.hart_is makes.started
     (not_loading h r.loading makes.loads) left_by
@@ -154,25 +154,25 @@ unfolding machine_of
 harts_of o r h x e = e
 
 -- what SecVisor answers
-abbrev pub asked : Machine → HostHart → Exit → ExitAnswer
-asked m host exit = exit_answer (host_seen m.region.ram m.rules host host.core.hregs.mode exit) exit
+abbrev pub answer_at_exit : Machine → HostHart → Exit → ExitAnswer
+answer_at_exit m host exit = exit_answer (host_seen m.region.ram m.rules host host.core.hregs.mode exit) exit
 
 asked_at : (o : Unseen) (r : State) (c : HypervisorRegisters) (hart : Hart) (exit : Exit)
-    → asked (machine_of o r) (host_hart (length o.tables) c hart) exit ≡ exit_answer (seen_of r hart exit) exit
+    → answer_at_exit (machine_of o r) (host_hart (length o.tables) c hart) exit ≡ exit_answer (seen_of r hart exit) exit
 unfolding machine_of
 asked_at o r c hart exit = rw (same_mode hart.mode hart.entry) refl
 
 -- it's what the state tells
 pub asked_same : (m : Machine) (r : State) (h : ℕ) (host : HostHart) (hart : Hart) (exit : Exit) → MakesAttempt m r h host hart
-    → asked m host exit ≡ exit_answer (seen_of r hart exit) exit
+    → answer_at_exit m host exit ≡ exit_answer (seen_of r hart exit) exit
 asked_same m r h host hart exit makes =
     let o = makes.stands.unseen in
     let c = hosts_get (length o.tables) o.exits r.harts h hart makes.stands.unseen_is_right.exits makes.hart_is in
     let there : slice_get (machine_of o r).harts h ≡ Some host = subst (λ (x : Machine). slice_get x.harts h ≡ Some host) makes.stands.same makes.host_is in
     let same : host ≡ host_hart (length o.tables) c.0 hart =
     same_host (slice_get (machine_of o r).harts h) host (host_hart (length o.tables) c.0 hart) there (harts_of o r h _ c.1.1) in
-    subst (λ (x : Machine). asked x host exit ≡ exit_answer (seen_of r hart exit) exit) (sym makes.stands.same)
-    (subst (λ (x : HostHart). asked (machine_of o r) x exit ≡ exit_answer (seen_of r hart exit) exit) (sym same) (asked_at o r c.0 hart exit))
+    subst (λ (x : Machine). answer_at_exit x host exit ≡ exit_answer (seen_of r hart exit) exit) (sym makes.stands.same)
+    (subst (λ (x : HostHart). answer_at_exit (machine_of o r) x exit ≡ exit_answer (seen_of r hart exit) exit) (sym same) (asked_at o r c.0 hart exit))
 
 again_by : (r : State) (h : ℕ) (hart : Hart) (a : ExitAnswer) → is_again a ≡ true → exit_answered r h hart a ≡ turn (leave_entry r h hart) h
 unfolding is_again exit_answered
@@ -187,7 +187,7 @@ again_by r h hart Calls again = absurd (cc)
 
 -- the turn in which a hart is sent to attempt again is the turn of the state where it has left its entry
 pub again_turn : (m : Machine) (r : State) (h : ℕ) (host : HostHart) (hart : Hart) (exit : Exit) → MakesAttempt m r h host hart
-    → (attempted m h host).outcome ≡ Outcome.Exit exit → is_again (asked m host exit) ≡ true → turn r h ≡ turn (leave_entry r h hart) h
+    → (attempt_of m h host).outcome ≡ Outcome.Exit exit → is_again (answer_at_exit m host exit) ≡ true → turn r h ≡ turn (leave_entry r h hart) h
 unfolding serve_exit
 again_turn m r h host hart exit makes left again =
     (exit_turn m r h host hart exit makes left).1
@@ -196,7 +196,7 @@ again_turn m r h host hart exit makes left again =
 
 -- ---- over a step
 
-pub raised_at : (o : Unseen) (r : State) → IsRightFor o r → IsSound r → StandsFor (raised (machine_of o r) count_turn) (count r count_turn)
+pub raised_at : (o : Unseen) (r : State) → IsRightFor o r → IsSound r → StandsFor (with_count_raised (machine_of o r) count_turn) (count r count_turn)
 unfolding machine_of
 raised_at o r p s = record {
   unseen = o;
@@ -206,12 +206,12 @@ raised_at o r p s = record {
 }
 
 -- the count of turns raised on both sides
-pub raised_stands : (m : Machine) (r : State) → StandsFor m r → StandsFor (raised m count_turn) (count r count_turn)
+pub raised_stands : (m : Machine) (r : State) → StandsFor m r → StandsFor (with_count_raised m count_turn) (count r count_turn)
 raised_stands m r stands =
-    subst (λ (x : Machine). StandsFor (raised x count_turn) (count r count_turn)) (sym stands.same) (raised_at stands.unseen r stands.unseen_is_right stands.sound)
+    subst (λ (x : Machine). StandsFor (with_count_raised x count_turn) (count r count_turn)) (sym stands.same) (raised_at stands.unseen r stands.unseen_is_right stands.sound)
 
 pub makes_raised : (m : Machine) (r : State) (h : ℕ) (host : HostHart) (hart : Hart) → MakesAttempt m r h host hart
-    → MakesAttempt (raised m count_turn) (count r count_turn) h host hart
+    → MakesAttempt (with_count_raised m count_turn) (count r count_turn) h host hart
 makes_raised m r h host hart k = record {
   stands = raised_stands m r k.stands;
   host_is = k.host_is;
@@ -222,11 +222,11 @@ makes_raised m r h host hart k = record {
 
 pub quiet_law : QuietLaw
 quiet_law m r h host hart makes on quiet =
-    subst (StandsFor (after_quiet_attempt (raised m count_turn) h (attempted m h host))) (sym (running r h on))
-    (quiet_turn (raised m count_turn) (count r count_turn) h host hart (makes_raised m r h host hart makes) quiet)
+    subst (StandsFor (after_quiet_attempt (with_count_raised m count_turn) h (attempt_of m h host))) (sym (running r h on))
+    (quiet_turn (with_count_raised m count_turn) (count r count_turn) h host hart (makes_raised m r h host hart makes) quiet)
 
 pub exit_law : ExitLaw
 exit_law m r h host hart exit makes on gave = (
   (exit_turn m r h host hart exit makes gave).0,
-  running r h on ∙ (exit_turn (raised m count_turn) (count r count_turn) h host hart exit (makes_raised m r h host hart makes) gave).1,
+  running r h on ∙ (exit_turn (with_count_raised m count_turn) (count r count_turn) h host hart exit (makes_raised m r h host hart makes) gave).1,
 )

@@ -9,7 +9,7 @@ use Rattle.processor_laws.proofs.ByteLemmas.{part_of_part, length_part}
 use Rattle.sv_types.specs.declared.saved.SavedModule.{SavedModule}
 use Rattle.attempt_laws.specs.Agree.{IsAt}
 use Rattle.machine_model.specs.Steps.{AreTables}
-use Rattle.reference.specs.Answers.{answered}
+use Rattle.reference.specs.Answers.{state_after_answer}
 use Rattle.reference.specs.declared.answers.Answer.{Answer}
 use Rattle.machine_model.specs.HostExits.{host_is_good, host_decide, page_sites, page_counted, load_counted, host_load_step, load_served, served_load_turn, with_tables}
 use Rattle.machine_model.specs.HostCalls.{host_given}
@@ -17,7 +17,7 @@ use Rattle.reference.specs.Loads.{module_text, module_bases, is_as_measured, is_
 use Rattle.machine_model.specs.Machine.{Machine, HostLoad}
 use Rattle.reference.specs.ModuleCalls.{load_decision}
 use Rattle.reference.specs.States.{State, Hart, Loading, pages_in_rule}
-use Rattle.reference.specs.Relocations.{masked, fields_right}
+use Rattle.reference.specs.Relocations.{masked_text, fields_right}
 use Rattle.machine_model.specs.StandsFor.{StandsFor, Unseen, IsRightFor, machine_of, load_kept, load_kept_by, kept_digests, kept_answer}
 use Rattle.reference.specs.Soundness.{IsSound, IsSoundLoad, HoldsModule}
 use Rattle.reference.specs.Turn.{turn, turn_of, turn_of_started}
@@ -49,11 +49,11 @@ text_lies r load rule s k known =
 
 -- ---- the decision
 
-measured_same : (text : List ℕ) (pages : ℕ) (rule : ModuleRule) → length (masked text rule.sites) ≡ 4096 * pages → measure (masked text rule.sites) ≡ joined_digests (page_digests pages (masked text rule.sites))
+measured_same : (text : List ℕ) (pages : ℕ) (rule : ModuleRule) → length (masked_text text rule.sites) ≡ 4096 * pages → measure (masked_text text rule.sites) ≡ joined_digests (page_digests pages (masked_text text rule.sites))
 unfolding measure
 measured_same text pages rule size =
-    let n : length (masked text rule.sites) / page_size ≡ pages = omega arith in
-    ap (λ (k : ℕ). joined_digests (page_digests k (masked text rule.sites))) n
+    let n : length (masked_text text rule.sites) / page_size ≡ pages = omega arith in
+    ap (λ (k : ℕ). joined_digests (page_digests k (masked_text text rule.sites))) n
 
 all_counted : (pages : ℕ) (load : Loading) → load.left ≡ 0 → pages - load.left ≡ pages
 all_counted pages load e = omega arith
@@ -88,7 +88,7 @@ unfolding host_decide decide
 decision_mirrors o r h hart c load at k none =
     let kept : HostLoad = load_kept r.rules r.ram load in
     let good : Bool = is_good r.rules r.ram load.about (slice_get r.rules.modules load.about.id) in
-    subst (λ (a : Answer). Mirrors o r h (host_given (machine_of o r) h a) (answered r h hart (load_decision good load.about)))
+    subst (λ (a : Answer). Mirrors o r h (host_given (machine_of o r) h a) (state_after_answer r h hart (load_decision good load.about)))
     (sym (ap (λ (m : SavedModule). load_decision (host_is_good kept (slice_get (machine_of o r).rules.modules m.id)) m) (about_is r.rules r.ram load (slice_get r.rules.modules load.about.id))
     ∙ ap (λ (b : Bool). load_decision b load.about) (ap (λ (rules : Rules). host_is_good kept (slice_get rules.modules load.about.id)) (rules_are o r) ∙ good_is r load (slice_get r.rules.modules load.about.id) at.sound k none refl)))
     (given_mirrors o r h hart c (load_decision good load.about) at (decision_may r load good k refl))
@@ -124,10 +124,10 @@ kept_next rules ram load left rule within known aligned inside more few =
     let room : 4096 * n + 4096 ≤ length text = rw size (page_room rule.pages left least) in
     let page : page_bytes text n ≡ page_bytes ram (page_of load.about.gpa + n) = page_there ram (ram_place load.about.gpa) n rule.pages aligned (page_less rule.pages left least) in
     let old : rule.pages - load.left ≡ n = ap (λ (m : ℕ). rule.pages - m) more in
-    let digests : page_digests (rule.pages - left) (masked text rule.sites) ≡ page_digests (rule.pages - load.left) (masked text rule.sites) ++ page_digest (masked (page_bytes ram (page_of load.about.gpa + n)) (page_sites n rule.sites)) ∷ [] =
-    ap (λ (m : ℕ). page_digests m (masked text rule.sites)) (counted_left rule.pages left least) ∙ digest_more n (masked text rule.sites)
-    ∙ ap (λ (bytes : List ℕ). page_digests n (masked text rule.sites) ++ page_digest bytes ∷ []) (page_masked text n rule.sites room all ∙ ap (λ (bytes : List ℕ). masked bytes (page_sites n rule.sites)) page)
-    ∙ ap (λ (m : ℕ). page_digests m (masked text rule.sites) ++ page_digest (masked (page_bytes ram (page_of load.about.gpa + n)) (page_sites n rule.sites)) ∷ []) (sym old) in
+    let digests : page_digests (rule.pages - left) (masked_text text rule.sites) ≡ page_digests (rule.pages - load.left) (masked_text text rule.sites) ++ page_digest (masked_text (page_bytes ram (page_of load.about.gpa + n)) (page_sites n rule.sites)) ∷ [] =
+    ap (λ (m : ℕ). page_digests m (masked_text text rule.sites)) (counted_left rule.pages left least) ∙ digest_more n (masked_text text rule.sites)
+    ∙ ap (λ (bytes : List ℕ). page_digests n (masked_text text rule.sites) ++ page_digest bytes ∷ []) (page_masked text n rule.sites room all ∙ ap (λ (bytes : List ℕ). masked_text bytes (page_sites n rule.sites)) page)
+    ∙ ap (λ (m : ℕ). page_digests m (masked_text text rule.sites) ++ page_digest (masked_text (page_bytes ram (page_of load.about.gpa + n)) (page_sites n rule.sites)) ∷ []) (sym old) in
     let right : fields_right rules.exports (module_bases load.about) (filter (below (rule.pages - left)) rule.sites) text
     ≡ (fields_right rules.exports (module_bases load.about) (filter (below (rule.pages - load.left)) rule.sites) text
     && fields_right rules.exports (module_bases load.about) (page_sites n rule.sites) (page_bytes ram (page_of load.about.gpa + n))) =

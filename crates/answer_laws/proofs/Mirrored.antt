@@ -58,8 +58,8 @@ choose o r h false m n x y s t = t
 
 -- ---- the state and the machine with all parts changed that an answer may change
 
-abbrev pub stepped : State → List Hart → List ApprovedPage → List ℕ → List SavedModule → Option Loading → Bool → Devices → Journal → State
-stepped r harts approved held loaded loading retired d j = record r {
+abbrev pub mirrored_state : State → List Hart → List ApprovedPage → List ℕ → List SavedModule → Option Loading → Bool → Devices → Journal → State
+mirrored_state r harts approved held loaded loading retired d j = record r {
   harts = harts;
   approved = approved;
   held = held;
@@ -70,8 +70,8 @@ stepped r harts approved held loaded loading retired d j = record r {
   journal = j;
 }
 
-abbrev pub hosted : Unseen → State → List HostHart → List Protection → List SavedModule → Option HostLoad → Bool → Devices → Journal → Machine
-hosted o r hosts protections loaded loading retired d j = record (machine_of o r) {
+abbrev pub mirrored_machine : Unseen → State → List HostHart → List Protection → List SavedModule → Option HostLoad → Bool → Devices → Journal → Machine
+mirrored_machine o r hosts protections loaded loading retired d j = record (machine_of o r) {
   harts = hosts;
   protections = protections;
   dma = map is_free protections;
@@ -91,7 +91,7 @@ all_same : (o : Unseen) (r : State) (exits : List HypervisorRegisters) (hosts : 
     → hosts ≡ host_harts (length o.tables) exits harts
     → protections_of (record r { approved = approved; held = held }) ≡ protections
     → option_map (load_kept r.rules r.ram) loading ≡ hl
-    → hosted o r hosts protections loaded hl retired d j ≡ machine_of (record o { exits = exits }) (stepped r harts approved held loaded loading retired d j)
+    → mirrored_machine o r hosts protections loaded hl retired d j ≡ machine_of (record o { exits = exits }) (mirrored_state r harts approved held loaded loading retired d j)
 unfolding machine_of
 all_same o r exits hosts harts approved held loaded loading retired d j protections hl e f g = rw (e, sym f, sym g) refl
 
@@ -119,7 +119,7 @@ all_frame : (o : Unseen) (r : State) (h : ℕ) (hosts : List HostHart) (host : H
     (loaded : List SavedModule) (retired : Bool) (d : Devices) (j : Journal) (protections : List Protection) (hl : Option HostLoad)
     → hosts ≡ others_changed others (update (hosts_in o r) h (hart_answered host)) → MayChange (hosts_in o r) others
     → d.clock.time ≡ r.devices.clock.time → Adds r.journal.printed j.printed → o.cleared ≤ length r.journal.printed
-    → Answers (machine_of o r) h (hosted o r hosts protections loaded hl retired d j)
+    → Answers (machine_of o r) h (mirrored_machine o r hosts protections loaded hl retired d j)
 unfolding machine_of
 all_frame o r h hosts host others loaded retired d j protections hl e may time adds small = record {
   answer = record {
@@ -159,7 +159,7 @@ pub mirrored : (o : Unseen) (r : State) (h : ℕ) (exits : List HypervisorRegist
     → option_map (load_kept r.rules r.ram) loading ≡ hl
     → d.clock.time ≡ r.devices.clock.time
     → Adds r.journal.printed j.printed
-    → Mirrors o r h (hosted o r hosts protections loaded hl retired d j) (stepped r harts approved held loaded loading retired d j)
+    → Mirrors o r h (mirrored_machine o r hosts protections loaded hl retired d j) (mirrored_state r harts approved held loaded loading retired d j)
 mirrored o r h exits hosts host others harts approved held loaded loading retired d j protections hl p e e2 may size f g time adds = record {
   unseen = record o { exits = exits };
   same = all_same o r exits hosts harts approved held loaded loading retired d j protections hl e f g;
@@ -192,7 +192,7 @@ pub with_parts : (o : Unseen) (r : State) (h : ℕ) (x : Changed o r h) (approve
     (protections : List Protection) (hl : Option HostLoad) → IsRightFor o r
     → protections_of (record r { approved = approved; held = held }) ≡ protections
     → option_map (load_kept r.rules r.ram) loading ≡ hl
-    → Mirrors o r h (hosted o r x.hosts protections loaded hl retired x.devices x.journal) (stepped r x.harts approved held loaded loading retired x.devices x.journal)
+    → Mirrors o r h (mirrored_machine o r x.hosts protections loaded hl retired x.devices x.journal) (mirrored_state r x.harts approved held loaded loading retired x.devices x.journal)
 with_parts o r h x approved held loaded loading retired protections hl right e f =
     mirrored o r h x.exits x.hosts x.host x.others x.harts approved held loaded loading retired x.devices x.journal protections hl right x.same x.frame x.may x.size e f x.time x.adds
 

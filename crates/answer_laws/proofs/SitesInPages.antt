@@ -14,7 +14,7 @@ use Rattle.sv_types.specs.declared.module.Site.{Site}
 use Rattle.sv_types.specs.declared.policy.Export.{Export}
 use Rattle.processor_laws.proofs.ByteLemmas.{length_low_bytes, length_overwrite, length_write_word, length_before, part_before, part_after, overwrite_behind, overwrite_in_front, word_in_page_bytes}
 use Rattle.machine_model.specs.HostExits.{moved_site, is_site_in, page_sites}
-use Rattle.reference.specs.Relocations.{field_of, field_width, field_bits, field_word, clear_field, masked, field_right, fields_right, site_value}
+use Rattle.reference.specs.Relocations.{field_of, field_width, field_bits, field_word, clear_field, masked_text, field_right, fields_right, site_value}
 use Rattle.reference.proofs.FieldWidths.{width_by, sizes}
 use Rattle.sv_types.proofs.TruthValues.{and_first, and_second, and_swap}
 use Rattle.sv_types.proofs.PolicyLimits.{rule_within}
@@ -131,8 +131,8 @@ length_cleared : (text : List ℕ) (site : Site) → LiesIn (length text) site �
 unfolding clear_field
 length_cleared text site k = length_write_word text site.offset (width_of site) (cleared_value text site) k.inside
 
-pub length_masked : (text : List ℕ) (sites : List Site) → AllLieIn (length text) sites → length (masked text sites) ≡ length text
-unfolding masked
+pub length_masked : (text : List ℕ) (sites : List Site) → AllLieIn (length text) sites → length (masked_text text sites) ≡ length text
+unfolding masked_text
 length_masked text [] all = refl
 length_masked text (site ∷ sites) all =
     let same = length_cleared text site all.0 in
@@ -146,19 +146,19 @@ in_page n site bytes k here =
 
 -- a page of the cleared text is the page cleared
 pub page_masked : (text : List ℕ) (n : ℕ) (sites : List Site) → 4096 * n + 4096 ≤ length text → AllLieIn (length text) sites
-    → page_bytes (masked text sites) n ≡ masked (page_bytes text n) (page_sites n sites)
-unfolding masked page_sites
+    → page_bytes (masked_text text sites) n ≡ masked_text (page_bytes text n) (page_sites n sites)
+unfolding masked_text page_sites
 page_masked text n [] room all = refl
 page_masked text n (site ∷ sites) room all =
     let same = length_cleared text site all.0 in
     let rest = page_masked (clear_field text site) n sites (rw same room) (subst (λ (m : ℕ). AllLieIn m sites) (sym same) all.1) in
     rest ∙ elim (cases_Bool (site.offset / 4096 == n)) [
       | inl here ↦ let k = in_page n site (length text) all.0 here in
-          ap (λ (page : List ℕ). masked page (page_sites n sites)) (clear_here text n site room k.0 k.1)
-          ∙ ap (λ (b : Bool). masked (page_bytes text n) (if b then moved_site n site ∷ page_sites n sites else page_sites n sites)) (sym here)
+          ap (λ (page : List ℕ). masked_text page (page_sites n sites)) (clear_here text n site room k.0 k.1)
+          ∙ ap (λ (b : Bool). masked_text (page_bytes text n) (if b then moved_site n site ∷ page_sites n sites else page_sites n sites)) (sym here)
       | inr other ↦
-          ap (λ (page : List ℕ). masked page (page_sites n sites)) (clear_there text n site all.0 other)
-          ∙ ap (λ (b : Bool). masked (page_bytes text n) (if b then moved_site n site ∷ page_sites n sites else page_sites n sites)) (sym other)
+          ap (λ (page : List ℕ). masked_text page (page_sites n sites)) (clear_there text n site all.0 other)
+          ∙ ap (λ (b : Bool). masked_text (page_bytes text n) (if b then moved_site n site ∷ page_sites n sites else page_sites n sites)) (sym other)
     ]
 
 -- ---- judging, page by page

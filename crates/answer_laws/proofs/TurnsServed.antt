@@ -15,8 +15,8 @@ use Rattle.machine_model.specs.Steps.{OutcomeServed, AttemptsServed, StartedServ
 use Rattle.reference.specs.Counting.{count, count_turn}
 use Rattle.machine_model.specs.HardwareEvent.{left_by, sent_again, hart_again, OneOrTwo, Answers, IsEvent, HappensUnder, is_loading, TurnOf, HartTurn, StartedTurn, AfterOutcome, SameButForCounts}
 use Rattle.answer_laws.specs.Laws.{MakesAttempt, IsQuiet}
-use Rattle.machine_model.specs.HardwareEvent.{attempted}
-use Rattle.machine_model.specs.Machine.{Machine, HostHart, HostLoad, update, all_forget, with_core, after_attempt, after_quiet_attempt, raised}
+use Rattle.machine_model.specs.HardwareEvent.{attempt_of}
+use Rattle.machine_model.specs.Machine.{Machine, HostHart, HostLoad, update, all_forget, with_core, after_attempt, after_quiet_attempt, with_count_raised}
 use Rattle.machine_model.specs.HostHarts.{host_outside, host_seen, asks_again}
 use Rattle.machine_model.specs.Served.{Seen, is_implicit, exit_gpa, is_sret_word, fetch_answer, load_answer, store_answer, write_answer, virtual_answer, answer_by, plain_answer, answer_in, exit_answer, is_again}
 use Rattle.machine_model.specs.declared.exits.ExitAnswer.{ExitAnswer}
@@ -35,17 +35,17 @@ use Rattle.answer_laws.proofs.EventsAgree.{IsNoTurn, event_law, verdict_of}
 use Rattle.answer_laws.proofs.ExitsMirrored.{served_turn}
 use Rattle.attempt_laws.proofs.Hosts.{hosts_get}
 use Rattle.attempt_laws.proofs.AttemptsAgree.{get_back, turn_none, turn_stopped}
-use Rattle.answer_laws.proofs.LawsHold.{asked, quiet_turn, raised_at, makes_raised, exit_turn, outside_stands, again_turn}
+use Rattle.answer_laws.proofs.LawsHold.{answer_at_exit, quiet_turn, raised_at, makes_raised, exit_turn, outside_stands, again_turn}
 use Rattle.answer_laws.proofs.LoadsMirrored.{load_turn}
 use Rattle.run_laws.proofs.EntriesHold.{running}
 use Rattle.machine_model.proofs.Frames.{get_own}
 
 -- ---- the frame, with the count of turns left aside
 
-answers_raised : (m after : Machine) (h : ℕ) → Answers (raised m count_turn) h after → Answers m h after
+answers_raised : (m after : Machine) (h : ℕ) → Answers (with_count_raised m count_turn) h after → Answers m h after
 answers_raised m after h a = record { answer = a.answer; size = a.size; may = a.may; same = a.same }
 
-left_raised : (m after : Machine) (h : ℕ) (host : HostHart) → Answers (left_by (raised m count_turn) h host) h after → Answers (left_by m h host) h after
+left_raised : (m after : Machine) (h : ℕ) (host : HostHart) → Answers (left_by (with_count_raised m count_turn) h host) h after → Answers (left_by m h host) h after
 left_raised m after h host a = record { answer = a.answer; size = a.size; may = a.may; same = a.same }
 
 -- ---- the state of a turn that does nothing, of a load and of an attempt
@@ -54,45 +54,45 @@ left_raised m after h host a = record { answer = a.answer; size = a.size; may = 
 abbrev pub Turned : Machine → State → ℕ → Option HostHart → Machine → Type 0
 Turned m r h host after = StandsFor after (turn (count r count_turn) h) × TurnOf m h host after
 
-still : (m r : _) (h : ℕ) → StandsFor (raised m count_turn) (count r count_turn) → turn (count r count_turn) h ≡ count r count_turn
-    → StandsFor (raised m count_turn) (turn (count r count_turn) h)
-still m r h stands same = subst (StandsFor (raised m count_turn)) (sym same) stands
+still : (m r : _) (h : ℕ) → StandsFor (with_count_raised m count_turn) (count r count_turn) → turn (count r count_turn) h ≡ count r count_turn
+    → StandsFor (with_count_raised m count_turn) (turn (count r count_turn) h)
+still m r h stands same = subst (StandsFor (with_count_raised m count_turn)) (sym same) stands
 
-recorded_turn : (m : Machine) → SameButForCounts m (raised m count_turn)
+recorded_turn : (m : Machine) → SameButForCounts m (with_count_raised m count_turn)
 recorded_turn m = record { new = record { counts = count_turn m.journal.counts; notes = m.journal.notes }; same = refl }
 
 -- the frame of a machine that is equal
 same_frame : (m served after : Machine) → after ≡ served → SameButForCounts m served → SameButForCounts m after
 same_frame m served after e k = record { new = k.new; same = e ∙ k.same }
 
-quiet_frame : (m : Machine) (h : ℕ) (host : HostHart) (x : Outcome) → (attempted m h host).outcome ≡ x → IsQuiet x
-    → SameButForCounts (after_attempt m h (attempted m h host)) (after_quiet_attempt (raised m count_turn) h (attempted m h host))
+quiet_frame : (m : Machine) (h : ℕ) (host : HostHart) (x : Outcome) → (attempt_of m h host).outcome ≡ x → IsQuiet x
+    → SameButForCounts (after_attempt m h (attempt_of m h host)) (after_quiet_attempt (with_count_raised m count_turn) h (attempt_of m h host))
 quiet_frame m h host x e quiet = record {
-  new = record { counts = (after_quiet_attempt (raised m count_turn) h (attempted m h host)).journal.counts; notes = m.journal.notes };
+  new = record { counts = (after_quiet_attempt (with_count_raised m count_turn) h (attempt_of m h host)).journal.counts; notes = m.journal.notes };
   same = refl;
 }
 
-exit_once : (m : Machine) (host : HostHart) (exit : Exit) → asks_again m.region.ram m.rules host (Outcome.Exit exit) ≡ false → is_again (asked m host exit) ≡ false
+exit_once : (m : Machine) (host : HostHart) (exit : Exit) → asks_again m.region.ram m.rules host (Outcome.Exit exit) ≡ false → is_again (answer_at_exit m host exit) ≡ false
 unfolding asks_again
 exit_once m host exit once = once
 
-outcome_served : (m after : Machine) (r : State) (h : ℕ) (host : HostHart) (hart : Hart) (x : Outcome) → MakesAttempt (raised m count_turn) (count r count_turn) h host hart
-    → (attempted m h host).outcome ≡ x → asks_again m.region.ram m.rules host x ≡ false → OutcomeServed x (raised m count_turn) h host after
-    → StandsFor after (turn (count r count_turn) h) × AfterOutcome x m h (attempted m h host) after
+outcome_served : (m after : Machine) (r : State) (h : ℕ) (host : HostHart) (hart : Hart) (x : Outcome) → MakesAttempt (with_count_raised m count_turn) (count r count_turn) h host hart
+    → (attempt_of m h host).outcome ≡ x → asks_again m.region.ram m.rules host x ≡ false → OutcomeServed x (with_count_raised m count_turn) h host after
+    → StandsFor after (turn (count r count_turn) h) × AfterOutcome x m h (attempt_of m h host) after
 outcome_served m after r h host hart (Outcome.Retired wrote) makes e once served =
     let k = quiet_frame m h host (Outcome.Retired wrote) e tt in (
-      subst (λ (n : Machine). StandsFor n (turn (count r count_turn) h)) (sym served) (quiet_turn (raised m count_turn) (count r count_turn) h host hart makes (subst IsQuiet (sym e) tt)),
-      same_frame (after_attempt m h (attempted m h host)) (after_quiet_attempt (raised m count_turn) h (attempted m h host)) after served k,
+      subst (λ (n : Machine). StandsFor n (turn (count r count_turn) h)) (sym served) (quiet_turn (with_count_raised m count_turn) (count r count_turn) h host hart makes (subst IsQuiet (sym e) tt)),
+      same_frame (after_attempt m h (attempt_of m h host)) (after_quiet_attempt (with_count_raised m count_turn) h (attempt_of m h host)) after served k,
     )
 outcome_served m after r h host hart Outcome.GuestTrap makes e once served =
     let k = quiet_frame m h host Outcome.GuestTrap e tt in (
-      subst (λ (n : Machine). StandsFor n (turn (count r count_turn) h)) (sym served) (quiet_turn (raised m count_turn) (count r count_turn) h host hart makes (subst IsQuiet (sym e) tt)),
-      same_frame (after_attempt m h (attempted m h host)) (after_quiet_attempt (raised m count_turn) h (attempted m h host)) after served k,
+      subst (λ (n : Machine). StandsFor n (turn (count r count_turn) h)) (sym served) (quiet_turn (with_count_raised m count_turn) (count r count_turn) h host hart makes (subst IsQuiet (sym e) tt)),
+      same_frame (after_attempt m h (attempt_of m h host)) (after_quiet_attempt (with_count_raised m count_turn) h (attempt_of m h host)) after served k,
     )
 outcome_served m after r h host hart (Outcome.Exit exit) makes e once served =
-    let k = served_turn (raised m count_turn) (count r count_turn) h host hart exit served.tables makes e (exit_once m host exit once) served.are in (
+    let k = served_turn (with_count_raised m count_turn) (count r count_turn) h host hart exit served.tables makes e (exit_once m host exit once) served.are in (
       subst (λ (n : Machine). StandsFor n (turn (count r count_turn) h)) (sym served.same) k.0,
-      left_raised m after h host (subst (λ (n : Machine). Answers (left_by (raised m count_turn) h host) h n) (sym served.same) k.1),
+      left_raised m after h host (subst (λ (n : Machine). Answers (left_by (with_count_raised m count_turn) h host) h n) (sym served.same) k.1),
     )
 
 -- ---- one attempt, or two
@@ -104,15 +104,15 @@ forgets_none Outcome.GuestTrap exit harts e = cc
 forgets_none (Outcome.Exit other) exit harts e = refl
 
 -- the hart that attempts again
-again_there : (m : Machine) (h : ℕ) (host : HostHart) (exit : Exit) → slice_get m.harts h ≡ Some host → (attempted m h host).outcome ≡ Outcome.Exit exit
+again_there : (m : Machine) (h : ℕ) (host : HostHart) (exit : Exit) → slice_get m.harts h ≡ Some host → (attempt_of m h host).outcome ≡ Outcome.Exit exit
     → slice_get (sent_again m h host).harts h ≡ Some (hart_again m h host)
 again_there m h host exit there left =
-    get_own (left_by m h host).harts h host_outside (with_core (attempted m h host).core host)
-    (ap (λ (l : List HostHart). slice_get l h) (forgets_none (attempted m h host).outcome exit (update m.harts h (with_core (attempted m h host).core)) left)
-    ∙ get_own m.harts h (with_core (attempted m h host).core) host there)
+    get_own (left_by m h host).harts h host_outside (with_core (attempt_of m h host).core host)
+    (ap (λ (l : List HostHart). slice_get l h) (forgets_none (attempt_of m h host).outcome exit (update m.harts h (with_core (attempt_of m h host).core)) left)
+    ∙ get_own m.harts h (with_core (attempt_of m h host).core) host there)
 
 makes_again : (m : Machine) (r : State) (h : ℕ) (host : HostHart) (hart : Hart) (exit : Exit) → MakesAttempt m r h host hart
-    → (attempted m h host).outcome ≡ Outcome.Exit exit → MakesAttempt (sent_again m h host) (leave_entry r h hart) h (hart_again m h host) (outside hart)
+    → (attempt_of m h host).outcome ≡ Outcome.Exit exit → MakesAttempt (sent_again m h host) (leave_entry r h hart) h (hart_again m h host) (outside hart)
 makes_again m r h host hart exit makes left = record {
   stands = outside_stands (left_by m h host) r h hart (exit_turn m r h host hart exit makes left).0 makes.hart_is;
   host_is = again_there m h host exit makes.host_is left;
@@ -185,29 +185,29 @@ unfolding host_outside
 left_entry m h host = refl
 
 again_exit : (m : Machine) (host : HostHart) (x : Outcome) → asks_again m.region.ram m.rules host x ≡ true
-    → (exit : Exit) × ((x ≡ Outcome.Exit exit) × (is_again (asked m host exit) ≡ true))
+    → (exit : Exit) × ((x ≡ Outcome.Exit exit) × (is_again (answer_at_exit m host exit) ≡ true))
 unfolding asks_again
 again_exit m host (Outcome.Retired wrote) again = cc
 again_exit m host Outcome.GuestTrap again = cc
 again_exit m host (Outcome.Exit exit) again = (exit, (refl, again))
 
-attempts_served : (m after : Machine) (r : State) (h : ℕ) (host : HostHart) (hart : Hart) (again : Bool) → MakesAttempt (raised m count_turn) (count r count_turn) h host hart
-    → asks_again m.region.ram m.rules host (attempted m h host).outcome ≡ again → AttemptsServed again (raised m count_turn) h host after
+attempts_served : (m after : Machine) (r : State) (h : ℕ) (host : HostHart) (hart : Hart) (again : Bool) → MakesAttempt (with_count_raised m count_turn) (count r count_turn) h host hart
+    → asks_again m.region.ram m.rules host (attempt_of m h host).outcome ≡ again → AttemptsServed again (with_count_raised m count_turn) h host after
     → StandsFor after (turn (count r count_turn) h) × OneOrTwo again m h host after
-attempts_served m after r h host hart false makes once served = outcome_served m after r h host hart (attempted m h host).outcome makes refl once served
+attempts_served m after r h host hart false makes once served = outcome_served m after r h host hart (attempt_of m h host).outcome makes refl once served
 attempts_served m after r h host hart true makes again served =
-    let left = again_exit m host (attempted m h host).outcome again in
-    let k = outcome_served (sent_again m h host) after (leave_entry r h hart) h (hart_again m h host) (outside hart) (attempted (sent_again m h host) h (hart_again m h host)).outcome
-    (makes_again (raised m count_turn) (count r count_turn) h host hart left.0 makes left.1.0) refl
-    (once_outside (sent_again m h host).region.ram m.rules (hart_again m h host) (attempted (sent_again m h host) h (hart_again m h host)).outcome (left_entry m h host)) served in
-    (subst (StandsFor after) (sym (again_turn (raised m count_turn) (count r count_turn) h host hart left.0 makes left.1.0 left.1.1)) k.0, k.1)
+    let left = again_exit m host (attempt_of m h host).outcome again in
+    let k = outcome_served (sent_again m h host) after (leave_entry r h hart) h (hart_again m h host) (outside hart) (attempt_of (sent_again m h host) h (hart_again m h host)).outcome
+    (makes_again (with_count_raised m count_turn) (count r count_turn) h host hart left.0 makes left.1.0) refl
+    (once_outside (sent_again m h host).region.ram m.rules (hart_again m h host) (attempt_of (sent_again m h host) h (hart_again m h host)).outcome (left_entry m h host)) served in
+    (subst (StandsFor after) (sym (again_turn (with_count_raised m count_turn) (count r count_turn) h host hart left.0 makes left.1.0 left.1.1)) k.0, k.1)
 
 pub again_law : AgainLaw
 again_law m r h host hart makes on again =
-    let left = again_exit m host (attempted m h host).outcome again in (
+    let left = again_exit m host (attempt_of m h host).outcome again in (
       makes_again m r h host hart left.0 makes left.1.0,
       running r h on
-          ∙ again_turn (raised m count_turn) (count r count_turn) h host hart left.0 (makes_raised m r h host hart makes) left.1.0 left.1.1
+          ∙ again_turn (with_count_raised m count_turn) (count r count_turn) h host hart left.0 (makes_raised m r h host hart makes) left.1.0 left.1.1
           ∙ sym (running (leave_entry r h hart) h on),
     )
 
@@ -232,19 +232,19 @@ not_its r h (Some other) off load e =
     let same : other ≡ load = cc in
     subst (λ (l : Loading). (l.hart == h) ≡ false) same (ap (λ (n : ℕ). n == h) (sym (hart_of r other (slice_get r.rules.modules other.about.id))) ∙ off)
 
-started_served : (m after : Machine) (r : State) (h : ℕ) (host : HostHart) (hart : Hart) (b : Bool) → StandsFor (raised m count_turn) (count r count_turn)
+started_served : (m after : Machine) (r : State) (h : ℕ) (host : HostHart) (hart : Hart) (b : Bool) → StandsFor (with_count_raised m count_turn) (count r count_turn)
     → slice_get m.harts h ≡ Some host → slice_get r.harts h ≡ Some hart → hart.started ≡ true
-    → m.loading ≡ option_map (load_kept r.rules r.ram) r.loading → is_loading m.loading h ≡ b → StartedServed b (raised m count_turn) h host after
+    → m.loading ≡ option_map (load_kept r.rules r.ram) r.loading → is_loading m.loading h ≡ b → StartedServed b (with_count_raised m count_turn) h host after
     → StandsFor after (turn (count r count_turn) h) × StartedTurn b m h host after
 started_served m after r h host hart true stands host_is hart_is on loading e served =
     let its = its_by r h r.loading true (ap (λ (x : Option HostLoad). is_loading x h) (sym loading) ∙ e) refl in
-    let k = load_turn (raised m count_turn) (count r count_turn) h hart its.0 served.tables
+    let k = load_turn (with_count_raised m count_turn) (count r count_turn) h hart its.0 served.tables
     (record { stands = stands; hart_is = hart_is; started = on; under_way = its.1.0; its = its.1.1 }) served.are in (
       subst (λ (n : Machine). StandsFor n (turn (count r count_turn) h)) (sym served.same) k.0,
-      answers_raised m after h (subst (λ (n : Machine). Answers (raised m count_turn) h n) (sym served.same) k.1),
+      answers_raised m after h (subst (λ (n : Machine). Answers (with_count_raised m count_turn) h n) (sym served.same) k.1),
     )
 started_served m after r h host hart false stands host_is hart_is on loading e served =
-    attempts_served m after r h host hart (asks_again m.region.ram m.rules host (attempted m h host).outcome)
+    attempts_served m after r h host hart (asks_again m.region.ram m.rules host (attempt_of m h host).outcome)
     (record {
       stands = stands;
       host_is = host_is;
@@ -255,15 +255,15 @@ started_served m after r h host hart false stands host_is hart_is on loading e s
 
 -- ---- harts
 
-hart_served : (m after : Machine) (r : State) (h : ℕ) (host : HostHart) (hart : Hart) (b : Bool) → StandsFor (raised m count_turn) (count r count_turn)
+hart_served : (m after : Machine) (r : State) (h : ℕ) (host : HostHart) (hart : Hart) (b : Bool) → StandsFor (with_count_raised m count_turn) (count r count_turn)
     → slice_get m.harts h ≡ Some host → slice_get r.harts h ≡ Some hart → hart.started ≡ b
-    → m.loading ≡ option_map (load_kept r.rules r.ram) r.loading → HartServed b (raised m count_turn) h host after
+    → m.loading ≡ option_map (load_kept r.rules r.ram) r.loading → HartServed b (with_count_raised m count_turn) h host after
     → StandsFor after (turn (count r count_turn) h) × HartTurn b m h host after
 hart_served m after r h host hart true stands host_is hart_is on loading served =
     started_served m after r h host hart (is_loading m.loading h) stands host_is hart_is on loading refl served
 hart_served m after r h host hart false stands host_is hart_is off loading served = (
   subst (λ (n : Machine). StandsFor n (turn (count r count_turn) h)) (sym served) (still m r h stands (turn_stopped (count r count_turn) h hart hart_is off)),
-  same_frame m (raised m count_turn) after served (recorded_turn m),
+  same_frame m (with_count_raised m count_turn) after served (recorded_turn m),
 )
 
 harts_by : (o : Unseen) (r : State) → (machine_of o r).harts ≡ host_harts (length o.tables) o.exits r.harts
@@ -271,19 +271,19 @@ unfolding machine_of
 harts_by o r = refl
 
 turned_by : (o : Unseen) (r : State) (after : Machine) (h : ℕ) (x : Option Hart) → IsRightFor o r → IsSound r → slice_get r.harts h ≡ x
-    → TurnServed (raised (machine_of o r) count_turn) h (slice_get (machine_of o r).harts h) after
+    → TurnServed (with_count_raised (machine_of o r) count_turn) h (slice_get (machine_of o r).harts h) after
     → Turned (machine_of o r) r h (slice_get (machine_of o r).harts h) after
 turned_by o r after h None p s e =
     let none : slice_get (machine_of o r).harts h ≡ None = ap (λ (l : List HostHart). slice_get l h) (harts_by o r) ∙ none_host (length o.tables) o.exits r.harts h p.exits e in
-    subst (λ (y : Option HostHart). TurnServed (raised (machine_of o r) count_turn) h y after → Turned (machine_of o r) r h y after) (sym none)
+    subst (λ (y : Option HostHart). TurnServed (with_count_raised (machine_of o r) count_turn) h y after → Turned (machine_of o r) r h y after) (sym none)
     (λ served. (
       subst (λ (n : Machine). StandsFor n (turn (count r count_turn) h)) (sym served) (still (machine_of o r) r h (raised_at o r p s) (turn_none (count r count_turn) h e)),
-      same_frame (machine_of o r) (raised (machine_of o r) count_turn) after served (recorded_turn (machine_of o r)),
+      same_frame (machine_of o r) (with_count_raised (machine_of o r) count_turn) after served (recorded_turn (machine_of o r)),
     ))
 turned_by o r after h (Some hart) p s e =
     let c = hosts_get (length o.tables) o.exits r.harts h hart p.exits e in
     let there : slice_get (machine_of o r).harts h ≡ Some (host_hart (length o.tables) c.0 hart) = ap (λ (l : List HostHart). slice_get l h) (harts_by o r) ∙ c.1.1 in
-    subst (λ (y : Option HostHart). TurnServed (raised (machine_of o r) count_turn) h y after → Turned (machine_of o r) r h y after) (sym there)
+    subst (λ (y : Option HostHart). TurnServed (with_count_raised (machine_of o r) count_turn) h y after → Turned (machine_of o r) r h y after) (sym there)
     (λ served. hart_served (machine_of o r) after r h (host_hart (length o.tables) c.0 hart) hart hart.started (raised_at o r p s) there e refl (loading_by o r) served)
 
 -- ---- the law

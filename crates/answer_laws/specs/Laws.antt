@@ -9,10 +9,10 @@ use Rattle.reference.specs.States.{State, Hart, Loading}
 use Rattle.reference.specs.Counting.{count, count_turn}
 use Rattle.reference.specs.Run.{step, run}
 use Rattle.reference.specs.Turn.{leave_entry, outside}
-use Rattle.machine_model.specs.Machine.{Machine, HostHart, raised, after_attempt, after_quiet_attempt}
+use Rattle.machine_model.specs.Machine.{Machine, HostHart, with_count_raised, after_attempt, after_quiet_attempt}
 use Rattle.machine_model.specs.StandsFor.{StandsFor}
 use Rattle.machine_model.specs.Served.{serve_exit}
-use Rattle.machine_model.specs.HardwareEvent.{IsEvent, attempted, sent_again, hart_again}
+use Rattle.machine_model.specs.HardwareEvent.{IsEvent, attempt_of, sent_again, hart_again}
 use Rattle.machine_model.specs.HostHarts.{asks_again}
 use Rattle.machine_model.specs.Steps.{AreTables, IsStep}
 use Rattle.machine_model.specs.Reaches.{Cleared, IsNew, Reaches, StepsThrough}
@@ -35,19 +35,19 @@ IsQuiet (Outcome.Exit exit) = ⊥
 -- an attempt without an exit is the step
 abbrev pub QuietLaw : Type 0
 QuietLaw = (m : Machine) (r : State) (h : ℕ) (host : HostHart) (hart : Hart) → MakesAttempt m r h host hart → r.journal.verdict ≡ Running
-    → IsQuiet (attempted m h host).outcome → StandsFor (after_quiet_attempt (raised m count_turn) h (attempted m h host)) (step r (Turn h))
+    → IsQuiet (attempt_of m h host).outcome → StandsFor (after_quiet_attempt (with_count_raised m count_turn) h (attempt_of m h host)) (step r (Turn h))
 
 -- an attempt with an exit leaves a machine that stands for the same state, and the step is what the exit asks for
 abbrev pub ExitLaw : Type 0
 ExitLaw = (m : Machine) (r : State) (h : ℕ) (host : HostHart) (hart : Hart) (exit : Exit) → MakesAttempt m r h host hart → r.journal.verdict ≡ Running
-    → (attempted m h host).outcome ≡ Outcome.Exit exit
-    → StandsFor (after_attempt m h (attempted m h host)) r × (step r (Turn h) ≡ serve_exit (count r count_turn) h hart exit)
+    → (attempt_of m h host).outcome ≡ Outcome.Exit exit
+    → StandsFor (after_attempt m h (attempt_of m h host)) r × (step r (Turn h) ≡ serve_exit (count r count_turn) h hart exit)
 
 -- a hart that SecVisor sends to attempt again has left its entry, and makes an attempt there; and the step is that of the state
 -- where it has left it
 abbrev pub AgainLaw : Type 0
 AgainLaw = (m : Machine) (r : State) (h : ℕ) (host : HostHart) (hart : Hart) → MakesAttempt m r h host hart → r.journal.verdict ≡ Running
-    → asks_again m.region.ram m.rules host (attempted m h host).outcome ≡ true
+    → asks_again m.region.ram m.rules host (attempt_of m h host).outcome ≡ true
     → MakesAttempt (sent_again m h host) (leave_entry r h hart) h (hart_again m h host) (outside hart)
     × (step r (Turn h) ≡ step (leave_entry r h hart) (Turn h))
 

@@ -4,7 +4,7 @@ use Rattle.std.specs.Prelude.{Some, ◌==◌, bit_and, if◌then◌else◌}
 use Rattle.std.specs.Option.{option_map}
 use Rattle.std.proofs.lemmas.Bool.{eqb-true}
 use Rattle.std.proofs.lemmas.Nat.{and_assoc, and_mask, and_shr}
-use Rattle.processor.specs.Effects.{effect_of, register, load_width, load_signed, store_width, plus, immediate, branch_taken, branch as branch_effect}
+use Rattle.processor.specs.Effects.{effect_of, register, load_width, load_signed, store_width, plus, immediate, branch_taken, branch}
 use Rattle.processor.specs.HardwareMemory.{load_htinst, store_htinst, atomic_htinst, implicit_read}
 use Rattle.processor.specs.Instructions.{bits, rs1, imm_i, imm_s, instruction_of, load, store}
 use Rattle.processor.specs.declared.effect.Effect.{Effect}
@@ -14,7 +14,7 @@ use Rattle.processor.specs.declared.instruction.StoreOp.{StoreOp}
 use Rattle.processor_laws.proofs.Decoding.{found}
 use Rattle.processor_laws.proofs.EffectRequests.{load_asks, store_asks}
 use Rattle.reference.specs.States.{Hart}
-use Rattle.machine_model.specs.Served.{transformed, is_sret}
+use Rattle.machine_model.specs.Served.{transformed_effect, is_sret}
 use Rattle.attempt_laws.proofs.LoadsAgree.{IsLoad}
 use Rattle.attempt_laws.proofs.StoresAgree.{IsStore}
 use Rattle.attempt_laws.proofs.AtomicsAgree.{IsAtomicWord}
@@ -53,8 +53,8 @@ rs2_kept w =
 
 -- ---- loads, stores and atomic operations
 
-effect_given : (hart : Hart) (x : ℕ) (i : Instr) → instruction_of x ≡ Some i → transformed x hart.registers hart.pc ≡ Some (effect_of i hart.registers hart.pc)
-unfolding transformed
+effect_given : (hart : Hart) (x : ℕ) (i : Instr) → instruction_of x ≡ Some i → transformed_effect x hart.registers hart.pc ≡ Some (effect_of i hart.registers hart.pc)
+unfolding transformed_effect
 effect_given hart x i e = ap (option_map (λ instr. effect_of instr hart.registers hart.pc)) e
 
 told_load : (hart : Hart) (w : ℕ) (op : LoadOp) (rd : ℕ) → LoadTells w op → rd ≡ bits w 7 12 → IsLoad (load_htinst w) hart rd (load_width op) (load_signed op)
@@ -95,7 +95,7 @@ jump_told : (hart : Hart) (w rd link target : ℕ) (b : Bool) → IsTold w hart 
 jump_told hart w rd link target true = tt
 jump_told hart w rd link target false = tt
 
-branch_told : (hart : Hart) (w target next : ℕ) (taken : Bool) → IsTold w hart (branch_effect taken target next)
+branch_told : (hart : Hart) (w target next : ℕ) (taken : Bool) → IsTold w hart (branch taken target next)
 branch_told hart w target next true = jump_told hart w 0 0 target (target % 4 == 0)
 branch_told hart w target next false = tt
 

@@ -4,7 +4,7 @@ use Rattle.std.specs.Prelude.{Some, None, if◌then◌else◌, Ok, ◌==◌}
 use Rattle.processor.specs.Bytes.{word, write_word, low_bytes, ram_place, in_ram}
 use Rattle.processor.specs.Effects.{amo_value}
 use Rattle.processor.specs.Hardware.{Attempted, with_region}
-use Rattle.processor.specs.HardwareMemory.{after_load_reserved, after_store_conditional, after_amo, fault_exception, implicit_read, with_reservation, retire_with, wrote, behind_write, reached}
+use Rattle.processor.specs.HardwareMemory.{after_load_reserved, after_store_conditional, after_amo, fault_exception, implicit_read, with_reservation, retire_with, write_at, behind_write, aligned_translation}
 use Rattle.processor.specs.HypervisorRegisters.{HypervisorRegisters}
 use Rattle.processor.specs.Regions.{IsWidth, host_word, write_host}
 use Rattle.processor.specs.Requests.{loaded_value, reserved_at, covers, after_write}
@@ -22,7 +22,7 @@ use Rattle.reference.specs.States.{State, Hart, without_reservation}
 use Rattle.reference.specs.Devices.{hart_after_write}
 use Rattle.reference.specs.Trapping.{exception}
 use Rattle.reference.specs.Requests.{carried_out, stepped_with, carried_out_writing, ram_word, write_stopped, source_of, target_of, FromRam, ToRam, carry_out_load_reserved, carry_out_store_conditional, carry_out_amo}
-use Rattle.machine_model.specs.Served.{exit_answered, plain_answer, load_answer, write_answer, store_answer, transformed}
+use Rattle.machine_model.specs.Served.{exit_answered, plain_answer, load_answer, write_answer, store_answer, transformed_effect}
 use Rattle.attempt_laws.proofs.Plain.{serve_plain}
 use Rattle.machine_model.specs.StandsFor.{Unseen}
 use Rattle.attempt_laws.specs.Agree.{IsAt, Agrees, region_at, core_at}
@@ -42,7 +42,7 @@ IsAtomic _ = ⊥
 pub record IsAtomicWord (htinst : ℕ) (hart : Hart) : Type 0 where
   pub effect : Effect
   pub atomic : IsAtomic effect
-  pub same : transformed htinst hart.registers hart.pc ≡ Some effect
+  pub same : transformed_effect htinst hart.registers hart.pc ≡ Some effect
   pub explicit : (htinst == implicit_read) ≡ false
 
 -- ---- exits
@@ -80,7 +80,7 @@ reserves_there o r hart c rd width p whole = rw (word_in_ram (region_at o r) p w
 pub lr_agrees : (o : Unseen) (r : State) (h : ℕ) (hart : Hart) (c : HypervisorRegisters) (rd address width htinst : ℕ)
     → IsAt o r h hart c → IsAtomicWord htinst hart → IsWidth width
     → Agrees o r h hart c
-    (with_region (region_at o r) (after_load_reserved (region_at o r) (core_at o c hart) rd width (reached (region_at o r) (core_at o c hart) Access.Load address width htinst)))
+    (with_region (region_at o r) (after_load_reserved (region_at o r) (core_at o c hart) rd width (aligned_translation (region_at o r) (core_at o c hart) Access.Load address width htinst)))
     (carry_out_load_reserved r h hart rd address width (source_of r hart address width))
 unfolding after_load_reserved carry_out_load_reserved
 lr_agrees o r h hart c rd address width htinst at word whole =
@@ -127,7 +127,7 @@ guarded_exit r h hart address gpa htinst pc word same inside = rw (word.explicit
 
 sc_writes : (o : Unseen) (r : State) (hart : Hart) (c : HypervisorRegisters) (rd width value p : ℕ)
     → with_region (write_host (region_at o r) (length o.tables + p) width value)
-    (retire_with (with_reservation (core_at o c hart) None) rd 0 (wrote (length o.tables + p) width))
+    (retire_with (with_reservation (core_at o c hart) None) rd 0 (write_at (length o.tables + p) width))
     ≡ record {
       region = with_ram o.tables (write_word r.ram p width value);
       core = core_at o c (hart_after_write p width (stepped_with (without_reservation hart) rd 0));
@@ -141,7 +141,7 @@ sc_by : (o : Unseen) (r : State) (h : ℕ) (hart : Hart) (c : HypervisorRegister
     → Agrees o r h hart c
     (if covered
     then with_region (write_host (region_at o r) (length o.tables + p) width value)
-    (retire_with (with_reservation (core_at o c hart) None) rd 0 (wrote (length o.tables + p) width))
+    (retire_with (with_reservation (core_at o c hart) None) rd 0 (write_at (length o.tables + p) width))
     else with_region (region_at o r) (retire_with (with_reservation (core_at o c hart) None) rd 1 None))
     (if covered
     then carried_out_writing r h (stepped_with (without_reservation hart) rd 0) p (low_bytes width value)
@@ -164,7 +164,7 @@ sc_there o r h hart c rd address width value gpa at kept =
 pub sc_agrees : (o : Unseen) (r : State) (h : ℕ) (hart : Hart) (c : HypervisorRegisters) (rd address width value htinst : ℕ)
     → IsAt o r h hart c → IsAtomicWord htinst hart → IsWidth width → FreeKeeps r width value
     → Agrees o r h hart c
-    (after_store_conditional (region_at o r) (core_at o c hart) rd width value (reached (region_at o r) (core_at o c hart) Access.Store address width htinst))
+    (after_store_conditional (region_at o r) (core_at o c hart) rd width value (aligned_translation (region_at o r) (core_at o c hart) Access.Store address width htinst))
     (carry_out_store_conditional r h hart rd address width value (target_of r hart address width))
 unfolding after_store_conditional carry_out_store_conditional
 sc_agrees o r h hart c rd address width value htinst at word whole kept =
@@ -187,7 +187,7 @@ sc_agrees o r h hart c rd address width value htinst at word whole kept =
 
 amo_writes : (o : Unseen) (r : State) (hart : Hart) (c : HypervisorRegisters) (rd width : ℕ) (op : AmoOp) (value p : ℕ)
     → with_region (write_host (region_at o r) (length o.tables + p) width (amo_value op width (host_word (region_at o r) (length o.tables + p) width) value))
-    (retire_with (behind_write (core_at o c hart) (length o.tables + p) width) rd (loaded_value true width (host_word (region_at o r) (length o.tables + p) width)) (wrote (length o.tables + p) width))
+    (retire_with (behind_write (core_at o c hart) (length o.tables + p) width) rd (loaded_value true width (host_word (region_at o r) (length o.tables + p) width)) (write_at (length o.tables + p) width))
     ≡ record {
       region = with_ram o.tables (write_word r.ram p width (amo_value op width (word r.ram p width) value));
       core = core_at o c (hart_after_write p width (stepped_with hart rd (loaded_value true width (word r.ram p width))));
@@ -214,7 +214,7 @@ amo_there o r h hart c rd address width op value gpa at kept =
 pub amo_agrees : (o : Unseen) (r : State) (h : ℕ) (hart : Hart) (c : HypervisorRegisters) (rd address width : ℕ) (op : AmoOp) (value htinst : ℕ)
     → IsAt o r h hart c → IsAtomicWord htinst hart → IsWidth width → ((v : ℕ) → FreeKeeps r width v)
     → Agrees o r h hart c
-    (after_amo (region_at o r) (core_at o c hart) rd width op value (reached (region_at o r) (core_at o c hart) Access.Store address width htinst))
+    (after_amo (region_at o r) (core_at o c hart) rd width op value (aligned_translation (region_at o r) (core_at o c hart) Access.Store address width htinst))
     (carry_out_amo r h hart rd address width op value (target_of r hart address width))
 unfolding after_amo carry_out_amo
 amo_agrees o r h hart c rd address width op value htinst at word whole kept =

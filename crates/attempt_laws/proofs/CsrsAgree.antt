@@ -62,14 +62,14 @@ writes_here hart c number csr value legal allowed =
     ap (λ (k : ℕ). write_virtual k (with_guest c hart.supervisor) csr value) (same_hideleg hart.mode hart.entry)
     ∙ reached_writes hart.mode c hart.supervisor number csr value legal allowed
 
-abbrev pub accessed : State → ℕ → Hart → CsrOp → ℕ → Bool → Csr → Hart
-accessed r h hart op operand true csr = with_csr_set hart csr (csr_value op (csr_now r h hart csr) operand)
-accessed r h hart op operand false csr = hart
+abbrev pub after_access : State → ℕ → Hart → CsrOp → ℕ → Bool → Csr → Hart
+after_access r h hart op operand true csr = with_csr_set hart csr (csr_value op (csr_now r h hart csr) operand)
+after_access r h hart op operand false csr = hart
 
 reached_step : (o : Unseen) (r : State) (h : ℕ) (hart : Hart) (c : HypervisorRegisters) (rd : ℕ) (op : CsrOp) (operand number : ℕ) (writes : Bool) (csr : Csr)
     → IsAt o r h hart c → IsLegalSupervisor hart.supervisor → guest_access hart.mode hart.supervisor number writes ≡ Some csr
     → with_region (region_at o r) (after_csr (core_at o c hart) (lines_at r.devices h) rd op operand writes (Ok csr))
-    ≡ record { region = region_at o r; core = core_at o c (stepped_with (accessed r h hart op operand writes csr) rd (csr_now r h hart csr)); outcome = Outcome.Retired None }
+    ≡ record { region = region_at o r; core = core_at o c (stepped_with (after_access r h hart op operand writes csr) rd (csr_now r h hart csr)); outcome = Outcome.Retired None }
 unfolding after_csr
 reached_step o r h hart c rd op operand number true csr at legal allowed =
     rw (
@@ -79,12 +79,12 @@ reached_step o r h hart c rd op operand number true csr at legal allowed =
 reached_step o r h hart c rd op operand number false csr at legal allowed =
     rw (reads_here o r h hart c number false csr at legal allowed) refl
 
-accessed_goes_on : (r : State) (h : ℕ) (hart : Hart) (op : CsrOp) (operand : ℕ) (writes : Bool) (csr : Csr) → GoesOn hart (accessed r h hart op operand writes csr)
+accessed_goes_on : (r : State) (h : ℕ) (hart : Hart) (op : CsrOp) (operand : ℕ) (writes : Bool) (csr : Csr) → GoesOn hart (after_access r h hart op operand writes csr)
 accessed_goes_on r h hart op operand true csr = (refl, refl)
 accessed_goes_on r h hart op operand false csr = (refl, refl)
 
 accessed_ref : (r : State) (h : ℕ) (hart : Hart) (w rd : ℕ) (op : CsrOp) (operand : ℕ) (writes : Bool) (csr : Csr)
-    → carry_out_csr r h hart w rd op operand writes (Some csr) ≡ carried_out r h (stepped_with (accessed r h hart op operand writes csr) rd (csr_now r h hart csr))
+    → carry_out_csr r h hart w rd op operand writes (Some csr) ≡ carried_out r h (stepped_with (after_access r h hart op operand writes csr) rd (csr_now r h hart csr))
 unfolding carry_out_csr
 accessed_ref r h hart w rd op operand true csr = refl
 accessed_ref r h hart w rd op operand false csr = refl
@@ -102,10 +102,10 @@ csr_at o r h hart c w rd op operand number writes (Ok csr) at legal other allowe
     (sym (reached_step o r h hart c rd op operand number writes csr at legal allowed))
     (subst (QuietTo o r h (record {
       region = region_at o r;
-      core = core_at o c (stepped_with (accessed r h hart op operand writes csr) rd (csr_now r h hart csr));
+      core = core_at o c (stepped_with (after_access r h hart op operand writes csr) rd (csr_now r h hart csr));
       outcome = Outcome.Retired None;
     })) (sym (accessed_ref r h hart w rd op operand writes csr))
-    (stays o r h hart (stepped_with (accessed r h hart op operand writes csr) rd (csr_now r h hart csr)) c at (accessed_goes_on r h hart op operand writes csr)))
+    (stays o r h hart (stepped_with (after_access r h hart op operand writes csr) rd (csr_now r h hart csr)) c at (accessed_goes_on r h hart op operand writes csr)))
 csr_at o r h hart c w rd op operand number writes (Err CsrFault.Illegal) at legal other allowed = exception_agrees o r h hart c Cause.Illegal w at refl
 csr_at o r h hart c w rd op operand number writes (Err CsrFault.Virtual) at legal other allowed =
     exit_agrees o r h hart c (virtual_instruction w) (illegal_instruction r h hart w) refl (virtual_served r h hart w hart.pc other)

@@ -12,7 +12,7 @@ use Rattle.processor.specs.declared.mode.Mode.{Mode}
 use Rattle.processor.specs.declared.mode.Mode.TheVariants.{Kernel, User}
 use Rattle.reference.specs.States.{State, Hart}
 use Rattle.reference.specs.Devices.{lines_at}
-use Rattle.reference.specs.Requests.{stepped}
+use Rattle.reference.specs.Requests.{at_next_instruction}
 use Rattle.reference.specs.Answers.{call}
 use Rattle.reference.specs.Turn.{with_set, carry_out_kernel_only, carry_out_ecall, carry_out_effect, illegal_instruction, carry_out_sret}
 use Rattle.machine_model.specs.Served.{exit_answered, plain_answer, virtual_answer, is_sret_word}
@@ -50,7 +50,7 @@ virtual_agrees o r h hart c w other = exit_agrees o r h hart c (virtual_instruct
 supervisor_agrees : (o : Unseen) (r : State) (h : ℕ) (hart : Hart) (c : HypervisorRegisters) (w : ℕ) (mode : Mode) → IsAt o r h hart c → is_sret_word w ≡ false
     → Agrees o r h hart c (with_region (region_at o r) (after_supervisor_only (core_at o c hart) w mode)) (carry_out_kernel_only r h hart w mode)
 unfolding after_supervisor_only carry_out_kernel_only
-supervisor_agrees o r h hart c w Kernel at other = stays o r h hart (stepped hart) c at (refl, refl)
+supervisor_agrees o r h hart c w Kernel at other = stays o r h hart (at_next_instruction hart) c at (refl, refl)
 supervisor_agrees o r h hart c w User at other = virtual_agrees o r h hart c w other
 
 -- an ECALL of the kernel's leaves for SecVisor
@@ -105,5 +105,5 @@ effect_agrees o r h hart c w Effect.Ebreak at kept told = exception_agrees o r h
 effect_agrees o r h hart c w Effect.Sret at kept told = rw (same_mode hart.mode hart.entry) (sret_agrees o r h hart c w hart.mode refl told)
 effect_agrees o r h hart c w Effect.Wfi at kept told = rw (same_mode hart.mode hart.entry) (supervisor_agrees o r h hart c w hart.mode at told)
 effect_agrees o r h hart c w Effect.SfenceVma at kept told = rw (same_mode hart.mode hart.entry) (supervisor_agrees o r h hart c w hart.mode at told)
-effect_agrees o r h hart c w Effect.Fence at kept told = stays o r h hart (stepped hart) c at (refl, refl)
+effect_agrees o r h hart c w Effect.Fence at kept told = stays o r h hart (at_next_instruction hart) c at (refl, refl)
 effect_agrees o r h hart c w Effect.Hyper at kept told = virtual_agrees o r h hart c w told

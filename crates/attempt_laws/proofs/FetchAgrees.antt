@@ -5,7 +5,7 @@ use Rattle.processor.specs.Bytes.{word, ram_place, page_of, place_in_page, in_ra
 use Rattle.processor.specs.Hardware.{Attempted, with_region, raise, plain_exception, exit_of}
 use Rattle.processor.specs.Bits.{bit}
 use Rattle.processor.specs.HardwareAttempt.{after_fetch, after_word}
-use Rattle.processor.specs.HardwareMemory.{place_or_exception, fault_exception, implicit_read, translated}
+use Rattle.processor.specs.HardwareMemory.{place_or_exception, fault_exception, implicit_read, translation_result}
 use Rattle.processor.specs.HypervisorRegisters.{HypervisorRegisters}
 use Rattle.sv_types.specs.ApprovedPages.{approved_bytes}
 use Rattle.processor.specs.Regions.{host_word}
@@ -82,15 +82,15 @@ word_at : (o : Unseen) (r : State) (h : ℕ) (hart : Hart) (c : HypervisorRegist
 word_at o r h hart c gpa w words same =
     rw (word_in_ram (region_at o r) (ram_place gpa) 4, same) (words (word r.ram (ram_place gpa) 4))
 
-abbrev pub gone : Unseen → State → Hart → HypervisorRegisters → ℕ → Attempted
-gone o r hart c gpa = with_region (region_at o r) (raise (core_at o c hart) (fault_exception Access.Fetch hart.pc 0 (Fault.Guest gpa false)))
+abbrev pub guest_fetch_fault : Unseen → State → Hart → HypervisorRegisters → ℕ → Attempted
+guest_fetch_fault o r hart c gpa = with_region (region_at o r) (raise (core_at o c hart) (fault_exception Access.Fetch hart.pc 0 (Fault.Guest gpa false)))
 
 never_delegated : (entry : Option ℕ) → bit (kernel_hedeleg entry) 20 ≡ false
 never_delegated None = refl
 never_delegated (Some i) = refl
 
 refused : (o : Unseen) (r : State) (h : ℕ) (hart : Hart) (c : HypervisorRegisters) (gpa : ℕ) (mode : Mode) (next : State) → hart.entry ≡ None → hart.mode ≡ mode
-    → next ≡ fetch_served r h hart mode (fetch_exit hart.pc (gpa / 4) 0) → Agrees o r h hart c (gone o r hart c gpa) next
+    → next ≡ fetch_served r h hart mode (fetch_exit hart.pc (gpa / 4) 0) → Agrees o r h hart c (guest_fetch_fault o r hart c gpa) next
 refused o r h hart c gpa mode next none e served =
     leaves_by o r h hart c (fault_exception Access.Fetch hart.pc 0 (Fault.Guest gpa false)) next (never_delegated hart.entry)
     (served ∙ sym (served_in r h hart (gpa / 4) 0 mode none e))
@@ -191,7 +191,7 @@ noted_fault r pc = refl
 
 bound_away : (o : Unseen) (r : State) (h : ℕ) (hart : Hart) (c : HypervisorRegisters) (entry : Binding) (gpa : ℕ) (inside : Bool)
     → bound_entry r.rules hart.entry ≡ Some entry → TurnsAgain r h hart → gpa % 4096 ≡ hart.pc % 4096 → in_ram r.ram gpa 4 ≡ inside
-    → Agrees o r h hart c (gone o r hart c gpa) (turned_away r h hart entry (if inside then gpa else 0))
+    → Agrees o r h hart c (guest_fetch_fault o r hart c gpa) (turned_away r h hart entry (if inside then gpa else 0))
 bound_away o r h hart c entry gpa inside bound again same is =
     leaves_by o r h hart c (fault_exception Access.Fetch hart.pc 0 (Fault.Guest gpa false)) (turned_away r h hart entry (if inside then gpa else 0)) (never_delegated hart.entry)
     (away_served r h hart entry (fetch_exit hart.pc (gpa / 4) 0) (if inside then gpa else 0) bound again refl (noted_by r hart.pc gpa inside same is))
@@ -276,7 +276,7 @@ inside_agrees o r h hart c entry i at words in_entry bound again kernel aligned 
 pub fetch_agrees : (o : Unseen) (r : State) (h : ℕ) (hart : Hart) (c : HypervisorRegisters) (mode : Mode) (x : Option ℕ) → IsAt o r h hart c → WordsAgree o r h hart c
     → hart.pc % 4 ≡ 0 → TurnsAgain r h hart → hart.mode ≡ mode → hart.entry ≡ x → IsSoundEntry r.rules mode x
     → Agrees o r h hart c
-    (after_fetch (region_at o r) (core_at o c hart) (lines_at r.devices h) (translated (region_at o r) (core_at o c hart) Access.Fetch hart.pc 0))
+    (after_fetch (region_at o r) (core_at o c hart) (lines_at r.devices h) (translation_result (region_at o r) (core_at o c hart) Access.Fetch hart.pc 0))
     (fetch_in_entry r h hart (bound_entry r.rules hart.entry))
 fetch_agrees o r h hart c mode None at words aligned again e none sound =
     rw (translated_under o r h hart c Access.Fetch hart.pc 0 at, bound_none r hart none)

@@ -4,7 +4,7 @@ use Rattle.std.specs.Prelude.{Some, None, if◌then◌else◌, Err, ◌==◌}
 use Rattle.std.proofs.lemmas.Bool.Decides.{nat_tests}
 use Rattle.processor.specs.Bytes.{word, ram_place}
 use Rattle.processor.specs.Hardware.{with_region, plain_exception}
-use Rattle.processor.specs.HardwareMemory.{after_load, place_or_exception, fault_exception, implicit_read, retire_with, reached}
+use Rattle.processor.specs.HardwareMemory.{after_load, place_or_exception, fault_exception, implicit_read, retire_with, aligned_translation}
 use Rattle.processor.specs.HypervisorRegisters.{HypervisorRegisters}
 use Rattle.processor.specs.Instructions.{instruction_of, rows}
 use Rattle.processor.specs.Regions.{IsWidth}
@@ -24,7 +24,7 @@ use Rattle.reference.specs.States.{State, Hart}
 use Rattle.reference.specs.Devices.{device_load}
 use Rattle.reference.specs.Trapping.{exception}
 use Rattle.reference.specs.Requests.{carried_out, stepped_with, carry_out_device_load, FromRam, FromDevice, NoSource, source_at, load_source, source_of, settings_of, carry_out_load}
-use Rattle.machine_model.specs.Served.{exit_answered, plain_answer, load_answer, transformed}
+use Rattle.machine_model.specs.Served.{exit_answered, plain_answer, load_answer, transformed_effect}
 use Rattle.attempt_laws.proofs.Plain.{serve_plain}
 use Rattle.machine_model.specs.StandsFor.{Unseen}
 use Rattle.attempt_laws.specs.Agree.{IsAt, Agrees, region_at, core_at}
@@ -35,7 +35,7 @@ use Rattle.attempt_laws.proofs.Under.{under, sight_of_hart, translated_under, ac
 -- the transformed instruction is this load, and no implicit read
 pub record IsLoad (htinst : ℕ) (hart : Hart) (rd width : ℕ) (signed : Bool) : Type 0 where
   pub address : ℕ
-  pub effect : transformed htinst hart.registers hart.pc ≡ Some (Effect.Load rd address width signed)
+  pub effect : transformed_effect htinst hart.registers hart.pc ≡ Some (Effect.Load rd address width signed)
   pub explicit : (htinst == implicit_read) ≡ false
 
 -- the two low bits of a guest-physical address are those of the virtual one
@@ -46,7 +46,7 @@ gpa_back gpa va same = let low : va % 4 ≡ gpa % 4 = grind arith in rw low (gri
 pub unreadable_load : (r : State) (h : ℕ) (hart : Hart) (address htval pc : ℕ)
     → exception r h hart Cause.LoadAccess address
     ≡ serve_plain r h hart (record { cause = ExitCause.Exception Cause.GuestLoad; pc = pc; stval = address; htval = htval; htinst = implicit_read })
-unfolding serve_plain plain_answer exit_answered load_answer transformed instruction_of rows
+unfolding serve_plain plain_answer exit_answered load_answer transformed_effect instruction_of rows
 unreadable_load r h hart address htval pc = refl
 
 -- no RAM is there
@@ -117,9 +117,9 @@ by_alignment o r h hart c rd address width signed htinst false at load whole ali
 pub load_agrees : (o : Unseen) (r : State) (h : ℕ) (hart : Hart) (c : HypervisorRegisters) (rd address width : ℕ) (signed : Bool) (htinst : ℕ)
     → IsAt o r h hart c → IsLoad htinst hart rd width signed → IsWidth width
     → Agrees o r h hart c
-    (with_region (region_at o r) (after_load (region_at o r) (core_at o c hart) rd width signed (reached (region_at o r) (core_at o c hart) Access.Load address width htinst)))
+    (with_region (region_at o r) (after_load (region_at o r) (core_at o c hart) rd width signed (aligned_translation (region_at o r) (core_at o c hart) Access.Load address width htinst)))
     (carry_out_load r h hart rd address width signed (source_of r hart address width))
-unfolding reached load_source
+unfolding aligned_translation load_source
 load_agrees o r h hart c rd address width signed htinst at load whole =
     rw (translated_under o r h hart c Access.Load address htinst at)
     (by_alignment o r h hart c rd address width signed htinst (address % width == 0) at load whole

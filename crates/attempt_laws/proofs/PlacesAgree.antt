@@ -4,7 +4,7 @@ use Rattle.std.proofs.Common.{◌≡◌, ℕ, ◌+◌, ◌%◌, inl, length, ref
 use Rattle.std.specs.Prelude.{Some, None, if◌then◌else◌, Result, Ok, Err, ◌==◌}
 use Rattle.processor.specs.Bytes.{ram_place, page_of, in_ram}
 use Rattle.processor.specs.Hardware.{Attempted, plain_exception}
-use Rattle.processor.specs.HardwareMemory.{place_or_exception, fault_exception, reached}
+use Rattle.processor.specs.HardwareMemory.{place_or_exception, fault_exception, aligned_translation}
 use Rattle.processor.specs.HypervisorRegisters.{HypervisorRegisters}
 use Rattle.processor.specs.Regions.{IsWidth}
 use Rattle.sv_types.specs.Views.{page_in_ram, view_answer}
@@ -69,8 +69,8 @@ source_aligned o r h hart c address width htinst false hard soft agree at whole 
 pub sources_agree : (o : Unseen) (r : State) (h : ℕ) (hart : Hart) (c : HypervisorRegisters) (address width htinst : ℕ)
     (hard : Result ℕ Exception → Attempted) (soft : Source → State) → SourcesAgree o r h hart c address htinst hard soft
     → IsAt o r h hart c → IsWidth width
-    → Agrees o r h hart c (hard (reached (region_at o r) (core_at o c hart) Access.Load address width htinst)) (soft (source_of r hart address width))
-unfolding reached load_source
+    → Agrees o r h hart c (hard (aligned_translation (region_at o r) (core_at o c hart) Access.Load address width htinst)) (soft (source_of r hart address width))
+unfolding aligned_translation load_source
 sources_agree o r h hart c address width htinst hard soft agree at whole =
     rw (translated_under o r h hart c Access.Load address htinst at)
     (source_aligned o r h hart c address width htinst (address % width == 0) hard soft agree at whole
@@ -130,8 +130,8 @@ target_aligned o r h hart c address width htinst false hard soft agree at whole 
 pub targets_agree : (o : Unseen) (r : State) (h : ℕ) (hart : Hart) (c : HypervisorRegisters) (address width htinst : ℕ)
     (hard : Result ℕ Exception → Attempted) (soft : Target → State) → TargetsAgree o r h hart c address width htinst hard soft
     → IsAt o r h hart c → IsWidth width
-    → Agrees o r h hart c (hard (reached (region_at o r) (core_at o c hart) Access.Store address width htinst)) (soft (target_of r hart address width))
-unfolding reached store_target
+    → Agrees o r h hart c (hard (aligned_translation (region_at o r) (core_at o c hart) Access.Store address width htinst)) (soft (target_of r hart address width))
+unfolding aligned_translation store_target
 targets_agree o r h hart c address width htinst hard soft agree at whole =
     rw (translated_under o r h hart c Access.Store address htinst at)
     (target_aligned o r h hart c address width htinst (address % width == 0) hard soft agree at whole

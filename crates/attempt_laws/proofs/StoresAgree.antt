@@ -3,7 +3,7 @@ use Rattle.std.proofs.Common.{◌≡◌, ℕ, ◌+◌, ◌%◌, ◌/◌, inl, le
 use Rattle.std.specs.Prelude.{Some, None, if◌then◌else◌, Err, ◌==◌}
 use Rattle.processor.specs.Bytes.{write_word, low_bytes, ram_place, page_of, in_ram}
 use Rattle.processor.specs.Hardware.{Attempted, with_region, plain_exception}
-use Rattle.processor.specs.HardwareMemory.{after_store, place_or_exception, fault_exception, implicit_read, retire, behind_write, wrote, reached}
+use Rattle.processor.specs.HardwareMemory.{after_store, place_or_exception, fault_exception, implicit_read, retire, behind_write, write_at, aligned_translation}
 use Rattle.processor.specs.HypervisorRegisters.{HypervisorRegisters}
 use Rattle.processor.specs.Regions.{IsWidth, write_host}
 use Rattle.sv_types.specs.Views.{page_in_ram, view_answer, with_ram}
@@ -21,8 +21,8 @@ use Rattle.attempt_laws.proofs.Everywhere.{Keeps, first_stage_keeps}
 use Rattle.reference.specs.States.{State, Hart, is_protected}
 use Rattle.reference.specs.Devices.{device_store, hart_after_write}
 use Rattle.reference.specs.Trapping.{exception}
-use Rattle.reference.specs.Requests.{stepped, carried_out_writing, carry_out_device_store, write_stopped, ToRam, ToDevice, Guarded, NoTarget, target_at, store_target, target_of, settings_of, carry_out_store}
-use Rattle.machine_model.specs.Served.{exit_answered, plain_answer, write_answer, store_answer, transformed}
+use Rattle.reference.specs.Requests.{at_next_instruction, carried_out_writing, carry_out_device_store, write_stopped, ToRam, ToDevice, Guarded, NoTarget, target_at, store_target, target_of, settings_of, carry_out_store}
+use Rattle.machine_model.specs.Served.{exit_answered, plain_answer, write_answer, store_answer, transformed_effect}
 use Rattle.attempt_laws.proofs.Plain.{serve_plain}
 use Rattle.machine_model.specs.StandsFor.{Unseen}
 use Rattle.attempt_laws.specs.Agree.{IsAt, Agrees, region_at, core_at}
@@ -35,7 +35,7 @@ use Rattle.attempt_laws.proofs.LoadsAgree.{gpa_back, aligned_if}
 -- the transformed instruction is this store, and no implicit read
 pub record IsStore (htinst : ℕ) (hart : Hart) (width value : ℕ) : Type 0 where
   pub address : ℕ
-  pub effect : transformed htinst hart.registers hart.pc ≡ Some (Effect.Store address width value)
+  pub effect : transformed_effect htinst hart.registers hart.pc ≡ Some (Effect.Store address width value)
   pub explicit : (htinst == implicit_read) ≡ false
 
 pub unreadable_store : (r : State) (h : ℕ) (hart : Hart) (address htval pc : ℕ)
@@ -63,10 +63,10 @@ guarded_served r h hart address width value gpa htinst pc store same inside =
 -- the bytes are written behind the tables, and the hart's own reservation there goes
 written : (o : Unseen) (r : State) (hart : Hart) (c : HypervisorRegisters) (p width value : ℕ)
     → with_region (write_host (region_at o r) (length o.tables + p) width value)
-    (retire (behind_write (core_at o c hart) (length o.tables + p) width) (wrote (length o.tables + p) width))
+    (retire (behind_write (core_at o c hart) (length o.tables + p) width) (write_at (length o.tables + p) width))
     ≡ record {
       region = with_ram o.tables (write_word r.ram p width value);
-      core = core_at o c (hart_after_write p width (stepped hart));
+      core = core_at o c (hart_after_write p width (at_next_instruction hart));
       outcome = Outcome.Retired (Some (record { hpa = length o.tables + p; width = width }));
     }
 written o r hart c p width value =
@@ -82,9 +82,9 @@ at_place : (o : Unseen) (r : State) (h : ℕ) (hart : Hart) (c : HypervisorRegis
     (carry_out_store r h hart address width value (if inside then (if guarded then Guarded gpa else ToRam gpa) else ToDevice gpa))
 unfolding after_store carry_out_store
 at_place o r h hart c address width value gpa htinst true false at store same whole kept =
-    subst (λ (a : Attempted). Agrees o r h hart c a (carried_out_writing r h (stepped hart) (ram_place gpa) (low_bytes width value)))
+    subst (λ (a : Attempted). Agrees o r h hart c a (carried_out_writing r h (at_next_instruction hart) (ram_place gpa) (low_bytes width value)))
     (sym (written o r hart c (ram_place gpa) width value))
-    (writes o r h hart (stepped hart) c (ram_place gpa) width value at (refl, refl) (kept refl refl))
+    (writes o r h hart (at_next_instruction hart) c (ram_place gpa) width value at (refl, refl) (kept refl refl))
 at_place o r h hart c address width value gpa htinst true true at store same whole kept =
     exit_agrees o r h hart c (fault_exception Access.Store address htinst (Fault.Guest gpa false)) (write_stopped r h hart gpa) refl
     (guarded_served r h hart address width value gpa htinst hart.pc store same whole)
@@ -137,9 +137,9 @@ by_alignment o r h hart c address width value htinst false at store whole kept a
 pub store_agrees : (o : Unseen) (r : State) (h : ℕ) (hart : Hart) (c : HypervisorRegisters) (address width value htinst : ℕ)
     → IsAt o r h hart c → IsStore htinst hart width value → IsWidth width → FreeKeeps r width value
     → Agrees o r h hart c
-    (after_store (region_at o r) (core_at o c hart) width value (reached (region_at o r) (core_at o c hart) Access.Store address width htinst))
+    (after_store (region_at o r) (core_at o c hart) width value (aligned_translation (region_at o r) (core_at o c hart) Access.Store address width htinst))
     (carry_out_store r h hart address width value (target_of r hart address width))
-unfolding reached store_target
+unfolding aligned_translation store_target
 store_agrees o r h hart c address width value htinst at store whole kept =
     rw (translated_under o r h hart c Access.Store address htinst at)
     (by_alignment o r h hart c address width value htinst (address % width == 0) at store whole kept

@@ -4,7 +4,7 @@ use Rattle.std.specs.Prelude.{Option, Some, None, option_map, Result, nat_le, na
 use Rattle.std.proofs.lemmas.Bool.Decides.{nat_tests}
 use Rattle.std.proofs.lemmas.Option.{slice_get-map}
 use Rattle.processor.specs.Bytes.{ram_base, ram_place, page_of, in_ram}
-use Rattle.processor.specs.HardwareMemory.{translated, place_or_exception}
+use Rattle.processor.specs.HardwareMemory.{translation_result, place_or_exception}
 use Rattle.processor.specs.HypervisorRegisters.{HypervisorRegisters}
 use Rattle.processor.specs.Regions.{IsWidth}
 use Rattle.sv_types.specs.Views.{Sight, OfKernel, OfUser, OfEntry, sight_of, under_view, page_in_ram, view_permits}
@@ -65,9 +65,9 @@ stages_in o r User entry s mode va access is_open sound known =
     two_stages_under_view o.tables r.ram r.rules.ram_pages _ (protection_in r.approved r.held) OfUser (is_open.views.each View.User OfUser refl) sound.size s mode va access
 
 pub translated_under : (o : Unseen) (r : State) (h : ℕ) (hart : Hart) (c : HypervisorRegisters) (access : Access) (va htinst : ℕ) → IsAt o r h hart c
-    → translated (region_at o r) (core_at o c hart) access va htinst
+    → translation_result (region_at o r) (core_at o c hart) access va htinst
     ≡ place_or_exception access va htinst (under o r (sight_of_hart r hart) access (place r.ram (settings_of hart.supervisor) hart.mode va access))
-unfolding translated
+unfolding translation_result
 translated_under o r h hart c access va htinst at =
     ap (λ (m : Mode). place_or_exception access va htinst (two_stages (region_at o r) (hregs_in hart.mode hart.entry).hgatp (settings_of hart.supervisor) m va access)) (same_mode hart.mode hart.entry)
     ∙ ap (place_or_exception access va htinst) (stages_in o r hart.mode hart.entry (settings_of hart.supervisor) hart.mode va access at.right at.sound (at.sound.harts h hart at.found).entry)

@@ -33,13 +33,13 @@ fn change_harts(seats: &mut [Seat], guard: &Guard, beside: Beside)
 
 // What happens to devices.
 #[tactic(auto, unfolding(reference::specs::Answers::devices_beside))]
-fn change_devices<D: DiskPort>(which: u8, devices: &mut Devices<D>, beside: Beside)
-    requires there { which < most_harts }
+fn change_devices<D: DiskPort>(hart: u8, devices: &mut Devices<D>, beside: Beside)
+    requires there { hart < most_harts }
     requires starts { StartsOneOf most_harts beside }
-    ensures { devices.new ≡ devices_beside beside which devices.old }
+    ensures { devices.new ≡ devices_beside beside hart devices.old }
 {
     match beside {
-        Beside::SetsTimer { at } => devices.set_timer(which, at),
+        Beside::SetsTimer { at } => devices.set_timer(hart, at),
         Beside::StartsHart {
             other,
             pc: _,
@@ -56,26 +56,26 @@ fn change_devices<D: DiskPort>(which: u8, devices: &mut Devices<D>, beside: Besi
 /// harts, to devices and in the journal.
 #[tactic(auto, using(crate::proofs::Starting::fewer))]
 pub fn give<D: DiskPort>(
-    which: u8,
+    hart: u8,
     seats: &mut [Seat],
     guard: &Guard,
     devices: &mut Devices<D>,
     journal: &mut Journal,
     answer: &Answer,
 )
-    requires there { which < length seats.old }
+    requires there { hart < length seats.old }
     requires few { length seats.old ≤ most_harts }
     requires room { length journal.old.printed < most_printed }
     requires counts { MayCount journal.old.counts }
     requires starts { StartsOneOf (length seats.old) answer.now.beside }
-    ensures hosts { hosts_of seats.new ≡ hosts_beside answer.now.beside (update (hosts_of seats.old) which (host_replied answer.now.reply)) }
-    ensures devices { devices.new ≡ devices_beside answer.now.beside which devices.old }
-    ensures journal { journal.new ≡ journal_beside answer.now.beside which journal.old }
+    ensures hosts { hosts_of seats.new ≡ hosts_beside answer.now.beside (update (hosts_of seats.old) hart (host_replied answer.now.reply)) }
+    ensures devices { devices.new ≡ devices_beside answer.now.beside hart devices.old }
+    ensures journal { journal.new ≡ journal_beside answer.now.beside hart journal.old }
     ensures number { length seats.new ≡ length seats.old }
 {
     let Answer { reply, beside } = *answer;
-    reply_at(seats, guard, which, reply);
+    reply_at(seats, guard, hart, reply);
     change_harts(seats, guard, beside);
-    change_devices(which, devices, beside);
-    journal.record(which, beside);
+    change_devices(hart, devices, beside);
+    journal.record(hart, beside);
 }

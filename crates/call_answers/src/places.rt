@@ -27,22 +27,22 @@ fn reply_to(seat: &mut Seat, guard: &Guard, reply: Reply)
 
 /// The hart that called gets its reply.
 #[tactic(auto, using(crate::proofs::Changed::seat_changed))]
-pub fn reply_at(seats: &mut [Seat], guard: &Guard, which: u8, reply: Reply)
-    requires there { which < length seats.old }
-    ensures hosts { hosts_of seats.new ≡ update (hosts_of seats.old) which (host_replied reply) }
+pub fn reply_at(seats: &mut [Seat], guard: &Guard, hart: u8, reply: Reply)
+    requires there { hart < length seats.old }
+    ensures hosts { hosts_of seats.new ≡ update (hosts_of seats.old) hart (host_replied reply) }
     ensures number { length seats.new ≡ length seats.old }
 {
-    let seat = &mut seats[usize::from(which)];
+    let seat = &mut seats[usize::from(hart)];
     reply_to(seat, guard, reply);
 }
 
 /// The hart begins in kernel mode at an address, with its number and a value.
 #[tactic(auto, using(crate::proofs::Changed::seat_changed))]
-pub fn start_at(seats: &mut [Seat], guard: &Guard, which: u8, pc: u64, opaque: u64)
-    requires there { which < length seats.old }
-    ensures hosts { hosts_of seats.new ≡ update (hosts_of seats.old) which (host_started which pc opaque) }
+pub fn start_at(seats: &mut [Seat], guard: &Guard, hart: u8, pc: u64, opaque: u64)
+    requires there { hart < length seats.old }
+    ensures hosts { hosts_of seats.new ≡ update (hosts_of seats.old) hart (host_started hart pc opaque) }
     ensures number { length seats.new ≡ length seats.old }
 {
-    let seat = &mut seats[usize::from(which)];
-    start(&mut seat.hart, &mut seat.side, guard, which, pc, opaque);
+    let seat = &mut seats[usize::from(hart)];
+    start(&mut seat.hart, &mut seat.side, guard, hart, pc, opaque);
 }

@@ -32,12 +32,12 @@ pub record IsOn (w : Walk) : Type 0 where
   pub stopped : w.stopped ≡ None
 
 -- the walk after a word that goes to the positional whose turn it is
-abbrev pub placed : List Rule → Walk → Text → Walk
-placed c w word = to_positional c (arg_by_index c w.position) word w w.held
+abbrev pub walk_behind : List Rule → Walk → Text → Walk
+walk_behind c w word = to_positional c (arg_by_index c w.position) word w w.held
 
-placed_is : (c : List Rule) (w : Walk) (word : Text) → IsOn w → NoDash word → walked c [] w word ≡ placed c w word
+placed_is : (c : List Rule) (w : Walk) (word : Text) → IsOn w → NoDash word → walked c [] w word ≡ walk_behind c w word
 unfolding walked
-placed_is c w word on plain = elim on.waiting as (λ _. walked c [] w word ≡ placed c w word) [
+placed_is c w word on plain = elim on.waiting as (λ _. walked c [] w word ≡ walk_behind c w word) [
   | inl e ↦ rw (on.stopped, on.is_trailing, e, no_hyphens word plain, no_long word plain, no_short word plain) refl
   | inr e ↦ rw (on.stopped, on.is_trailing, e, no_hyphens word plain, no_long word plain, no_short word plain) refl
 ]
@@ -80,28 +80,28 @@ to_positional_on c (Some a) w word on plain = record {
     go true = inr refl
     go false = inl refl
 
-placed_on : (c : List Rule) (w : Walk) (word : Text) → NoneTrails c → IsOn w → IsOn (placed c w word)
+placed_on : (c : List Rule) (w : Walk) (word : Text) → NoneTrails c → IsOn w → IsOn (walk_behind c w word)
 placed_on c w word none on = to_positional_on c (arg_by_index c w.position) w word on (find_trails (λ a. option_map_or (λ k. k == w.position) a.index false) c none)
 
 -- the walk over plain words
-pub walk_is : (c : List Rule) (w : Walk) (words : List Text) → NoneTrails c → IsOn w → list_any has_dash words ≡ false → fold (walked c []) w words ≡ fold (placed c) w words
+pub walk_is : (c : List Rule) (w : Walk) (words : List Text) → NoneTrails c → IsOn w → list_any has_dash words ≡ false → fold (walked c []) w words ≡ fold (walk_behind c) w words
 walk_is c w [] none on plain = refl
 walk_is c w (word ∷ rest) none on plain =
     let parts = or_parts (has_dash word) (list_any has_dash rest) plain in
-    ap (λ v. fold (walked c []) v rest) (placed_is c w word on parts.0) ∙ walk_is c (placed c w word) rest none (placed_on c w word none on) parts.1
+    ap (λ v. fold (walked c []) v rest) (placed_is c w word on parts.0) ∙ walk_is c (walk_behind c w word) rest none (placed_on c w word none on) parts.1
 
 -- the words find their positionals
 abbrev pub placed_pass : Shape → Walk → List Text → Bool
 placed_pass s w [] = true
-placed_pass s w (word ∷ rest) = step_passes s w.position w.held value && placed_pass s (placed s.rules w word) rest
+placed_pass s w (word ∷ rest) = step_passes s w.position w.held value && placed_pass s (walk_behind s.rules w word) rest
 
 pub pass_is : (s : Shape) (w : Walk) (words : List Text) → NoneTrails s.rules → IsOn w → list_any has_dash words ≡ false → walk_passes s [] w words ≡ placed_pass s w words
 unfolding walk_passes
 pass_is s w [] none on plain = refl
 pass_is s w (word ∷ rest) none on plain =
     let parts = or_parts (has_dash word) (list_any has_dash rest) plain in
-    let later : walk_passes s [] (walked s.rules [] w word) rest ≡ placed_pass s (placed s.rules w word) rest =
-    ap (λ v. walk_passes s [] v rest) (placed_is s.rules w word on parts.0) ∙ pass_is s (placed s.rules w word) rest none (placed_on s.rules w word none on) parts.1 in
+    let later : walk_passes s [] (walked s.rules [] w word) rest ≡ placed_pass s (walk_behind s.rules w word) rest =
+    ap (λ v. walk_passes s [] v rest) (placed_is s.rules w word on parts.0) ∙ pass_is s (walk_behind s.rules w word) rest none (placed_on s.rules w word none on) parts.1 in
     ap₂ (λ a b. a && b) (turn_is s w word on parts.0) later
 
 -- ---- behind the name of a subcommand

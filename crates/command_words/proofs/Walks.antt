@@ -13,7 +13,7 @@ use Rattle.clap.proofs.WalkLemmas.{walk_stopped}
 use Rattle.command_words.specs.declared.command.DiskKind.{DiskKind}
 use Rattle.command_words.specs.Commands.{Split, Flat, Gen, Run, Measure, Convert, has_dash}
 use Rattle.command_words.specs.Parsing.{whole_app, split_found}
-use Rattle.command_words.proofs.PlainWords.{IsOn, NoneTrails, placed, placed_pass, pass_is, stopped_pass, walk_is}
+use Rattle.command_words.proofs.PlainWords.{IsOn, NoneTrails, walk_behind, placed_pass, pass_is, stopped_pass, walk_is}
 
 pub simple : is_simple whole_app ≡ true
 unfolding clap_on_literals
@@ -50,7 +50,7 @@ module _ (name : Text) (s : Shape) (is : IsNamed name s) (words : List Text) whe
 
   -- the rows of the subcommand
   rows_behind : list_any has_dash words ≡ false
-      → subcommand_of whole_app (name ∷ words) ≡ Some (s.name, finished s.rules (fold (placed s.rules) start words).held)
+      → subcommand_of whole_app (name ∷ words) ≡ Some (s.name, finished s.rules (fold (walk_behind s.rules) start words).held)
   rows_behind plain =
       let entering : subcommand_of whole_app (name ∷ words) ≡ entered (built whole_app) (Some (name, words)) =
       ap (λ (w : Walk). entered (built whole_app) w.stopped) behind in
@@ -64,7 +64,7 @@ module _ (name : Text) (s : Shape) (is : IsNamed name s) (words : List Text) whe
 
   -- the subcommand takes its words
   level_behind : list_any has_dash words ≡ false
-      → level_passes s [] nothing_held words false ≡ ends_well (placed_pass s start words) (fold (placed s.rules) start words)
+      → level_passes s [] nothing_held words false ≡ ends_well (placed_pass s start words) (fold (walk_behind s.rules) start words)
   level_behind plain = ap₂ ends_well (pass_is s start words is.trails start_on plain) (walk_is s.rules start words is.trails start_on plain)
 
   abbrev starts_well : Bool → Walk → Bool
@@ -118,8 +118,8 @@ pub record IsRead (words : List Text) (split : Split) : Type 0 where
   pub found : split_found (subcommand_of whole_app words) ≡ Some split
 
 read_by : (name : Text) (s : Shape) (is : IsNamed name s) (words : List Text) (split : Split) → list_any has_dash words ≡ false
-    → ends_well name s is words (placed_pass s start words) (fold (placed s.rules) start words) ≡ true
-    → split_found (Some (s.name, finished s.rules (fold (placed s.rules) start words).held)) ≡ Some split
+    → ends_well name s is words (placed_pass s start words) (fold (walk_behind s.rules) start words) ≡ true
+    → split_found (Some (s.name, finished s.rules (fold (walk_behind s.rules) start words).held)) ≡ Some split
     → IsRead (name ∷ words) split
 read_by name s is words split plain ends found = record {
   taken = taken_behind name s is words (level_behind name s is words plain ∙ ends);
@@ -173,7 +173,7 @@ all_three false y z ex ey ez = ex
 module _ (a b c d e f : Text) where
   -- behind the six words that are wanted
   abbrev six : Walk
-  six = fold (placed measure_shape.rules) start (a ∷ b ∷ c ∷ d ∷ e ∷ f ∷ [])
+  six = fold (walk_behind measure_shape.rules) start (a ∷ b ∷ c ∷ d ∷ e ∷ f ∷ [])
 
   -- behind these modules
   abbrev behind_modules : List Text → Walk
@@ -182,7 +182,7 @@ module _ (a b c d e f : Text) where
     waiting = positional;
   }
 
-  more_modules : (seen words : List Text) → fold (placed measure_shape.rules) (behind_modules seen) words ≡ behind_modules (seen ++ words)
+  more_modules : (seen words : List Text) → fold (walk_behind measure_shape.rules) (behind_modules seen) words ≡ behind_modules (seen ++ words)
   more_modules seen [] = ap behind_modules (sym (append-nil seen))
   more_modules seen (word ∷ rest) = more_modules (seen ++ word ∷ []) rest ∙ ap behind_modules (append_assoc seen (word ∷ []) rest)
 

@@ -25,8 +25,8 @@ abbrev pub with_wanted : App → Text → App
 with_wanted app name = with_rule app (wanted_rule name)
 
 -- a command that wants a word under each of the names
-abbrev pub wanting : Text → List Text → App
-wanting name names = fold with_wanted (new_app name) names
+abbrev pub app_of_names : Text → List Text → App
+app_of_names name names = fold with_wanted (new_app name) names
 
 abbrev pub flat_names : List Text
 flat_names = codes "FILE" ∷ codes "MEASURE" ∷ codes "EVENTS" ∷ []
@@ -44,22 +44,22 @@ abbrev pub convert_names : List Text
 convert_names = codes "KERNEL" ∷ codes "IN" ∷ codes "OUT" ∷ []
 
 abbrev pub flat_app : App
-flat_app = wanting (codes "flat") flat_names
+flat_app = app_of_names (codes "flat") flat_names
 
 abbrev pub gen_app : App
-gen_app = wanting (codes "gen") gen_names
+gen_app = app_of_names (codes "gen") gen_names
 
 abbrev pub run_app : App
-run_app = wanting (codes "run") run_names
+run_app = app_of_names (codes "run") run_names
 
 abbrev pub vrun_app : App
-vrun_app = wanting (codes "vrun") run_names
+vrun_app = app_of_names (codes "vrun") run_names
 
 abbrev pub measure_app : App
-measure_app = with_rule (wanting (codes "measure") measure_names) (list_rule (codes "MODULES"))
+measure_app = with_rule (app_of_names (codes "measure") measure_names) (list_rule (codes "MODULES"))
 
 abbrev pub convert_app : App
-convert_app = wanting (codes "convert") convert_names
+convert_app = app_of_names (codes "convert") convert_names
 
 -- the words begin with the name of a command, and nothing asks for help
 abbrev pub bare_app : App

@@ -2,7 +2,7 @@
 ghost use Rattle.std.specs.Prelude.{◌≡◌, IfOk, false, map};
 ghost use Rattle.clap.specs.Words.{app_of, rule_of, with_subcommand};
 ghost use Rattle.clap.specs.declared.builder.Command.TheViews.{out-Command};
-ghost use Rattle.command_words.specs.Parsing.{wanted_rule, list_rule, wanting, measure_app, bare_app, whole_app};
+ghost use Rattle.command_words.specs.Parsing.{wanted_rule, list_rule, app_of_names, measure_app, bare_app, whole_app};
 
 use clap::{Arg, ArgAction, Command};
 use std::alloc::{AllocError, Global};
@@ -36,7 +36,7 @@ fn with_words<'a>(
     name: &'a str,
     words: &[&'a str],
 ) -> Result<Command<'a>, AllocError>
-    ensures { IfOk result (λ c. app_of c ≡ with_subcommand (app_of program.entry) (wanting name.entry.now (map (λ w. w.now) words.now)).top) }
+    ensures { IfOk result (λ c. app_of c ≡ with_subcommand (app_of program.entry) (app_of_names name.entry.now (map (λ w. w.now) words.now)).top) }
 {
     let command = wanting(alloc, name, words)?;
     program.subcommand(command)
@@ -69,7 +69,7 @@ fn measure<'a>(alloc: Global) -> Result<Command<'a>, AllocError>
 
 // A command that wants a word under each of the names.
 fn wanting<'a>(alloc: Global, name: &'a str, words: &[&'a str]) -> Result<Command<'a>, AllocError>
-    ensures app { IfOk result (λ c. app_of c ≡ wanting name.entry.now (map (λ w. w.now) words.now)) }
+    ensures app { IfOk result (λ c. app_of c ≡ app_of_names name.entry.now (map (λ w. w.now) words.now)) }
     ensures local { IfOk result (λ c. (out-Command c).has_globals ≡ false) }
 {
     let mut command = Command::new(alloc, name);

@@ -12,7 +12,7 @@ use Rattle.reference.specs.Disk.{disk_bytes}
 use Rattle.reference.specs.Report.{output, report}
 use Rattle.reference.specs.Run.{step}
 use Rattle.reference.specs.States.{State, Journal}
-use Rattle.machine_model.specs.HardwareEvent.{IsEvent, HappensUnder, Happens, TurnOf, HartTurn, StartedTurn, OneOrTwo, Attempts, AfterOutcome, sent_again, hart_again, attempted, is_loading, Written, written}
+use Rattle.machine_model.specs.HardwareEvent.{IsEvent, HappensUnder, Happens, TurnOf, HartTurn, StartedTurn, OneOrTwo, Attempts, AfterOutcome, sent_again, hart_again, attempt_of, is_loading, Written, with_bytes_at}
 use Rattle.machine_model.specs.HostHarts.{asks_again}
 use Rattle.machine_model.specs.Machine.{Machine, HostHart}
 use Rattle.machine_model.specs.Reaches.{Cleared, IsNew}
@@ -59,7 +59,7 @@ outcome_keeps (Outcome.Retired wrote) m h a after it = ap (λ (x : Machine). x.c
 outcome_keeps Outcome.GuestTrap m h a after it = ap (λ (x : Machine). x.cleared) it.same
 
 once_keeps : (m : Machine) (h : ℕ) (hart : HostHart) (after : Machine) → Attempts m h hart after → after.cleared ≡ m.cleared
-once_keeps m h hart after it = outcome_keeps (attempted m h hart).outcome m h (attempted m h hart) after it
+once_keeps m h hart after it = outcome_keeps (attempt_of m h hart).outcome m h (attempt_of m h hart) after it
 
 attempts_keep : (again : Bool) (m : Machine) (h : ℕ) (hart : HostHart) (after : Machine) → OneOrTwo again m h hart after → after.cleared ≡ m.cleared
 attempts_keep false m h hart after it = once_keeps m h hart after it
@@ -67,7 +67,7 @@ attempts_keep true m h hart after it = once_keeps (sent_again m h hart) h (hart_
 
 started_keeps : (loads : Bool) (m : Machine) (h : ℕ) (hart : HostHart) (after : Machine) → StartedTurn loads m h hart after → after.cleared ≡ m.cleared
 started_keeps true m h hart after it = ap (λ (x : Machine). x.cleared) it.same
-started_keeps false m h hart after it = attempts_keep (asks_again m.region.ram m.rules hart (attempted m h hart).outcome) m h hart after it
+started_keeps false m h hart after it = attempts_keep (asks_again m.region.ram m.rules hart (attempt_of m h hart).outcome) m h hart after it
 
 hart_keeps : (started : Bool) (m : Machine) (h : ℕ) (hart : HostHart) (after : Machine) → HartTurn started m h hart after → after.cleared ≡ m.cleared
 hart_keeps true m h hart after it = started_keeps (is_loading m.loading h) m h hart after it
@@ -77,7 +77,7 @@ turn_keeps : (m : Machine) (h : ℕ) (hart : Option HostHart) (after : Machine) 
 turn_keeps m h None after it = ap (λ (x : Machine). x.cleared) it.same
 turn_keeps m h (Some hart) after it = hart_keeps hart.started m h hart after it
 
-beat_keeps_by : (before : Machine) (bytes : Option Written) → (written before bytes).cleared ≡ before.cleared
+beat_keeps_by : (before : Machine) (bytes : Option Written) → (with_bytes_at before bytes).cleared ≡ before.cleared
 beat_keeps_by before None = refl
 beat_keeps_by before (Some w) = refl
 

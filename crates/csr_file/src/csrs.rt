@@ -2,7 +2,7 @@
 
 ghost use Rattle.std.specs.Prelude.{◌≡◌, ◌^◌, ◌<◌, true};
 ghost use Rattle.std.specs.Result.{result_err};
-ghost use Rattle.processor.specs.HypervisorRegisters.{registers_at_boot, hip_value, at_hypervisor_places, aliased, with_alias, is_hypervisor_number, refusal, csr_access, read_virtual, write_virtual, read_answer, after_write};
+ghost use Rattle.processor.specs.HypervisorRegisters.{registers_at_boot, hip_value, at_hypervisor_places, guest_alias, with_alias, is_hypervisor_number, refusal, csr_access, read_virtual, write_virtual, read_answer, after_write};
 ghost use Rattle.processor.specs.Registers.{legal_satp};
 
 use crate::masks::{
@@ -93,9 +93,9 @@ fn refusal(mode: Mode, scounteren: u64, writes: bool, csr: Csr) -> Option<CsrFau
 }
 
 /// A register of interrupts as the guest sees it.
-#[tactic(auto, unfolding(processor::specs::HypervisorRegisters::aliased))]
+#[tactic(auto, unfolding(processor::specs::HypervisorRegisters::guest_alias))]
 fn aliased(hideleg: u64, register: u64) -> u64
-    ensures { result ≡ aliased hideleg register }
+    ensures { result ≡ guest_alias hideleg register }
 {
     (register & (hideleg & VIRTUAL_INTERRUPT_BITS)) >> 1
 }

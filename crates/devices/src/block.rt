@@ -7,7 +7,7 @@ ghost use Rattle.reference.specs.Disk.{is_writable};
 ghost use Rattle.reference.specs.States.{BlockDisk};
 ghost use Rattle.sv_types.specs.declared.block.BlockCommand.TheVariants.{DiskToMemory, MemoryToDisk};
 ghost use Rattle.sv_types.specs.declared.block.BlockStatus.TheVariants.{Busy};
-ghost use Rattle.dma_guard.specs.Transfers.{told, after_move};
+ghost use Rattle.dma_guard.specs.Transfers.{beat_of, after_move};
 ghost use Rattle.devices.specs.BlockRegisters.{IsSound, idle_disk, register_named, width_of, beat_to_memory, beat_to_disk};
 
 mod registers;
@@ -137,7 +137,7 @@ impl Block {
         requires busy { self.old.block.status ≡ Busy DiskToMemory done }
         requires gpa { gpa ≡ beat_gpa self.old.block }
         ensures device { self.new ≡ (beat_to_memory self.old mem.old.ram (is_writable guard.now)).device }
-        ensures told { result ≡ told (beat_to_memory self.old mem.old.ram (is_writable guard.now)).move }
+        ensures told { result ≡ beat_of (beat_to_memory self.old mem.old.ram (is_writable guard.now)).move }
         ensures memory { mem.new ≡ after_move mem.old (beat_to_memory self.old mem.old.ram (is_writable guard.now)).move }
     {
         let place = self.beat_place(done);
@@ -166,7 +166,7 @@ impl Block {
         requires busy { self.old.block.status ≡ Busy MemoryToDisk done }
         requires gpa { gpa ≡ beat_gpa self.old.block }
         ensures device { self.new ≡ (beat_to_disk self.old mem.now.ram).device }
-        ensures told { result ≡ told (beat_to_disk self.old mem.now.ram).move }
+        ensures told { result ≡ beat_of (beat_to_disk self.old mem.now.ram).move }
     {
         let mut bytes = [0; BEAT_LENGTH];
         match guard.read(mem, gpa, &mut bytes) {

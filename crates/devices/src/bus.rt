@@ -5,7 +5,7 @@ ghost use Rattle.sv_types.specs.Clock.{after_tick, timer_of, with_timer};
 ghost use Rattle.sv_types.specs.Console.{has_room, after_key, without_first};
 ghost use Rattle.reference.specs.Devices.{DeviceLoad, device_load, device_store, lines_at, external_line};
 ghost use Rattle.reference.specs.Disk.{is_writable, disk_bytes, disk_beat};
-ghost use Rattle.dma_guard.specs.Transfers.{told, after_move};
+ghost use Rattle.dma_guard.specs.Transfers.{beat_of, after_move};
 ghost use Rattle.devices.specs.Bus.{devices_at_boot, devices_loaded, devices_stored, journal_stored};
 
 use crate::clock::{Clock, HARTS};
@@ -115,7 +115,7 @@ impl<D: DiskPort> Devices<D> {
     /// One beat of the block device, which writes RAM through the guard alone.
     pub fn beat(&mut self, guard: &DmaGuard, mem: &mut HostMem) -> Beaten
         ensures devices { self.new ≡ record self.old { disk = (disk_beat self.old.disk mem.old.ram (is_writable guard.now)).disk } }
-        ensures told { result ≡ told (disk_beat self.old.disk mem.old.ram (is_writable guard.now)).move }
+        ensures told { result ≡ beat_of (disk_beat self.old.disk mem.old.ram (is_writable guard.now)).move }
         ensures memory { mem.new ≡ after_move mem.old (disk_beat self.old.disk mem.old.ram (is_writable guard.now)).move }
     {
         self.disk.beat(guard, mem)

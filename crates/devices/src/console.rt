@@ -1,7 +1,7 @@
 // Bytes of input, and what a guest loads and stores.
 
 ghost use Rattle.std.specs.Prelude.{◌≡◌, ◌≤◌, [], length, slice_get};
-ghost use Rattle.sv_types.specs.Console.{most_queued, has_room, after_key, without_first, console_line, register_value, loaded, after_load, stored};
+ghost use Rattle.sv_types.specs.Console.{most_queued, has_room, after_key, without_first, console_line, register_value, console_load, after_load, stored_byte};
 ghost use Rattle.sv_types.specs.Console.ConsoleRegister.{Status};
 
 use arrayvec::ArrayVec;
@@ -87,7 +87,7 @@ impl Console {
     /// the first byte of the queue, and gives 0 where there is none.
     #[tactic(auto, unfolding(sv_types::specs::Console::loaded_register))]
     pub fn load(&mut self, offset: u64, width: u8) -> Option<u64>
-        ensures value { result ≡ loaded self.old offset width }
+        ensures value { result ≡ console_load self.old offset width }
         ensures queue { self.new ≡ after_load self.old offset width }
     {
         if width != 1 {
@@ -102,7 +102,7 @@ impl Console {
 
     /// A store of `width` bytes at an offset: the byte that it prints. None where no register has that offset and width.
     pub fn store(&mut self, offset: u64, width: u8, value: u64) -> Option<u8>
-        ensures printed { result ≡ stored offset width value }
+        ensures printed { result ≡ stored_byte offset width value }
         ensures queue { self.new ≡ self.old }
     {
         if offset == DATA && width == 1 {

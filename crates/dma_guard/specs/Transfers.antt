@@ -36,12 +36,12 @@ after_read ram gpa before = if in_ram ram gpa (length before) then part ram (ram
 -- ---- beats
 
 -- what a beat tells of its move
-abbrev pub told : Move → Beaten
-told Move.Idle = Beaten.Idle
-told (Move.FromRam gpa) = Beaten.Read gpa
-told (Move.IntoRam gpa bytes) = Beaten.Wrote gpa (length bytes)
-told (Move.DeniedAt gpa) = Beaten.Denied gpa
-told Move.OutsideRam = Beaten.Range
+abbrev pub beat_of : Move → Beaten
+beat_of Move.Idle = Beaten.Idle
+beat_of (Move.FromRam gpa) = Beaten.Read gpa
+beat_of (Move.IntoRam gpa bytes) = Beaten.Wrote gpa (length bytes)
+beat_of (Move.DeniedAt gpa) = Beaten.Denied gpa
+beat_of Move.OutsideRam = Beaten.Range
 
 -- the region after a move
 abbrev pub after_move : Region → Move → Region

@@ -2,7 +2,7 @@
 ghost use Rattle.std.specs.Prelude.{◌≡◌, is_some, unwrap_or};
 ghost use Rattle.reference.specs.States.{Disk};
 ghost use Rattle.reference.specs.Disk.{is_writable, disk_bytes, disk_load, disk_store, disk_beat, disk_line};
-ghost use Rattle.dma_guard.specs.Transfers.{told, after_move};
+ghost use Rattle.dma_guard.specs.Transfers.{beat_of, after_move};
 
 use crate::DmaGuard;
 use host_mem::HostMem;
@@ -39,7 +39,7 @@ pub trait DiskPort {
     /// One beat of the transfer under way, if there is one. It writes RAM through the guard alone.
     fn beat(&mut self, guard: &DmaGuard, mem: &mut HostMem) -> Beaten
         ensures device { state self.new ≡ (disk_beat (state self.old) mem.old.ram (is_writable guard.now)).disk }
-        ensures told { result ≡ told (disk_beat (state self.old) mem.old.ram (is_writable guard.now)).move }
+        ensures told { result ≡ beat_of (disk_beat (state self.old) mem.old.ram (is_writable guard.now)).move }
         ensures memory { mem.new ≡ after_move mem.old (disk_beat (state self.old) mem.old.ram (is_writable guard.now)).move };
 
     /// Whether a transfer has ended, which sets the interrupt line.

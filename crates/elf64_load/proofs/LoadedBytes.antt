@@ -3,7 +3,7 @@ use Rattle.std.proofs.Common.{◌≡◌, ℕ, zero, suc, ◌+◌, ◌-◌, ◌*�
 use Rattle.std.specs.Prelude.{nat_le, nat_lt, ◌&&◌}
 use Rattle.std.proofs.lemmas.Bool.Decides.{nat_tests}
 use Rattle.std.proofs.lemmas.List.{places, get_or-append_right, ext_get_or, get_or_past}
-use Rattle.processor.specs.Bytes.{overwrite, padded, part, page_bytes, page_size, ram_place}
+use Rattle.processor.specs.Bytes.{overwrite, with_padding, part, page_bytes, page_size, ram_place}
 use Rattle.sv_types.specs.Kernel.{LoadedSegment, with_segment}
 use Rattle.processor_laws.proofs.ByteLemmas.{lt_or_le, length_overwrite, length_padded, length_part}
 
@@ -14,7 +14,7 @@ zero_at zero i = refl
 zero_at (suc n) zero = refl
 zero_at (suc n) (suc i) = zero_at n i
 
-pub at_padded : (bytes : List ℕ) (n i : ℕ) → get_or (padded bytes n) i 0 ≡ get_or bytes i 0
+pub at_padded : (bytes : List ℕ) (n i : ℕ) → get_or (with_padding bytes n) i 0 ≡ get_or bytes i 0
 at_padded bytes n i = elim (lt_or_le i (length bytes)) [
   | inl inside ↦ search (rules, places)
   | inr behind ↦
@@ -49,7 +49,7 @@ pub length_with_segment : (ram : List ℕ) (s : LoadedSegment) → Lies (length 
 length_with_segment ram s lies =
     let len = length_padded s.bytes s.memory lies.short in
     let inside = lies.inside in
-    length_overwrite ram (padded s.bytes s.memory) (ram_place s.gpa) (omega arith)
+    length_overwrite ram (with_padding s.bytes s.memory) (ram_place s.gpa) (omega arith)
 
 -- a byte that isn't the segment's stays
 pub byte_elsewhere : (ram : List ℕ) (s : LoadedSegment) (i : ℕ) → Lies (length ram) s
@@ -59,10 +59,10 @@ byte_elsewhere ram s i lies apart =
     let len = length_padded s.bytes s.memory lies.short in
     let inside = lies.inside in
     elim (lt_or_le i (ram_place s.gpa)) [
-      | inl before ↦ at_before ram (padded s.bytes s.memory) (ram_place s.gpa) i (omega arith) before
+      | inl before ↦ at_before ram (with_padding s.bytes s.memory) (ram_place s.gpa) i (omega arith) before
       | inr from ↦
           let behind : ram_place s.gpa + s.memory ≤ i = grind (arith, nat_tests) in
-          at_behind ram (padded s.bytes s.memory) (ram_place s.gpa) i (omega arith) (omega arith)
+          at_behind ram (with_padding s.bytes s.memory) (ram_place s.gpa) i (omega arith) (omega arith)
     ]
 
 -- a byte that is the segment's, or a zero behind its memory, is its byte or the zero behind them
@@ -74,11 +74,11 @@ byte_there ram s i lies from zero_before =
     let short = lies.short in
     elim (lt_or_le i (ram_place s.gpa + s.memory)) [
       | inl before ↦
-          at_written ram (padded s.bytes s.memory) (ram_place s.gpa) i (omega arith) from (omega arith)
+          at_written ram (with_padding s.bytes s.memory) (ram_place s.gpa) i (omega arith) from (omega arith)
           ∙ at_padded s.bytes s.memory (i - ram_place s.gpa)
       | inr behind ↦
           let past : length s.bytes ≤ i - ram_place s.gpa = omega arith in
-          at_behind ram (padded s.bytes s.memory) (ram_place s.gpa) i (omega arith) (omega arith) ∙ zero_before
+          at_behind ram (with_padding s.bytes s.memory) (ram_place s.gpa) i (omega arith) (omega arith) ∙ zero_before
           ∙ sym (get_or_past s.bytes (i - ram_place s.gpa) 0 past)
     ]
 
@@ -90,12 +90,12 @@ at_part list at n j h = search (rules, places)
 -- a page of RAM is a page of a list, with zeros behind it, where its bytes are
 pub same_page : (ram bytes : List ℕ) (page at : ℕ) → page_size * page + page_size ≤ length ram
     → ((j : ℕ) → j < page_size → get_or ram (page_size * page + j) 0 ≡ get_or bytes (at + j) 0)
-    → padded (part bytes at page_size) page_size ≡ page_bytes ram page
+    → with_padding (part bytes at page_size) page_size ≡ page_bytes ram page
 same_page ram bytes page at inside same =
     let most : length (part bytes at page_size) ≤ page_size = let a = length-take page_size (drop at bytes) in omega arith in
     let padded_length = length_padded (part bytes at page_size) page_size most in
     let page_length = length_part ram (page_size * page) page_size inside in
-    ext_get_or 0 (padded (part bytes at page_size) page_size) (page_bytes ram page) (padded_length ∙ sym page_length)
+    ext_get_or 0 (with_padding (part bytes at page_size) page_size) (page_bytes ram page) (padded_length ∙ sym page_length)
     (λ j h.
     let below : j < page_size = omega arith in
     at_padded (part bytes at page_size) page_size j ∙ at_part bytes at page_size j below ∙ sym (same j below)

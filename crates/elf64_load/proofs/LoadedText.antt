@@ -7,7 +7,7 @@ use Rattle.std.proofs.lemmas.Bool.Decides.{nat_tests}
 use Rattle.std.proofs.lemmas.List.{length-replicate}
 use Rattle.std.proofs.lemmas.List.Elements.{All-head, All-tail}
 use Rattle.std.proofs.Math.Bool.{or-true}
-use Rattle.processor.specs.Bytes.{padded, page_bytes, page_size, page_of, ram_base, ram_place}
+use Rattle.processor.specs.Bytes.{with_padding, page_bytes, page_size, page_of, ram_base, ram_place}
 use Rattle.sv_types.specs.Kernel.{LoadedSegment, with_segment, segments_ram, loaded_segment, kernel_segments, kernel_refusal, loaded_headers, table_count, segment_checks, is_executable, may_clash, text_is_shared, first_page, last_page, is_text_of, filled_part, text_page, text_page_in, text_pages, text_of}
 use Rattle.sv_types.specs.ApprovedPages.{numbers_from}
 use Rattle.processor.specs.Regions.{most_ram_pages}
@@ -56,8 +56,8 @@ byte_stays file ram page j h inside sound apart =
     (byte_apart (ram_place h.gpa) h.memory_size page j inside (rw same at apart_here))
 
 -- segments one behind the other
-abbrev loaded : List ℕ → List ℕ → List ProgramHeader → List ℕ
-loaded file ram hs = fold with_segment ram (map (loaded_segment file) hs)
+abbrev with_segments : List ℕ → List ℕ → List ProgramHeader → List ℕ
+with_segments file ram hs = fold with_segment ram (map (loaded_segment file) hs)
 
 sound_still : (file ram : List ℕ) (h : ProgramHeader) (hs : List ProgramHeader) → All (Sound file (length ram)) (h ∷ hs)
     → All (Sound file (length (with_segment ram (loaded_segment file h)))) hs
@@ -67,7 +67,7 @@ sound_still file ram h hs sound =
 
 byte_stays_behind : (file ram : List ℕ) (page j : ℕ) (hs : List ProgramHeader) → j < page_size → All (Sound file (length ram)) hs
     → list_any (touches page) hs ≡ false
-    → get_or (loaded file ram hs) (page_size * page + j) 0 ≡ get_or ram (page_size * page + j) 0
+    → get_or (with_segments file ram hs) (page_size * page + j) 0 ≡ get_or ram (page_size * page + j) 0
 byte_stays_behind file ram page j [] inside sound apart = refl
 byte_stays_behind file ram page j (h ∷ hs) inside sound apart =
     let here = or_parts (touches page h) (list_any (touches page) hs) apart in
@@ -119,7 +119,7 @@ place_in_segment place page j whole from = grind arith
 
 text_byte : (file ram : List ℕ) (page j : ℕ) (hs : List ProgramHeader) (s : LoadedSegment) → j < page_size → All (Sound file (length ram)) hs
     → text_is_shared hs ≡ false → find (is_text_of page) (map (loaded_segment file) hs) ≡ Some s → get_or ram (page_size * page + j) 0 ≡ 0
-    → get_or (loaded file ram hs) (page_size * page + j) 0 ≡ get_or s.bytes (page_size * (page - page_of s.gpa) + j) 0
+    → get_or (with_segments file ram hs) (page_size * page + j) 0 ≡ get_or s.bytes (page_size * (page - page_of s.gpa) + j) 0
 text_byte file ram page j [] s inside sound apart found zeros = cc
 text_byte file ram page j (h ∷ hs) s inside sound apart found zeros =
     let here = All-head (Sound file (length ram)) h hs sound in
@@ -150,7 +150,7 @@ text_byte file ram page j (h ∷ hs) s inside sound apart found zeros =
 
 -- ---- a page of text
 
-length_loaded : (file ram : List ℕ) (hs : List ProgramHeader) → All (Sound file (length ram)) hs → length (loaded file ram hs) ≡ length ram
+length_loaded : (file ram : List ℕ) (hs : List ProgramHeader) → All (Sound file (length ram)) hs → length (with_segments file ram hs) ≡ length ram
 length_loaded file ram [] sound = refl
 length_loaded file ram (h ∷ hs) sound =
     length_loaded file (with_segment ram (loaded_segment file h)) hs (sound_still file ram h hs sound)
@@ -170,11 +170,11 @@ text_inside file size page (h ∷ hs) s sound found = elim (cases_Bool (is_text_
 text_page_loaded : (file ram : List ℕ) (ram_pages page : ℕ) (hs : List ProgramHeader) (s : LoadedSegment) → length ram ≡ page_size * ram_pages
     → ((i : ℕ) → get_or ram i 0 ≡ 0) → All (Sound file (length ram)) hs → text_is_shared hs ≡ false
     → find (is_text_of page) (map (loaded_segment file) hs) ≡ Some s
-    → padded (filled_part page s) page_size ≡ page_bytes (loaded file ram hs) page
+    → with_padding (filled_part page s) page_size ≡ page_bytes (with_segments file ram hs) page
 text_page_loaded file ram ram_pages page hs s size zeros sound apart found =
     let len = length_loaded file ram hs sound in
     let inside = text_inside file (length ram) page hs s sound found in
-    same_page (loaded file ram hs) s.bytes page (page_size * (page - page_of s.gpa)) (omega arith)
+    same_page (with_segments file ram hs) s.bytes page (page_size * (page - page_of s.gpa)) (omega arith)
     (λ j below. text_byte file ram page j hs s below sound apart found (zeros (page_size * page + j)))
 
 found_first : (b : Bool) (s : LoadedSegment) (c : Bool) (o : Option LoadedSegment) → c ≡ is_some o → (b || c) ≡ is_some (if b then Some s else o)
@@ -192,7 +192,7 @@ page_none page (Some s) none = cc
 page_found : (file ram : List ℕ) (ram_pages page : ℕ) (hs : List ProgramHeader) → length ram ≡ page_size * ram_pages
     → ((i : ℕ) → get_or ram i 0 ≡ 0) → All (Sound file (length ram)) hs → text_is_shared hs ≡ false
     → (o : Option LoadedSegment) → find (is_text_of page) (map (loaded_segment file) hs) ≡ o → is_some o ≡ true
-    → text_page_in page o ≡ page_bytes (loaded file ram hs) page
+    → text_page_in page o ≡ page_bytes (with_segments file ram hs) page
 page_found file ram ram_pages page hs size zeros sound apart None found some = cc
 page_found file ram ram_pages page hs size zeros sound apart (Some s) found some = text_page_loaded file ram ram_pages page hs s size zeros sound apart found
 
@@ -217,7 +217,7 @@ text_loaded file ram_pages hs sound apart =
     let ram : List ℕ = replicate (page_size * ram_pages) 0 in
     let size : length ram ≡ page_size * ram_pages = length-replicate (page_size * ram_pages) 0 in
     let sound_here : All (Sound file (length ram)) hs = rw size sound in
-    passing (text_page ss) (page_bytes (loaded file ram hs)) (λ page. list_any (is_text_of page) ss)
+    passing (text_page ss) (page_bytes (with_segments file ram hs)) (λ page. list_any (is_text_of page) ss)
     (λ page text. page_found file ram ram_pages page hs size (λ i. zero_at (page_size * ram_pages) i) sound_here apart (find (is_text_of page) ss) refl (sym (found_or_none (is_text_of page) ss) ∙ text))
     (λ page none. page_none page (find (is_text_of page) ss) (sym (found_or_none (is_text_of page) ss) ∙ none))
     (numbers_from 0 most_ram_pages)

@@ -2,12 +2,12 @@
 use Rattle.std.proofs.Common.{◌≡◌, ap}
 use Rattle.std.specs.Prelude.{Ok, Err}
 use Rattle.sv_types.specs.Steps.{◌>>=◌}
-use Rattle.elf64_load.specs.Refusals.{Judged, answered}
+use Rattle.elf64_load.specs.Refusals.{Judged, as_answer}
 use Rattle.elf64_load.specs.declared.read.ElfRefusal.{ElfRefusal}
 use Rattle.elf64_load.specs.declared.read.ElfRefusal.TheVariants.{Fault}
 
 -- why the first step refused is why the two do
-pub refused_on : {A B : Type 0} (judged : Judged A) (f : A → Judged B) (e : ElfRefusal) → answered judged ≡ Err e → answered (judged >>= f) ≡ Err e
+pub refused_on : {A B : Type 0} (judged : Judged A) (f : A → Judged B) (e : ElfRefusal) → as_answer judged ≡ Err e → as_answer (judged >>= f) ≡ Err e
 refused_on (Ok a) f e is = absurd (cc is)
 refused_on (Err fault) f e is =
     let same : Fault fault ≡ e = cc is in ap (λ (x : ElfRefusal). Err x) same

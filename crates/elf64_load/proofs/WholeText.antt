@@ -5,7 +5,7 @@ use Rattle.std.proofs.lemmas.Bool.Decides.{nat_tests}
 use Rattle.std.proofs.lemmas.Bool.{cases_Bool}
 use Rattle.std.proofs.lemmas.List.{take-append-drop, append-nil, drop-drop, length-drop, length-take-le}
 use Rattle.std.proofs.Math.ListN.{drop_of_length-le}
-use Rattle.processor.specs.Bytes.{padded, page_of, ram_place}
+use Rattle.processor.specs.Bytes.{with_padding, page_of, ram_place}
 use Rattle.processor.specs.Regions.{most_ram_pages}
 use Rattle.sv_types.specs.ApprovedPages.{numbers_from}
 use Rattle.sv_types.specs.Kernel.{LoadedSegment, is_text_of, text_of, text_page, text_page_in}
@@ -80,7 +80,7 @@ within s first count page spans from below =
     let long : 4096 ≤ length (drop (4096 * (page - first)) s.bytes) = omega (arith, dropped, filled, below, from) in
     let whole : length (take 4096 (drop (4096 * (page - first)) s.bytes)) ≡ 4096 = length-take-le 4096 (drop (4096 * (page - first)) s.bytes) long in
     rw there
-    (ap (λ (f : ℕ). padded (take 4096 (drop (4096 * (page - f)) s.bytes)) 4096) start
+    (ap (λ (f : ℕ). with_padding (take 4096 (drop (4096 * (page - f)) s.bytes)) 4096) start
     ∙ ap (λ (n : ℕ). take 4096 (drop (4096 * (page - first)) s.bytes) ++ replicate (4096 - n) 0) whole
     ∙ append-nil (take 4096 (drop (4096 * (page - first)) s.bytes)))
 

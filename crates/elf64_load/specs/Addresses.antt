@@ -6,5 +6,5 @@ use Rattle.std.specs.Cmp.Lexicographic.{slice_cmp}
 use Rattle.std.specs.Ordering.{nat_cmp}
 
 -- what the table has at a name
-abbrev pub found : BTreeMap (Bor (List ℕ)) ℕ → List ℕ → Option ℕ
-found addresses name = get_by (λ k. slice_cmp nat_cmp name k.now) addresses
+abbrev pub address_by_name : BTreeMap (Bor (List ℕ)) ℕ → List ℕ → Option ℕ
+address_by_name addresses name = get_by (λ k. slice_cmp nat_cmp name k.now) addresses

@@ -17,7 +17,7 @@ use Rattle.elf64_sections.specs.Sections.{symbol_count, symbol_at, name_at}
 use Rattle.elf64_sections.specs.declared.tables.Symbol.{Symbol}
 use Rattle.elf64_sections.proofs.Steps.{ok_same}
 use Rattle.elf64_reloc.specs.Asking.{asked_of, asked_bytes, place_alignment}
-use Rattle.elf64_reloc.specs.Modules.{Judging, site_at, or_nothing, low_fields, fields_for, fields_with, fields_asked, fields_judged, found_sites, each_judged, call_fields, one_field, judging, is_high_at, relocations_of_object, sites_of}
+use Rattle.elf64_reloc.specs.Modules.{Judging, site_at, or_nothing, low_fields, fields_for, fields_with, fields_asked, fields_judged, found_sites, each_judged, call_fields, one_field, judging_of, is_high_at, relocations_of_object, sites_of}
 use Rattle.elf64_reloc.specs.Objects.{Object}
 use Rattle.elf64_reloc.specs.Refusals.{Judged}
 use Rattle.elf64_reloc.specs.Symbols.{Names, symbol_target, target_of, section_target, space_target, wanted_target, target_at_base}
@@ -308,9 +308,9 @@ symbol_base : (exports : ℕ) (names : Names) (i : ℕ) → AreBases exports nam
 unfolding symbol_target
 symbol_base exports names i bases = symbol_base_by exports names i (nat_lt i (symbol_count names.tables.symbols)) bases
 
-judging_sound : (total : ℕ) (o : Object) (exports : List Export) → Each (IsPlaced total) (relocations_of_object o) → IsSound total (length exports) (judging o exports)
+judging_sound : (total : ℕ) (o : Object) (exports : List Export) → Each (IsPlaced total) (relocations_of_object o) → IsSound total (length exports) (judging_of o exports)
 judging_sound total o exports placed = record {
-  bases = λ symbol. symbol_base (length exports) (judging o exports).names symbol (λ name. position_below (λ (e : Export). bytes_eq e.name name) 3 exports);
+  bases = λ symbol. symbol_base (length exports) (judging_of o exports).names symbol (λ name. position_below (λ (e : Export). bytes_eq e.name name) 3 exports);
   highs = λ place. each_found (IsPlaced total) (is_high_at place) (relocations_of_object o) placed;
 }
 
@@ -318,6 +318,6 @@ judging_sound total o exports placed = record {
 pub object_sites : (total : ℕ) (o : Object) (exports : List Export) (sites : List Site) → sites_of exports o ≡ Ok sites → Each (IsOfText total) (relocations_of_object o) → total ≤ 4096 * 1024
     → Each (IsSiteOf total (length exports)) sites
 object_sites total o exports sites is of most =
-    let j : Judging = judging o exports in
+    let j : Judging = judging_of o exports in
     let placed = all_places total j (relocations_of_object o) [] sites is of most in
     all_sites total (length exports) j (relocations_of_object o) [] sites (judging_sound total o exports placed) is of most tt

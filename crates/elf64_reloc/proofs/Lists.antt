@@ -17,7 +17,7 @@ use Rattle.elf64_reloc.specs.Modules.{Judging, ordered_from, each_judged, fields
 use Rattle.elf64_reloc.specs.Objects.{Object}
 use Rattle.elf64_reloc.specs.Refusals.{Judged}
 use Rattle.elf64_reloc.specs.Symbols.{export_base}
-use Rattle.elf64_reloc.specs.Relocations.{all_relocations, kept, kept_at, relocation_at, relocations_from}
+use Rattle.elf64_reloc.specs.Relocations.{all_relocations, unless_relax, kept_at, relocation_at, relocations_from}
 use Rattle.elf64_reloc.specs.declared.layout.Ends.{Ends}
 use Rattle.elf64_reloc.specs.declared.layout.PlacedSection.{PlacedSection}
 use Rattle.elf64_reloc.specs.declared.relocations.Relocation.{Relocation}
@@ -28,10 +28,10 @@ relocations_more home bytes i n m more = rw more refl
 
 -- one relocation more
 pub relocation_pushed : (home : PlacedSection) (bytes : List ℕ) (i n m : ℕ) (r : Relocation) (before after : List Relocation) → n ≡ suc m
-    → r ≡ relocation_at home bytes i → after ≡ before ++ kept r
+    → r ≡ relocation_at home bytes i → after ≡ before ++ unless_relax r
     → after ++ relocations_from home bytes (i + 1) m ≡ before ++ relocations_from home bytes i n
 relocation_pushed home bytes i n m r before after more is pushed =
-    ap (λ (rs : List Relocation). rs ++ relocations_from home bytes (i + 1) m) (pushed ∙ ap (λ (q : Relocation). before ++ kept q) is)
+    ap (λ (rs : List Relocation). rs ++ relocations_from home bytes (i + 1) m) (pushed ∙ ap (λ (q : Relocation). before ++ unless_relax q) is)
     ∙ append_assoc before (kept_at home bytes i) (relocations_from home bytes (i + 1) m)
     ∙ ap (λ (rs : List Relocation). before ++ rs) (sym (relocations_more home bytes i n m more))
 

@@ -23,12 +23,12 @@ space_of s = if bit s.flags shf_alloc_bit then (if s.kind == sht_progbits && bit
 abbrev pub padding : ℕ → ℕ → ℕ
 padding end alignment = if alignment == 0 then 0 else (alignment - end % alignment) % alignment
 
-abbrev pub aligned : ℕ → ℕ → ℕ
-aligned end alignment = plus end (padding end alignment)
+abbrev pub align_up : ℕ → ℕ → ℕ
+align_up end alignment = plus end (padding end alignment)
 
 abbrev pub place_behind : Ends → Space → SectionHeader → ℕ
-place_behind ends Text s = aligned ends.text s.alignment
-place_behind ends Data s = aligned ends.data_end s.alignment
+place_behind ends Text s = align_up ends.text s.alignment
+place_behind ends Data s = align_up ends.data_end s.alignment
 place_behind ends Elsewhere s = 0
 
 abbrev pub ends_with : Ends → Space → (end : ℕ) → Ends

@@ -6,7 +6,7 @@ use Rattle.std.specs.BTreeSet.{replace_key}
 use Rattle.std.specs.Cmp.Lexicographic.{slice_cmp}
 use Rattle.std.specs.List.{list_all}
 use Rattle.std.specs.Ordering.{nat_cmp}
-use Rattle.processor.specs.Effects.{plus, signed}
+use Rattle.processor.specs.Effects.{plus, signed_word}
 use Rattle.sv_types.specs.Policies.{is_low_part, site_size, module_pages_within, sites_count_within, sites_within}
 use Rattle.sv_types.specs.declared.module.Site.{Site}
 use Rattle.sv_types.specs.declared.policy.Export.{Export}
@@ -77,7 +77,7 @@ site_at place kind t addend anchor = record {
   offset = place % 2 ^ 32;
   kind = kind;
   base = t.base;
-  addend = signed (plus t.value addend);
+  addend = signed_word (plus t.value addend);
   anchor = anchor % 2 ^ 32;
 }
 
@@ -132,8 +132,8 @@ abbrev pub each_judged : Judging → List Site → List Relocation → Judged (L
 each_judged j sites [] = Ok sites
 each_judged j sites (r ∷ rs) = fields_judged j r >>= λ f. each_judged j (sites ++ found_sites f) rs
 
-abbrev pub judging : Object → List Export → Judging
-judging o exports = record {
+abbrev pub judging_of : Object → List Export → Judging
+judging_of o exports = record {
   names = record { tables = o.tables; placed = placed_sections o.sections; base_of = export_base exports };
   high_at = λ place. find (is_high_at place) (relocations_of_object o);
 }
@@ -205,7 +205,7 @@ module_with o sites =
     else Ok (record { text = text_of o; sites = ordered_sites sites })
 
 abbrev pub sites_of : List Export → Object → Judged (List Site)
-sites_of exports o = each_judged (judging o exports) [] (relocations_of_object o)
+sites_of exports o = each_judged (judging_of o exports) [] (relocations_of_object o)
 
 abbrev pub module_of : List Export → Object → Judged Module
 module_of exports o = if list_all is_good_alignment o.sections then (sites_of exports o >>= module_with o) else Err ObjectFault.Alignment

@@ -23,11 +23,11 @@ relocation_at home bytes i = record {
 }
 
 -- R_RISCV_RELAX only allows a linker to shorten the code, and is passed over
-abbrev pub kept : Relocation → List Relocation
-kept r = if r.kind == r_riscv_relax then [] else r ∷ []
+abbrev pub unless_relax : Relocation → List Relocation
+unless_relax r = if r.kind == r_riscv_relax then [] else r ∷ []
 
 abbrev pub kept_at : PlacedSection → List ℕ → ℕ → List Relocation
-kept_at home bytes i = kept (relocation_at home bytes i)
+kept_at home bytes i = unless_relax (relocation_at home bytes i)
 
 -- n relocations, from one on
 abbrev pub relocations_from : PlacedSection → List ℕ → (first n : ℕ) → List Relocation

@@ -81,7 +81,7 @@ pub(crate) fn padding(end: u64, alignment: u64) -> u64
 }
 
 fn aligned(end: u64, alignment: u64) -> u64
-    ensures { result ≡ spec.aligned end alignment }
+    ensures { result ≡ spec.align_up end alignment }
 {
     end.wrapping_add(padding(end, alignment))
 }

@@ -43,7 +43,7 @@ fn relocation_at(home: &PlacedSection, bytes: &[u8], i: usize) -> Relocation
 }
 
 fn push_kept(relocations: &mut Vec<Relocation>, relocation: Relocation) -> Result<(), AllocError>
-    ensures { OnOk result (relocations.new.items ≡ relocations.old.items ++ spec.kept relocation) }
+    ensures { OnOk result (relocations.new.items ≡ relocations.old.items ++ spec.unless_relax relocation) }
 {
     if relocation.kind == R_RISCV_RELAX {
         return Ok(());

@@ -17,10 +17,10 @@ abbrev pub Judged : Type 0 → Type 0
 Judged A = Result A BindFault
 
 -- what was judged, as it is answered
-abbrev pub answered : {A : Type 0} → Judged A → Result A BindRefusal
-answered (Ok a) = Ok a
-answered (Err fault) = Err (Fault fault)
+abbrev pub as_answer : {A : Type 0} → Judged A → Result A BindRefusal
+as_answer (Ok a) = Ok a
+as_answer (Err fault) = Err (Fault fault)
 
 -- this is why, unless it is want of memory
 abbrev pub Refuses : {A : Type 0} → Judged A → BindRefusal → Type 0
-Refuses judged refusal = refusal ≢ Memory → answered judged ≡ Err refusal
+Refuses judged refusal = refusal ≢ Memory → as_answer judged ≡ Err refusal

@@ -13,8 +13,8 @@ use Rattle.processor.specs.declared.access.Access.TheVariants.{Fetch, Load, Stor
 use Rattle.processor_laws.proofs.Walks.{walk_guest_fits, address_chosen}
 use Rattle.sv39_walk.specs.Mappings.{mapping_answer}
 use Rattle.sv39_walk.specs.declared.second_stage.Mapping.{Mapping}
-use Rattle.gstage_cache.specs.Lookup.{tagged, line_for, is_held, IsPlaced, line_of_mapping, IsKept}
-use Rattle.gstage_cache.proofs.Walks.{IsReadable, moved, leads_in_region, region_readable, page_moves, answer_near, answer_is}
+use Rattle.gstage_cache.specs.Lookup.{line_with_tag, line_for, is_held, IsPlaced, line_of_mapping, IsKept}
+use Rattle.gstage_cache.proofs.Walks.{IsReadable, destination_at, leads_in_region, region_readable, page_moves, answer_near, answer_is}
 use Rattle.processor_laws.proofs.EmptyLines.{none_at}
 
 -- ---- what a line answers
@@ -48,7 +48,7 @@ line_fits r line gpa access agrees same permitted =
 -- ---- how a line is filled
 
 lead_of : (d : Destination) (permits : Bool) (hpa place : ℕ) → IsReadable d → address_at d ≡ (if permits then Some hpa else None)
-    → moved place d ≡ (if permits then At (hpa - hpa % 4096 + place) else PageFault)
+    → destination_at place d ≡ (if permits then At (hpa - hpa % 4096 + place) else PageFault)
 lead_of (At x) true hpa place readable e = let same : x ≡ hpa = cc in rw same refl
 lead_of (At x) false hpa place readable e = absurd (cc)
 lead_of PageFault true hpa place readable e = absurd (cc)
@@ -76,7 +76,7 @@ fill_agrees r hgatp gpa access mapping apart answers permitted =
           sym (answer_is r hgatp gpa other near) ∙ answers other in
           apart.reads at other (omega arith)
           ∙ page_moves (entry_in_region r) hgatp gpa at other same
-          ∙ ap (λ (p : ℕ). moved p (guest_destination (entry_in_region r) hgatp gpa other)) inside
+          ∙ ap (λ (p : ℕ). destination_at p (guest_destination (entry_in_region r) hgatp gpa other)) inside
           ∙ lead_of (guest_destination (entry_in_region r) hgatp gpa other) (permits_guest other mapping.leaf.0) mapping.hpa place (region_readable r hgatp gpa other) answer
           ∙ ap (λ (b : Bool). if b then At (mapping.hpa - mapping.hpa % 4096 + place) else PageFault) (permits_as hgatp gpa mapping other);
     }
@@ -126,7 +126,7 @@ kept_held before after line hgatp page kept tag same =
     ∙ ap (λ (p : ℕ). get_or (set before (line.page % 256) (Some line)) (p % 256) None) (sym same)
     ∙ get_or-set_same before (line.page % 256) (Some line) None (kept_fits before line.page kept.size) in
     let test : (line.hgatp == hgatp && line.page == page) ≡ true = rw (tag, same) (test_same hgatp page) in
-    ap (λ (o : Option CacheLine). is_held (tagged hgatp page o)) at
+    ap (λ (o : Option CacheLine). is_held (line_with_tag hgatp page o)) at
     ∙ ap (λ (b : Bool). is_held (if b then Some line else None)) test
 
 -- ---- how a line is looked up
@@ -139,7 +139,7 @@ tags_test hgatp page found line true test e =
     (ap (λ (l : CacheLine). l.hgatp) (sym same) ∙ tags.0, (ap (λ (l : CacheLine). l.page) (sym same) ∙ tags.1, e))
 tags_test hgatp page found line false test e = absurd (cc)
 
-tagged_is : (hgatp page : ℕ) (o : Option CacheLine) (line : CacheLine) → tagged hgatp page o ≡ Some line
+tagged_is : (hgatp page : ℕ) (o : Option CacheLine) (line : CacheLine) → line_with_tag hgatp page o ≡ Some line
     → (line.hgatp ≡ hgatp) × ((line.page ≡ page) × (o ≡ Some line))
 tagged_is hgatp page None line e = absurd (cc)
 tagged_is hgatp page (Some found) line e = tags_test hgatp page found line (found.hgatp == hgatp && found.page == page) refl e

@@ -78,10 +78,10 @@ region_readable r hgatp gpa access = walk_readable r (permits_guest access) (sv3
 -- ---- the addresses of a page
 
 -- where the walk of another address of the page leads, at this place in the page
-abbrev pub moved : ℕ → Destination → Destination
-moved place (At found) = At (found - found % 4096 + place)
-moved place PageFault = PageFault
-moved place (Unreadable entry) = Unreadable entry
+abbrev pub destination_at : ℕ → Destination → Destination
+destination_at place (At found) = At (found - found % 4096 + place)
+destination_at place PageFault = PageFault
+destination_at place (Unreadable entry) = Unreadable entry
 
 leaf_moves : (below e a b : ℕ) → below < 3 → a / 4096 ≡ b / 4096
     → leaf_address below e b ≡ leaf_address below e a - leaf_address below e a % 4096 + b % 4096
@@ -90,13 +90,13 @@ leaf_moves (suc zero) e a b few same = omega arith
 leaf_moves (suc (suc zero)) e a b few same = omega arith
 leaf_moves (suc (suc (suc n))) e a b few same = absurd (omega arith)
 
-pub choose_moves : (c : Bool) (place : ℕ) (x y v w : Destination) → v ≡ moved place x → w ≡ moved place y → (if c then v else w) ≡ moved place (if c then x else y)
+pub choose_moves : (c : Bool) (place : ℕ) (x y v w : Destination) → v ≡ destination_at place x → w ≡ destination_at place y → (if c then v else w) ≡ destination_at place (if c then x else y)
 choose_moves true place x y v w h k = h
 choose_moves false place x y v w h k = k
 
 entry_moves : (grants : ℕ → Bool) (below at a b : ℕ) (deeper other : ℕ → Destination) (entry : Option ℕ) → below < 3 → a / 4096 ≡ b / 4096
-    → ((e : ℕ) → other (entry_page e) ≡ moved (b % 4096) (deeper (entry_page e)))
-    → at_entry grants below at other b entry ≡ moved (b % 4096) (at_entry grants below at deeper a entry)
+    → ((e : ℕ) → other (entry_page e) ≡ destination_at (b % 4096) (deeper (entry_page e)))
+    → at_entry grants below at other b entry ≡ destination_at (b % 4096) (at_entry grants below at deeper a entry)
 entry_moves grants below at a b deeper other None few same deep = refl
 entry_moves grants below at a b deeper other (Some e) few same deep =
     choose_moves (is_pointer e) (b % 4096) (deeper (entry_page e)) (at_leaf grants below e a) (other (entry_page e)) (at_leaf grants below e b) (deep e)
@@ -104,7 +104,7 @@ entry_moves grants below at a b deeper other (Some e) few same deep =
     (ap At (leaf_moves below e a b few same)) refl)
 
 pub walk_moves : (read : ℕ → Option ℕ) (grants : ℕ → Bool) (indices : List ℕ) (table a b : ℕ) → length indices ≤ 3 → a / 4096 ≡ b / 4096
-    → walk read grants indices table b ≡ moved (b % 4096) (walk read grants indices table a)
+    → walk read grants indices table b ≡ destination_at (b % 4096) (walk read grants indices table a)
 unfolding walk
 walk_moves read grants [] table a b few same = refl
 walk_moves read grants (index ∷ indices) table a b few same =
@@ -119,7 +119,7 @@ same_indices a b same =
     rw (high, middle, low) refl
 
 pub page_moves : (read : ℕ → Option ℕ) (hgatp a b : ℕ) (access : Access) → a / 4096 ≡ b / 4096
-    → guest_destination read hgatp b access ≡ moved (b % 4096) (guest_destination read hgatp a access)
+    → guest_destination read hgatp b access ≡ destination_at (b % 4096) (guest_destination read hgatp a access)
 page_moves read hgatp a b access same =
     ap (λ (indices : List ℕ). walk read (permits_guest access) indices (root_of hgatp) b) (same_indices a b same)
     ∙ walk_moves read (permits_guest access) (sv39x4_indices a) (root_of hgatp) a b (lit≤ tt) same

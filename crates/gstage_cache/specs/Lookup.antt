@@ -9,13 +9,13 @@ use Rattle.processor.specs.declared.access.Access.TheVariants.{Fetch, Load, Stor
 use Rattle.sv39_walk.specs.declared.second_stage.Mapping.{Mapping}
 
 -- the line, where it is of this hgatp value and this page
-abbrev pub tagged : ℕ → ℕ → Option CacheLine → Option CacheLine
-tagged hgatp page None = None
-tagged hgatp page (Some line) = if line.hgatp == hgatp && line.page == page then Some line else None
+abbrev pub line_with_tag : ℕ → ℕ → Option CacheLine → Option CacheLine
+line_with_tag hgatp page None = None
+line_with_tag hgatp page (Some line) = if line.hgatp == hgatp && line.page == page then Some line else None
 
 -- the line of a page under an hgatp value, if it is held
 unfoldable pub line_for : List (Option CacheLine) → ℕ → ℕ → Option CacheLine
-line_for lines hgatp page = tagged hgatp page (line_at lines (page % lines_of_cache))
+line_for lines hgatp page = line_with_tag hgatp page (line_at lines (page % lines_of_cache))
 
 abbrev pub is_held : Option CacheLine → Bool
 is_held None = false

@@ -121,10 +121,10 @@ store_said true false = refl
 store_said true true = refl
 
 -- what the flags of a page permit
-abbrev shown : Sight → ℕ → Protection → ℕ
-shown sight page protection = flags (view_permits sight page protection Store) (view_permits sight page protection Fetch)
+abbrev page_flags : Sight → ℕ → Protection → ℕ
+page_flags sight page protection = flags (view_permits sight page protection Store) (view_permits sight page protection Fetch)
 
-says : (sight : Sight) (page : ℕ) (protection : Protection) (access : Access) → flags_say (shown sight page protection) access ≡ view_permits sight page protection access
+says : (sight : Sight) (page : ℕ) (protection : Protection) (access : Access) → flags_say (page_flags sight page protection) access ≡ view_permits sight page protection access
 says sight page protection Fetch = fetch_said (view_permits sight page protection Store) (view_permits sight page protection Fetch)
 says sight page protection Load = load_said (view_permits sight page protection Store) (view_permits sight page protection Fetch)
 says sight page protection Store = store_said (view_permits sight page protection Store) (view_permits sight page protection Fetch)

@@ -9,7 +9,7 @@ use Rattle.sv_types.specs.declared.protection.Protection.TheVariants.{Free, Held
 use Rattle.processor_laws.proofs.ByteLemmas.{lt_or_le}
 use Rattle.gstage_tables.specs.Layout.{leaf}
 use Rattle.sv_types.specs.Protections.{is_free}
-use Rattle.gstage_tables.specs.Blocks.{lies_in_ram, taken, taken_among, taken_pages, is_whole, is_whole_by, recounted, CountsTaken}
+use Rattle.gstage_tables.specs.Blocks.{lies_in_ram, one_if_taken, taken_among, taken_pages, is_whole, is_whole_by, count_after, CountsTaken}
 
 pub data Same (a b : ℕ) : Type 0 where
   equal : a ≡ b → Same a b
@@ -18,12 +18,12 @@ pub data Same (a b : ℕ) : Type 0 where
 pub same_or_not : (a b : ℕ) → Same a b
 same_or_not a b = elim (lt_or_le a b) [ inl l ↦ unequal (omega arith) | inr le ↦ elim (lt_or_le b a) [ inl l ↦ unequal (omega arith) | inr ge ↦ equal (omega arith) ] ]
 
-one_at_most : (p : Protection) → taken p ≤ 1
+one_at_most : (p : Protection) → one_if_taken p ≤ 1
 one_at_most Free = omega arith
 one_at_most Held = omega arith
 one_at_most Approved = omega arith
 
-free_is : (p : Protection) → taken p ≡ 0 → p ≡ Free
+free_is : (p : Protection) → one_if_taken p ≡ 0 → p ≡ Free
 free_is Free none = refl
 free_is Held none = absurd (omega arith)
 free_is Approved none = absurd (omega arith)
@@ -67,28 +67,28 @@ module _ (ps : ℕ → Protection) (page : ℕ) (x : Protection) where
   among_kept first (suc count) apart =
       let ne : first + count ≢ page = elim apart [ inl below ↦ omega arith | inr above ↦ omega arith ] in
       let before = among_kept first count (elim apart [ inl below ↦ inl below | inr above ↦ inr (omega arith) ]) in
-      let last : taken (now (first + count)) ≡ taken (ps (first + count)) = ap taken (at_other (first + count) ne) in
+      let last : one_if_taken (now (first + count)) ≡ one_if_taken (ps (first + count)) = ap one_if_taken (at_other (first + count) ne) in
       omega arith
 
   -- among pages with this one, its own count changes
-  pub among_changed : (first count : ℕ) → first ≤ page → page < first + count → taken_among now first count + taken (ps page) ≡ taken_among ps first count + taken x
+  pub among_changed : (first count : ℕ) → first ≤ page → page < first + count → taken_among now first count + one_if_taken (ps page) ≡ taken_among ps first count + one_if_taken x
   unfolding taken_among
   among_changed first zero low high = absurd (omega arith)
   among_changed first (suc count) low high = elim (lt_or_le page (first + count)) [
     | inl below ↦
         let ne : first + count ≢ page = omega arith in
         let before = among_changed first count low below in
-        let last : taken (now (first + count)) ≡ taken (ps (first + count)) = ap taken (at_other (first + count) ne) in
+        let last : one_if_taken (now (first + count)) ≡ one_if_taken (ps (first + count)) = ap one_if_taken (at_other (first + count) ne) in
         omega arith
     | inr most ↦
         let same : first + count ≡ page = omega arith in
         let before = among_kept first count (inr (omega arith)) in
-        let last : taken (now (first + count)) ≡ taken x = ap (λ (p : ℕ). taken (now p)) same ∙ ap taken at_page in
-        let was : taken (ps (first + count)) ≡ taken (ps page) = ap (λ (p : ℕ). taken (ps p)) same in
+        let last : one_if_taken (now (first + count)) ≡ one_if_taken x = ap (λ (p : ℕ). one_if_taken (now p)) same ∙ ap one_if_taken at_page in
+        let was : one_if_taken (ps (first + count)) ≡ one_if_taken (ps page) = ap (λ (p : ℕ). one_if_taken (ps p)) same in
         omega arith
   ]
 
-  pub block_changed : (block : ℕ) → page / 512 ≡ block → taken_pages now block + taken (ps page) ≡ taken_pages ps block + taken x
+  pub block_changed : (block : ℕ) → page / 512 ≡ block → taken_pages now block + one_if_taken (ps page) ≡ taken_pages ps block + one_if_taken x
   unfolding taken_pages
   block_changed block is = among_changed (512 * block) 512 (omega arith) (omega arith)
 
@@ -132,7 +132,7 @@ index_other (x ∷ xs) zero (suc j) v ne = refl
 index_other (x ∷ xs) (suc i) zero v ne = refl
 index_other (x ∷ xs) (suc i) (suc j) v ne = index_other xs i j v (λ e. ne (ap suc e))
 
-recount_is : (count new : ℕ) (was x : Protection) → count ≤ 512 → new + taken was ≡ count + taken x → recounted count (is_free was) (is_free x) ≡ new
+recount_is : (count new : ℕ) (was x : Protection) → count ≤ 512 → new + one_if_taken was ≡ count + one_if_taken x → count_after count (is_free was) (is_free x) ≡ new
 recount_is count new Free Free few e = omega arith
 recount_is count new Free Held few e = omega arith
 recount_is count new Free Approved few e = omega arith
@@ -144,12 +144,12 @@ recount_is count new Approved Held few e = omega arith
 recount_is count new Approved Approved few e = omega arith
 
 pub counts_set : (counts : List ℕ) (pages : ℕ) (ps : ℕ → Protection) (page : ℕ) (x : Protection) → CountsTaken counts pages ps → page / 512 < length counts
-    → CountsTaken (slice_set counts (page / 512) (recounted (slice_index_or counts (page / 512) 0) (is_free (ps page)) (is_free x))) pages (protect ps page x)
+    → CountsTaken (slice_set counts (page / 512) (count_after (slice_index_or counts (page / 512) 0) (is_free (ps page)) (is_free x))) pages (protect ps page x)
 counts_set counts pages ps page x h reach = record {
   each = λ block lies. elim (same_or_not (page / 512) block) [
-    | equal same ↦ subst (λ (b : ℕ). slice_index_or (slice_set counts (page / 512) (recounted (slice_index_or counts (page / 512) 0) (is_free (ps page)) (is_free x))) b 0
+    | equal same ↦ subst (λ (b : ℕ). slice_index_or (slice_set counts (page / 512) (count_after (slice_index_or counts (page / 512) 0) (is_free (ps page)) (is_free x))) b 0
         ≡ taken_pages (protect ps page x) b) same
-        (index_same counts (page / 512) _ reach ∙ ap (λ (count : ℕ). recounted count (is_free (ps page)) (is_free x)) (h.each (page / 512) (subst (λ (b : ℕ). 512 * b + 512 ≤ pages) (sym same) lies))
+        (index_same counts (page / 512) _ reach ∙ ap (λ (count : ℕ). count_after count (is_free (ps page)) (is_free x)) (h.each (page / 512) (subst (λ (b : ℕ). 512 * b + 512 ≤ pages) (sym same) lies))
         ∙ recount_is (taken_pages ps (page / 512)) (taken_pages (protect ps page x) (page / 512)) (ps page) x (block_few ps (page / 512)) (block_changed ps page x (page / 512) refl))
     | unequal ne ↦ index_other counts (page / 512) block _ ne ∙ h.each block lies ∙ sym (block_kept ps page x block ne)
   ];
@@ -165,10 +165,10 @@ counts_first pages n = record { each = λ block lies. zero_at n block ∙ sym (b
 
 -- whether its block is whole once a page's protection is set
 pub whole_after : (counts : List ℕ) (pages : ℕ) (ps : ℕ → Protection) (page : ℕ) (x : Protection) → CountsTaken counts pages ps → page / 512 < length counts
-    → (lies_in_ram pages (page / 512) && recounted (slice_index_or counts (page / 512) 0) (is_free (ps page)) (is_free x) == 0) ≡ is_whole pages (protect ps page x) (page / 512)
+    → (lies_in_ram pages (page / 512) && count_after (slice_index_or counts (page / 512) 0) (is_free (ps page)) (is_free x) == 0) ≡ is_whole pages (protect ps page x) (page / 512)
 whole_after counts pages ps page x h reach =
-    ap (λ (count : ℕ). lies_in_ram pages (page / 512) && count == 0) (sym (index_same counts (page / 512) (recounted (slice_index_or counts (page / 512) 0) (is_free (ps page)) (is_free x)) reach))
-    ∙ whole_by_counts (slice_set counts (page / 512) (recounted (slice_index_or counts (page / 512) 0) (is_free (ps page)) (is_free x))) pages (protect ps page x) (page / 512)
+    ap (λ (count : ℕ). lies_in_ram pages (page / 512) && count == 0) (sym (index_same counts (page / 512) (count_after (slice_index_or counts (page / 512) 0) (is_free (ps page)) (is_free x)) reach))
+    ∙ whole_by_counts (slice_set counts (page / 512) (count_after (slice_index_or counts (page / 512) 0) (is_free (ps page)) (is_free x))) pages (protect ps page x) (page / 512)
     (counts_set counts pages ps page x h reach)
 
 -- a page's entry in kernel mode's tree tells whether it is free

@@ -14,13 +14,13 @@ abbrev pub block_pages : ℕ
 block_pages = table_words
 
 -- a page that isn't free is taken: it counts as one
-abbrev pub taken : Protection → ℕ
-taken protection = if is_free protection then 0 else 1
+abbrev pub one_if_taken : Protection → ℕ
+one_if_taken protection = if is_free protection then 0 else 1
 
 -- how many of so many pages from the first on are taken
 unfoldable pub taken_among : (ℕ → Protection) → (first count : ℕ) → ℕ
 taken_among protections first zero = 0
-taken_among protections first (suc count) = taken_among protections first count + taken (protections (first + count))
+taken_among protections first (suc count) = taken_among protections first count + one_if_taken (protections (first + count))
 
 -- how many pages of a block are taken
 unfoldable pub taken_pages : (ℕ → Protection) → (block : ℕ) → ℕ
@@ -45,11 +45,11 @@ abbrev pub most_count : ℕ
 most_count = 65535
 
 -- a count where a page was free before or not, and now is or isn't
-abbrev pub recounted : (count : ℕ) → (before after : Bool) → ℕ
-recounted count true true = count
-recounted count true false = min (count + 1) most_count
-recounted count false true = count - 1
-recounted count false false = count
+abbrev pub count_after : (count : ℕ) → (before after : Bool) → ℕ
+count_after count true true = count
+count_after count true false = min (count + 1) most_count
+count_after count false true = count - 1
+count_after count false false = count
 
 -- the counts of taken pages are right for each block that lies in RAM
 pub record CountsTaken (counts : List ℕ) (ram_pages : ℕ) (protections : ℕ → Protection) : Type 0 where

@@ -9,7 +9,7 @@ ghost use Rattle.sv_types.specs.Views.{AreViews, view_hgatp, view_permits, all_f
 ghost use Rattle.processor.specs.declared.access.Access.TheVariants.{Fetch};
 ghost use Rattle.sv_types.specs.declared.protection.Protection.{Protection as Kind};
 ghost use Rattle.sv_types.specs.Protections.{is_free};
-ghost use Rattle.gstage_tables.specs.Blocks.{lies_in_ram, is_whole_by, recounted, table_words, block_pages};
+ghost use Rattle.gstage_tables.specs.Blocks.{lies_in_ram, is_whole_by, count_after, table_words, block_pages};
 ghost use Rattle.gstage_tables.specs.Layout.{most_bound, tree_count, sight_in, leaf_tables, middle_table, leaf_table, table_pages, table_size, leaf, middle_word, leaf_word, HoldsTrees, AreDrawn, MapsBlocks, root_words, most_trees, most_table_pages, most_block_pages, upper_words};
 ghost use Rattle.gstage_tables.specs.Written.{Wrote};
 ghost use Rattle.gstage_tables.specs.Protecting.{MayProtect, Protects};
@@ -445,7 +445,7 @@ impl Trees {
 
 // The count of a block's taken pages, where one was free before or not, and now is or isn't.
 fn recounted(count: u16, before: bool, after: bool) -> u16
-    ensures { result ≡ recounted count before after }
+    ensures { result ≡ count_after count before after }
 {
     match (before, after) {
         (true, false) => count.saturating_add(1),

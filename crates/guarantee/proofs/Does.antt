@@ -18,7 +18,7 @@ use Rattle.reference.specs.Devices.{hart_after_write}
 use Rattle.reference.specs.Soundness.{IsSound, IsSoundEntry}
 use Rattle.reference.specs.States.{State, Hart, has_number, is_approved_in, is_protected}
 use Rattle.reference.specs.Trapping.{hart_at_trap, hart_at_return, entry_in}
-use Rattle.reference.specs.Turn.{after_going, demote, demoted, leave_entry, outside}
+use Rattle.reference.specs.Turn.{after_going, demote, in_user_mode, leave_entry, outside}
 use Rattle.run_laws.proofs.Lookups.{both}
 use Rattle.run_laws.proofs.Sounds.{InFreePage, apart}
 use Rattle.attempt_laws.proofs.AttemptsAgree.{get_back}
@@ -40,7 +40,7 @@ pub data Own (returns : Type 0) (q : State) (h : ℕ) (hart : Hart) (next : Stat
       → (permitted : has_number q.rules.entries (trap_target hart.supervisor.stvec interrupt cause) ≡ true)
       → (same : after ≡ hart_at_trap q.rules hart User interrupt cause tval) → Own returns q h hart next after
   Returned : (why : returns) → (user : mode_at_return hart.supervisor.sstatus ≡ User) → (same : after ≡ hart_at_return hart) → Own returns q h hart next after
-  Demoted : (gpa : ℕ) → (same : after ≡ demoted hart) → (all : next ≡ demote q h hart gpa) → Own returns q h hart next after
+  Demoted : (gpa : ℕ) → (same : after ≡ in_user_mode hart) → (all : next ≡ demote q h hart gpa) → Own returns q h hart next after
   Halted : (stopped : after.started ≡ false) → Own returns q h hart next after
 
 -- and of another
@@ -182,7 +182,7 @@ left_twice : (q : State) (h : ℕ) (hart : Hart) → leave_entry (leave_entry q 
 left_twice q h hart = ap (λ (l : List Hart). record q { harts = l }) (set-set q.harts h (outside hart) (outside hart))
 
 pub demote_left : (q : State) (h : ℕ) (hart : Hart) (gpa : ℕ) → demote (leave_entry q h hart) h (outside hart) gpa ≡ demote q h hart gpa
-demote_left q h hart gpa = ap (λ (l : List Hart). record (demote q h hart gpa) { harts = l }) (set-set q.harts h (outside hart) (demoted hart))
+demote_left q h hart gpa = ap (λ (l : List Hart). record (demote q h hart gpa) { harts = l }) (set-set q.harts h (outside hart) (in_user_mode hart))
 
 no_entry_in : (mode : Mode) (entry : Option ℕ) → mode ≡ User → entry_in mode None ≡ entry_in mode entry
 no_entry_in Kernel entry user = absurd (cc)

@@ -25,12 +25,12 @@ use Rattle.processor.specs.declared.interrupt.Interrupt.{Interrupt}
 use Rattle.processor.specs.declared.mode.Mode.{Mode}
 use Rattle.processor.specs.declared.mode.Mode.TheVariants.{Kernel, User}
 use Rattle.reference.specs.Calls.{hart_at, started_hart}
-use Rattle.reference.specs.Counting.{count, counted, count_dropped, count_turn, count_beat, count_key, stopped_by}
+use Rattle.reference.specs.Counting.{count, with_count, count_dropped, count_turn, count_beat, count_key, stopped_by}
 use Rattle.reference.specs.Devices.{beat, key, tick, lines_at, with_disk, with_bytes, after_move, hart_after_write}
 use Rattle.sv_types.specs.declared.virtio.VirtioMove.{VirtioMove}
 use Rattle.reference.specs.BlockDisk.{BlockBeat, block_beat, block_to_memory, beat_gpa, beat_size, is_busy, is_to_memory}
 use Rattle.reference.specs.VirtioDevice.{VirtioDevice, Request}
-use Rattle.reference.specs.VirtioBeats.{VirtioBeat, nothing, broken, with_request, to_memory, to_disk, put_last, finished, make, make_first, go_on, is_live, virtio_beat}
+use Rattle.reference.specs.VirtioBeats.{VirtioBeat, nothing, broken_beat, with_request, to_memory, to_disk, put_last, finish_request, make, make_first, go_on, is_live, virtio_beat}
 use Rattle.reference.specs.Disk.{Beaten, disk_beat}
 use Rattle.reference.specs.Move.{Move, Idle, FromRam, IntoRam, DeniedAt, OutsideRam}
 use Rattle.reference.specs.Requests.{Guarded, target_of, carry_out_store, carry_out_store_conditional, carry_out_amo}
@@ -39,7 +39,7 @@ use Rattle.reference.specs.Soundness.{IsSound}
 use Rattle.reference.specs.Start.{IsStart}
 use Rattle.reference.specs.States.{State, Hart, Disk, BlockDevice, BlockDisk, VirtioDisk, Binding, Loading, has_number, in_kernel, is_approved_in, is_protected}
 use Rattle.reference.specs.Trapping.{trap_from, hart_at_trap, hart_at_return}
-use Rattle.reference.specs.Turn.{going, after_going, Fetched, NoWord, Stray, Word, fetched_in, fetched_at, fetch, fetch_of, place_of_pc, leads_into, noted_gpa, fetch_in_entry, bound_entry, demote, act_on_fetch, act_on_pending, act, turn_of_started, turn_of, turn, carry_out_word, carry_out_instruction, carry_out_effect}
+use Rattle.reference.specs.Turn.{going_hart, after_going, Fetched, NoWord, Stray, Word, fetched_in, fetched_at, fetch, fetch_of, place_of_pc, leads_into, noted_gpa, fetch_in_entry, bound_entry, demote, act_on_fetch, act_on_pending, act, turn_of_started, turn_of, turn, carry_out_word, carry_out_instruction, carry_out_effect}
 use Rattle.run_laws.proofs.Lookups.{both}
 use Rattle.run_laws.proofs.StateLawsHold.{reached_sound, bytes_law, modules_law}
 use Rattle.run_laws.proofs.BeatsSound.{FreeMove, beat_page, beat_sound}
@@ -143,23 +143,23 @@ denied_data : (d : VirtioDevice) (q : Request) (gpa place size : ℕ) (ram : Lis
     → IsNoWrite (to_memory d q gpa place size ram may_write).move
 unfolding to_memory
 denied_data d q gpa place size ram may_write e =
-    choose_no_put (not (in_ram ram gpa size)) (broken d OutsideRam) _ tt (never_put (may_write (page_of gpa)) _ _ e tt)
+    choose_no_put (not (in_ram ram gpa size)) (broken_beat d OutsideRam) _ tt (never_put (may_write (page_of gpa)) _ _ e tt)
 
 denied_last : (d next : VirtioDevice) (gpa : ℕ) (bytes ram : List ℕ) (may_write : ℕ → Bool) → may_write (page_of gpa) ≡ false
     → IsNoWrite (put_last d next gpa bytes ram may_write).move
 unfolding put_last
 denied_last d next gpa bytes ram may_write e =
-    choose_no_put (not (in_ram ram gpa (length bytes))) (broken d OutsideRam) _ tt (never_put (may_write (page_of gpa)) _ _ e tt)
+    choose_no_put (not (in_ram ram gpa (length bytes))) (broken_beat d OutsideRam) _ tt (never_put (may_write (page_of gpa)) _ _ e tt)
 
 denied_move : (d : VirtioDevice) (q : Request) (x : VirtioMove) (ram : List ℕ) (may_write : ℕ → Bool) → may_write (page_of (move_gpa x)) ≡ false
     → IsNoWrite (make d q x ram may_write).move
 unfolding make to_disk
 denied_move d q (VirtioMove.ToMemory gpa place size) ram may_write e = denied_data d q gpa place size ram may_write e
-denied_move d q (VirtioMove.ToDisk gpa place size) ram may_write e = choose_no_put (not (in_ram ram gpa size)) (broken d OutsideRam) _ tt tt
+denied_move d q (VirtioMove.ToDisk gpa place size) ram may_write e = choose_no_put (not (in_ram ram gpa size)) (broken_beat d OutsideRam) _ tt tt
 denied_move d q (VirtioMove.PutResult gpa) ram may_write e = denied_last d (with_request d q) gpa (low_bytes 1 (result_number q.result)) ram may_write e
 denied_move d q (VirtioMove.PutHead gpa head) ram may_write e = denied_last d (with_request d q) gpa (low_bytes 4 head) ram may_write e
 denied_move d q (VirtioMove.PutLength gpa) ram may_write e = denied_last d (with_request d q) gpa (low_bytes 4 (q.written + 1)) ram may_write e
-denied_move d q (VirtioMove.PutIndex gpa index) ram may_write e = denied_last d (finished d) gpa (low_bytes 2 index) ram may_write e
+denied_move d q (VirtioMove.PutIndex gpa index) ram may_write e = denied_last d (finish_request d) gpa (low_bytes 2 index) ram may_write e
 
 denied_first : (d : VirtioDevice) (q : Request) (moves : List VirtioMove) (ram : List ℕ) (may_write : ℕ → Bool) (gpa : ℕ) → first_gpa moves ≡ Some gpa
     → may_write (page_of gpa) ≡ false → IsNoWrite (make_first d q moves ram may_write).move
@@ -406,7 +406,7 @@ key_verdict : (q : State) (byte : ℕ) → (key q byte).journal.verdict ≡ q.jo
 unfolding key
 key_verdict q byte = by_room (has_room q.devices.console)
   where
-    by_room : (b : Bool) → (if b then q.journal else counted count_dropped q.journal).verdict ≡ q.journal.verdict
+    by_room : (b : Bool) → (if b then q.journal else with_count count_dropped q.journal).verdict ≡ q.journal.verdict
     by_room true = refl
     by_room false = refl
 
@@ -464,7 +464,7 @@ stops_law = record { only = only_there; traps = trap_stops; writes = word_stops 
 
 -- ---- words
 
-going_mode : (left : Bool) (hart : Hart) → (going left hart).mode ≡ hart.mode
+going_mode : (left : Bool) (hart : Hart) → (going_hart left hart).mode ≡ hart.mode
 going_mode true hart = refl
 going_mode false hart = refl
 
@@ -533,15 +533,15 @@ decide_turn : (s : State) (events : List Event) (h : ℕ) (hart : Hart) (b : Boo
 decide_turn s events h hart true x y k l = k refl
 decide_turn s events h hart false x y k l = l
 
-stray_left : (left : Bool) (q : State) (h : ℕ) (hart : Hart) (gpa : ℕ) → demote (after_going left q h hart) h (going left hart) gpa ≡ demote q h hart gpa
+stray_left : (left : Bool) (q : State) (h : ℕ) (hart : Hart) (gpa : ℕ) → demote (after_going left q h hart) h (going_hart left hart) gpa ≡ demote q h hart gpa
 stray_left false q h hart gpa = refl
 stray_left true q h hart gpa = demote_left q h hart gpa
 
 fetched_turn : (s : State) (events : List Event) (h : ℕ) (hart : Hart) (left : Bool) (x : Fetched) → IsStart s → hart.mode ≡ Kernel → fetch_of (run s events) hart ≡ x
-    → TurnOf s events h hart (act_on_fetch (after_going left (count (run s events) count_turn) h hart) h (going left hart) x)
+    → TurnOf s events h hart (act_on_fetch (after_going left (count (run s events) count_turn) h hart) h (going_hart left hart) x)
 unfolding act_on_fetch
-fetched_turn s events h hart left (NoWord cause) is_start mode e = Traps left false (cause_number cause) (going left hart).pc
-    (ap (λ (m : Mode). trap_from (after_going left (count (run s events) count_turn) h hart) h (going left hart) m false (cause_number cause) (going left hart).pc)
+fetched_turn s events h hart left (NoWord cause) is_start mode e = Traps left false (cause_number cause) (going_hart left hart).pc
+    (ap (λ (m : Mode). trap_from (after_going left (count (run s events) count_turn) h hart) h (going_hart left hart) m false (cause_number cause) (going_hart left hart).pc)
     (going_mode left hart ∙ mode))
 fetched_turn s events h hart left (Stray gpa) is_start mode e = Demotes gpa (stray_left left (count (run s events) count_turn) h hart gpa)
 fetched_turn s events h hart left (Word w) is_start mode e = Executes left w (fetched_measured s events hart w is_start mode e) refl

@@ -4,7 +4,7 @@ use Rattle.std.specs.Prelude.{Option, Some, None, option_map, if◌then◌else�
 use Rattle.std.proofs.lemmas.Bool.{eqb-true, eq-eqb}
 use Rattle.processor.specs.Bytes.{page_of, page_bytes, ram_place, low_bytes}
 use Rattle.processor.specs.Causes.{cause_number}
-use Rattle.sv_types.specs.Console.{stored}
+use Rattle.sv_types.specs.Console.{stored_byte}
 use Rattle.processor.specs.Effects.{effect_of}
 use Rattle.processor.specs.Instructions.{instruction_of}
 use Rattle.processor.specs.Regions.{IsWidth}
@@ -20,8 +20,8 @@ use Rattle.processor.specs.declared.instruction.Instr.{Instr}
 use Rattle.processor.specs.declared.interrupt.Interrupt.{Interrupt}
 use Rattle.processor.specs.declared.mode.Mode.{Mode}
 use Rattle.processor.specs.declared.mode.Mode.TheVariants.{Kernel, User}
-use Rattle.reference.specs.Answers.{replied, journal_beside, pages_beside, harts_beside, answered, call}
-use Rattle.reference.specs.Calls.{asked_by, facts_of, extension_of, mask_names, interrupted, started_hart}
+use Rattle.reference.specs.Answers.{with_reply, journal_beside, pages_beside, harts_beside, state_after_answer, call}
+use Rattle.reference.specs.Calls.{asked_by, facts_of, extension_of, mask_names, interrupt_harts, started_hart}
 use Rattle.reference.specs.Counting.{printed_low}
 use Rattle.reference.specs.Devices.{DeviceLoad, DeviceStore, Port, ConsoleAt, DiskAt, Nowhere, port_at, port_store, device_load, device_store, lines_at, with_bytes}
 use Rattle.reference.specs.Disk.{disk_store}
@@ -42,7 +42,7 @@ use Rattle.attempt_laws.proofs.EffectsAgree.{IsTold}
 use Rattle.attempt_laws.proofs.AttemptsAgree.{get_back}
 use Rattle.run_laws.proofs.AnswersMay.{MayBeside, decision_may, answer_may}
 use Rattle.run_laws.proofs.Lookups.{both}
-use Rattle.run_laws.proofs.OthersRest.{sent, get_sent, was_stopped}
+use Rattle.run_laws.proofs.OthersRest.{with_software_if, get_sent, was_stopped}
 use Rattle.run_laws.proofs.RequestsSound.{FreeTarget, IsFreePlace, target_free, free_page}
 use Rattle.run_laws.proofs.Sounds.{InFreePage}
 use Rattle.run_laws.proofs.StepsSound.{leave_goes}
@@ -110,7 +110,7 @@ disk_verdict d j (Some disk) s e =
 
 port_verdict : (d : Devices) (j : Journal) (port : Port) (width value : ℕ) (s : DeviceStore) → port_store d j port width value ≡ Some s → s.journal.verdict ≡ j.verdict
 unfolding port_store
-port_verdict d j (ConsoleAt offset) width value s e = console_verdict d j (stored offset width value) s e
+port_verdict d j (ConsoleAt offset) width value s e = console_verdict d j (stored_byte offset width value) s e
 port_verdict d j (DiskAt offset) width value s e = disk_verdict d j (disk_store d.disk offset width value) s e
 port_verdict d j Nowhere width value s e = absurd (cc)
 
@@ -184,8 +184,8 @@ csr_does writing returns q h hart w rd op operand writes (Some csr) at =
 abbrev HasReply : Hart → Hart → Type 0
 HasReply hart x = ((x.mode ≡ hart.mode) × (x.started ≡ hart.started)) ⊎ (x.started ≡ false)
 
-has_reply : (reply : Reply) (hart : Hart) → HasReply hart (replied reply hart)
-unfolding replied
+has_reply : (reply : Reply) (hart : Hart) → HasReply hart (with_reply reply hart)
+unfolding with_reply
 has_reply (Gives a0) hart = inl (refl, refl)
 has_reply (Replies a0 a1) hart = inl (refl, refl)
 has_reply Stays hart = inl (refl, refl)
@@ -195,12 +195,12 @@ own_reply : (returns : Type 0) (q : State) (h : ℕ) (hart : Hart) (next : State
 own_reply returns q h hart next x (inl stays) = Same stays.0 stays.1
 own_reply returns q h hart next x (inr off) = Halted off
 
-reply_sent : (b : Bool) (hart x : Hart) → HasReply hart x → HasReply hart (sent b x)
+reply_sent : (b : Bool) (hart x : Hart) → HasReply hart x → HasReply hart (with_software_if b x)
 reply_sent true hart x (inl stays) = inl (stays.0, stays.1)
 reply_sent true hart x (inr off) = inr off
 reply_sent false hart x k = k
 
-rests_sent : (q : State) (k : ℕ) (b : Bool) (before : Hart) → Other q k before (sent b before)
+rests_sent : (q : State) (k : ℕ) (b : Bool) (before : Hart) → Other q k before (with_software_if b before)
 rests_sent q k true before = Rests refl refl
 rests_sent q k false before = Rests refl refl
 
@@ -216,8 +216,8 @@ beside_own : (returns : Type 0) (q : State) (h : ℕ) (hart : Hart) (next : Stat
 unfolding harts_beside
 beside_own returns q h hart next x after (SendsInterrupts mask base) at may reply e =
     let s = get_sent (mask_names mask base) 0 (slice_set q.harts h x) h x (get_back q.harts h hart x at.found) in
-    let same : sent s.0 x ≡ after = same_one (slice_get (interrupted (mask_names mask base) 0 (slice_set q.harts h x)) h) _ after s.1 e in
-    subst (Own returns q h hart next) same (own_reply returns q h hart next (sent s.0 x) (reply_sent s.0 hart x reply))
+    let same : with_software_if s.0 x ≡ after = same_one (slice_get (interrupt_harts (mask_names mask base) 0 (slice_set q.harts h x)) h) _ after s.1 e in
+    subst (Own returns q h hart next) same (own_reply returns q h hart next (with_software_if s.0 x) (reply_sent s.0 hart x reply))
 beside_own returns q h hart next x after (StartsHart other pc opaque) at may reply e =
     let same : x ≡ after = same_one (slice_get (slice_set (slice_set q.harts h x) other (started_hart other pc opaque)) h) x after
     (set_other (slice_set q.harts h x) other h (started_hart other pc opaque) (off_there q.harts h other hart at.found at.started may.0)
@@ -250,7 +250,7 @@ beside_others : (q : State) (h : ℕ) (x : Hart) (k : ℕ) (before after : Hart)
 unfolding harts_beside
 beside_others q h x k before after (SendsInterrupts mask base) may apart was e =
     let s = get_sent (mask_names mask base) 0 (slice_set q.harts h x) k before (set_other q.harts h k x apart ∙ was) in
-    let same : sent s.0 before ≡ after = same_one (slice_get (interrupted (mask_names mask base) 0 (slice_set q.harts h x)) k) _ after s.1 e in
+    let same : with_software_if s.0 before ≡ after = same_one (slice_get (interrupt_harts (mask_names mask base) 0 (slice_set q.harts h x)) k) _ after s.1 e in
     subst (Other q k before) same (rests_sent q k s.0 before)
 beside_others q h x k before after (StartsHart other pc opaque) may apart was e =
     started_by q h x k before after other pc opaque (k == other) refl apart was may.0 may.1 e
@@ -267,12 +267,12 @@ unfolding journal_beside
 beside_verdict j h ShutsDown on = tt
 beside_verdict j h _ on = subst IsNoStop (sym on) tt
 
-answered_does : (writes : ℕ → Type 0) (returns : Type 0) (q : State) (h : ℕ) (hart : Hart) (a : Answer) → IsMoving q h hart → MayBeside q a.beside → Does writes returns q h hart (answered q h hart a)
-unfolding answered
+answered_does : (writes : ℕ → Type 0) (returns : Type 0) (q : State) (h : ℕ) (hart : Hart) (a : Answer) → IsMoving q h hart → MayBeside q a.beside → Does writes returns q h hart (state_after_answer q h hart a)
+unfolding state_after_answer
 answered_does writes returns q h hart a at may = record {
   bytes = λ page e. ap (λ (l : List ℕ). page_bytes l page) (beside_ram q h a.beside);
-  own = λ after e. beside_own returns q h hart (answered q h hart a) (replied a.reply hart) after a.beside at may (has_reply a.reply hart) e;
-  others = λ k before after apart was e. beside_others q h (replied a.reply hart) k before after a.beside may apart was e;
+  own = λ after e. beside_own returns q h hart (state_after_answer q h hart a) (with_reply a.reply hart) after a.beside at may (has_reply a.reply hart) e;
+  others = λ k before after apart was e. beside_others q h (with_reply a.reply hart) k before after a.beside may apart was e;
   ends = GoesOn (beside_verdict q.journal h a.beside at.running);
 }
 

@@ -22,7 +22,7 @@ use Rattle.reference.specs.Run.{run, step}
 use Rattle.reference.specs.Start.{IsStart}
 use Rattle.reference.specs.States.{State, Hart, Disk, BlockDisk, VirtioDisk, Loading, has_number, in_kernel, is_protected}
 use Rattle.reference.specs.Trapping.{hart_at_trap, hart_at_return, trap_from}
-use Rattle.reference.specs.Turn.{Word, after_going, carry_out_word, demote, effect_of_word, fetch_of, going, place_of_pc}
+use Rattle.reference.specs.Turn.{Word, after_going, carry_out_word, demote, effect_of_word, fetch_of, going_hart, place_of_pc}
 use Rattle.run_laws.specs.StateLaws.{HasOrigin}
 
 -- the word at the hart's pc lies in an approved page, as it was approved, and as RAM has it. The page is the kernel's text as it
@@ -42,10 +42,10 @@ pub data KernelTurn (s r q : State) (h : ℕ) (hart : Hart) (next : State) : Typ
   Loads : (load : Loading) → r.loading ≡ Some load → load.hart ≡ h → next ≡ load_step q h hart load → KernelTurn s r q h hart next
   -- an interrupt, or a fetch that faults
   Traps : (left interrupt : Bool) (cause tval : ℕ) →
-      next ≡ trap_from (after_going left q h hart) h (going left hart) Mode.Kernel interrupt cause tval → KernelTurn s r q h hart next
+      next ≡ trap_from (after_going left q h hart) h (going_hart left hart) Mode.Kernel interrupt cause tval → KernelTurn s r q h hart next
   -- it leaves for user mode, and executes nothing
   Demotes : (gpa : ℕ) → next ≡ demote q h hart gpa → KernelTurn s r q h hart next
-  Executes : (left : Bool) (w : ℕ) → IsMeasuredWord s r hart w → next ≡ carry_out_word (after_going left q h hart) h (going left hart) w →
+  Executes : (left : Bool) (w : ℕ) → IsMeasuredWord s r hart w → next ≡ carry_out_word (after_going left q h hart) h (going_hart left hart) w →
       KernelTurn s r q h hart next
 
 abbrev pub KernelWordsLaw : Type 0

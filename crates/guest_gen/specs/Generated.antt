@@ -1,6 +1,6 @@
 -- The generated guest as a file, and its policy. This project's own.
 use Rattle.std.specs.Prelude.{ℕ, ◌+◌, List, [], ◌∷◌, ◌++◌, None}
-use Rattle.processor.specs.Bytes.{padded, page_size}
+use Rattle.processor.specs.Bytes.{with_padding, page_size}
 use Rattle.sv_types.specs.Limits.{plain_format}
 use Rattle.sv_types.specs.Measure.{measure}
 use Rattle.sv_types.specs.Policies.{Rules}
@@ -9,7 +9,7 @@ use Rattle.guest_gen.specs.GuestCode.{setup, trap_handler, trap_place, user_loop
 
 -- the page of text, with zeros between its two parts and behind them
 unfoldable pub generated_text : ℕ → List ℕ
-generated_text n = padded (padded (code_bytes (setup n)) trap_place ++ code_bytes trap_handler) page_size
+generated_text n = with_padding (with_padding (code_bytes (setup n)) trap_place ++ code_bytes trap_handler) page_size
 
 unfoldable pub generated_image : ℕ → List ℕ
 generated_image n = laid_out (generated_text n) (code_bytes user_loop)

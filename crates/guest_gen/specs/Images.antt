@@ -1,7 +1,7 @@
 -- An executable file of three segments, page by page: its headers, a page of text, and a body.
 -- ELF-64 Object File Format, "ELF Header" and "Program Header Table"; RISC-V ELF psABI, "File Header".
 use Rattle.std.specs.Prelude.{ℕ, ◌+◌, ◌*◌, ◌^◌, List, [], ◌∷◌, ◌++◌, length, flat_map}
-use Rattle.processor.specs.Bytes.{low_bytes, padded, page_size, ram_base}
+use Rattle.processor.specs.Bytes.{low_bytes, with_padding, page_size, ram_base}
 use Rattle.processor.specs.Encoding.{word_of}
 use Rattle.processor.specs.declared.instruction.Instr.{Instr}
 use Rattle.sv_types.specs.Elf.{file_header_size, elf_magic, elfclass64, elfdata2lsb, ev_current, et_exec, em_riscv, program_header_size, pt_load, pf_x_bit, pf_w_bit, pf_r_bit}
@@ -94,7 +94,7 @@ code_bytes text = flat_map instruction_bytes text
 
 -- the headers, the text and the body, each from a page's begin on
 unfoldable pub laid_out : (text body : List ℕ) → List ℕ
-laid_out text body = padded (padded (headers (length body)) page_size ++ text) (2 * page_size) ++ body
+laid_out text body = with_padding (with_padding (headers (length body)) page_size ++ text) (2 * page_size) ++ body
 
 abbrev pub image : (text : List Instr) → (body : List ℕ) → List ℕ
 image text body = laid_out (code_bytes text) body

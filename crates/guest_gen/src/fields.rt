@@ -2,7 +2,7 @@
 
 ghost use Rattle.std.specs.Prelude.{◌≡◌, ◌+◌, ◌*◌, ◌≤◌, ◌++◌, OnOk, IsTrue, flat_map, length, vec_len};
 ghost use Rattle.std.specs.List.{list_all};
-ghost use Rattle.processor.specs.Bytes.{padded};
+ghost use Rattle.processor.specs.Bytes.{with_padding};
 ghost use Rattle.processor.specs.Encoding.{fits};
 ghost use Rattle.guest_gen.specs.Images as spec;
 
@@ -54,7 +54,7 @@ pub fn push_code(file: &mut Vec<u8>, text: &[Instr]) -> Result<(), AllocError>
 
 /// Puts zeros behind the bytes up to a size. Fails where memory is wanting.
 pub fn pad(file: &mut Vec<u8>, size: usize) -> Result<(), AllocError>
-    ensures padded { OnOk result (file.new.items ≡ padded file.old.items size) }
+    ensures padded { OnOk result (file.new.items ≡ with_padding file.old.items size) }
     ensures bytes { OnOk result (vec_len file.old ≤ size → vec_len file.new ≡ size) }
 {
     if file.len() < size {

@@ -8,7 +8,7 @@ use Rattle.processor.specs.Regions.{Region, IsRegion, IsWidth, IsHostPlace}
 use Rattle.processor.specs.Translation.{Destination, At, PageFault, Unreadable, Settings, first_stage}
 use Rattle.processor.specs.SecondStage.{walk_guest, place_through, after_first_stage, two_stages, entry_through, WalksInside, WalksApart}
 use Rattle.processor.specs.Hardware.{Core}
-use Rattle.processor.specs.HardwareMemory.{settings_at, translated}
+use Rattle.processor.specs.HardwareMemory.{settings_at, translation_result}
 use Rattle.processor.specs.Roots.{IsBare}
 use Rattle.processor_laws.proofs.RegionLemmas.{keeps_width, ends_inside, whole_sum}
 use Rattle.processor_laws.proofs.Walks.{Fits, first_stage_fits, walk_guest_fits}
@@ -68,8 +68,8 @@ bare_stages r hgatp va hpa s mode access bare walked = rw (bare, walked) refl
 
 -- an address leads where the second stage leads
 pub bare_place : (r : Region) (core : Core) (va hpa htinst : ℕ) (access : Access) → IsBare core.csrs.vsatp
-    → walk_guest r core.hregs.hgatp va access ≡ Some hpa → translated r core access va htinst ≡ Ok hpa
-unfolding translated
+    → walk_guest r core.hregs.hgatp va access ≡ Some hpa → translation_result r core access va htinst ≡ Ok hpa
+unfolding translation_result
 bare_place r core va hpa htinst access bare walked =
     rw (bare_stages r core.hregs.hgatp va hpa (settings_at core) core.hregs.mode access bare walked) refl
 

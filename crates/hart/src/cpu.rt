@@ -7,6 +7,7 @@ ghost use Rattle.processor.specs.HardwareAttempt.{attempt, OnlyWrites};
 ghost use Rattle.processor.specs.Roots.{IsSv39x4};
 ghost use Rattle.hart.specs.Cores.{core_of, attempted_of};
 ghost use Rattle.hart.specs.Conditions.{KeepsMode};
+ghost use Rattle.processor.specs.Bytes.{instruction_size};
 
 use crate::execution::attempt;
 use crate::hart::Core;
@@ -64,14 +65,14 @@ impl Cpu {
         wires: &W,
     ) -> Outcome
         requires count { self.old < 2 ^ 64 - 1 }
-        requires aligned { core.old.pc % 4 ≡ 0 }
+        requires aligned { core.old.pc % instruction_size ≡ 0 }
         requires mode { KeepsMode regs.now }
         requires second { IsSv39x4 regs.now.hgatp }
         requires apart { WalksApart mem.old regs.now.hgatp }
         requires agrees { CacheAgrees mem.old.tables cache.old }
         ensures counted { self.new ≡ self.old + 1 }
         ensures attempted { attempted_of mem.new core.new regs.now result ≡ attempt mem.old (core_of core.old regs.now) (W.seen wires.now) }
-        ensures pc { core.new.pc % 4 ≡ 0 }
+        ensures pc { core.new.pc % instruction_size ≡ 0 }
         ensures tables { mem.new.tables ≡ mem.old.tables }
         ensures filled { FilledUnder mem.old.tables regs.now.hgatp cache.old cache.new }
         ensures agrees { CacheAgrees mem.new.tables cache.new }

@@ -3,7 +3,7 @@
 ghost use Rattle.std.specs.Prelude.{◌≡◌, ◌<◌, Some, None};
 ghost use Rattle.processor.specs.Effects.{set_register};
 ghost use Rattle.processor.specs.HypervisorRegisters.{pending};
-ghost use Rattle.processor.specs.HardwareMemory.{translated};
+ghost use Rattle.processor.specs.HardwareMemory.{translation_result};
 ghost use Rattle.processor.specs.declared.access.Access.TheVariants as Access;
 ghost use Rattle.processor.specs.HardwareAttempt.{after_word, after_fetch, attempt, OnlyWrites};
 ghost use Rattle.processor.specs.IntegerRegisters.{register_count};
@@ -73,7 +73,7 @@ fn fetch<W: Wires>(
     wires: &W,
 ) -> Outcome
     requires ready { MayAttempt mem.old core.old regs.now cache.old }
-    ensures attempted { attempted_of mem.new core.new regs.now result ≡ after_fetch mem.old (core_of core.old regs.now) (W.seen wires.now) (translated mem.old (core_of core.old regs.now) Access.Fetch core.old.pc 0) }
+    ensures attempted { attempted_of mem.new core.new regs.now result ≡ after_fetch mem.old (core_of core.old regs.now) (W.seen wires.now) (translation_result mem.old (core_of core.old regs.now) Access.Fetch core.old.pc 0) }
     ensures kept { StaysReady mem.old mem.new core.new regs.now cache.old cache.new }
 {
     match translated(core, regs, cache, mem, Request::fetch(core.pc)) {

@@ -4,7 +4,7 @@ ghost use Rattle.std.specs.Prelude.{◌≡◌, ◌≤◌, ℕ, ◌/◌, ◌%◌,
 ghost use Rattle.processor.specs.Regions.{IsWidth, IsHostPlace};
 ghost use Rattle.processor.specs.SecondStage.{WalksApart};
 ghost use Rattle.processor.specs.CachedWalks.{CacheAgrees};
-ghost use Rattle.processor.specs.HardwareMemory.{misaligned, page_fault, guest_page_fault, fault_exception, settings_at, translated, reached, load_htinst, store_htinst, atomic_htinst};
+ghost use Rattle.processor.specs.HardwareMemory.{misaligned_cause, page_fault, guest_page_fault, fault_exception, settings_at, translation_result, aligned_translation, load_htinst, store_htinst, atomic_htinst};
 ghost use Rattle.processor.specs.Roots.{IsFirstStageRoot};
 ghost use Rattle.processor.specs.declared.access.Access.TheVariants as Access;
 ghost use Rattle.hart.specs.Cores.{core_of};
@@ -25,7 +25,7 @@ use sv39_walk::{Regime, translate_through};
 pub const IMPLICIT_READ: u32 = 0x3000;
 
 fn misaligned(access: Access) -> Cause
-    ensures { result ≡ misaligned access }
+    ensures { result ≡ misaligned_cause access }
 {
     match access {
         Access::Fetch => Cause::InstrMisaligned,
@@ -162,7 +162,7 @@ pub fn regime(core: &Core, regs: &HRegs) -> Regime
 }
 
 // `translated` by a walk, kept out of the way of addresses whose translation is held.
-#[tactic(auto, unfolding(processor::specs::HardwareMemory::translated))]
+#[tactic(auto, unfolding(processor::specs::HardwareMemory::translation_result))]
 #[inline(never)]
 fn walked(
     core: &Core,
@@ -172,7 +172,7 @@ fn walked(
     request: Request,
 ) -> Result<u64, Exception>
     requires ready { MayWalk mem.now regs.now.hgatp cache.old }
-    ensures value { result ≡ translated mem.now (core_of core.now regs.now) request.access request.address request.htinst }
+    ensures value { result ≡ translation_result mem.now (core_of core.now regs.now) request.access request.address request.htinst }
     ensures place { (width : ℕ) → IsWidth width → request.address % width ≡ 0 → IfOk result (λ hpa. IsHostPlace mem.now hpa width) }
     ensures ram { IfOk result (λ hpa. length mem.now.tables ≤ hpa) }
     ensures walked { Walked mem.now.tables regs.now.hgatp cache.old cache.new }
@@ -201,7 +201,7 @@ fn held_place(
 ) -> Option<u64>
     requires apart { WalksApart mem.now regs.now.hgatp }
     requires agrees { CacheAgrees mem.now.tables cache.now }
-    ensures value { IfSome result (λ hpa. translated mem.now (core_of core.now regs.now) request.access request.address request.htinst ≡ Ok hpa) }
+    ensures value { IfSome result (λ hpa. translation_result mem.now (core_of core.now regs.now) request.access request.address request.htinst ≡ Ok hpa) }
     ensures place { IfSome result (λ hpa. (width : ℕ) → IsWidth width → request.address % width ≡ 0 → IsHostPlace mem.now hpa width) }
     ensures ram { IfSome result (λ hpa. length mem.now.tables ≤ hpa) }
 {
@@ -214,7 +214,7 @@ fn held_place(
 }
 
 /// The host place of a virtual address, or the exception of an access there.
-#[tactic(auto, unfolding(processor::specs::HardwareMemory::translated))]
+#[tactic(auto, unfolding(processor::specs::HardwareMemory::translation_result))]
 #[inline(always)]
 pub(crate) fn translated(
     core: &Core,
@@ -224,7 +224,7 @@ pub(crate) fn translated(
     request: Request,
 ) -> Result<u64, Exception>
     requires ready { MayWalk mem.now regs.now.hgatp cache.old }
-    ensures value { result ≡ translated mem.now (core_of core.now regs.now) request.access request.address request.htinst }
+    ensures value { result ≡ translation_result mem.now (core_of core.now regs.now) request.access request.address request.htinst }
     ensures place { (width : ℕ) → IsWidth width → request.address % width ≡ 0 → IfOk result (λ hpa. IsHostPlace mem.now hpa width) }
     ensures ram { IfOk result (λ hpa. length mem.now.tables ≤ hpa) }
     ensures walked { Walked mem.now.tables regs.now.hgatp cache.old cache.new }
@@ -237,7 +237,7 @@ pub(crate) fn translated(
 
 /// The host place of `width` bytes at an address, or the exception of an access there: first that it is no multiple of
 /// the width, then those of its translation.
-#[tactic(auto, unfolding(processor::specs::HardwareMemory::reached))]
+#[tactic(auto, unfolding(processor::specs::HardwareMemory::aligned_translation))]
 #[inline(always)]
 pub(crate) fn reached(
     core: &Core,
@@ -249,7 +249,7 @@ pub(crate) fn reached(
 ) -> Result<u64, Exception>
     requires ready { MayWalk mem.now regs.now.hgatp cache.old }
     requires width { IsWidth width }
-    ensures value { result ≡ reached mem.now (core_of core.now regs.now) request.access request.address width request.htinst }
+    ensures value { result ≡ aligned_translation mem.now (core_of core.now regs.now) request.access request.address width request.htinst }
     ensures place { IfOk result (λ hpa. IsHostPlace mem.now hpa width) }
     ensures ram { IfOk result (λ hpa. length mem.now.tables ≤ hpa) }
     ensures walked { Walked mem.now.tables regs.now.hgatp cache.old cache.new }

@@ -8,6 +8,7 @@ ghost use Rattle.processor.specs.HardwareMemory.{retire, retire_with, after_load
 ghost use Rattle.processor.specs.IntegerRegisters.{register_count};
 ghost use Rattle.hart.specs.Cores.{core_of, step_of, attempted_of};
 ghost use Rattle.hart.specs.Conditions.{MayStep};
+ghost use Rattle.processor.specs.Bytes.{instruction_size};
 
 use crate::hart::Core;
 use crate::trap::raise;
@@ -59,7 +60,7 @@ pub(crate) fn load(
     requires width { IsWidth format.width }
     requires place { IfOk place (λ hpa. IsHostPlace mem.now hpa format.width) }
     ensures step { step_of core.new regs.now result ≡ after_load mem.now (core_of core.old regs.now) rd format.width format.signed place }
-    ensures pc { core.new.pc % 4 ≡ 0 }
+    ensures pc { core.new.pc % instruction_size ≡ 0 }
 {
     match place {
         Ok(hpa) => {
@@ -91,7 +92,7 @@ pub(crate) fn load_reserved(
     requires width { IsWidth width }
     requires place { IfOk place (λ hpa. IsHostPlace mem.now hpa width) }
     ensures step { step_of core.new regs.now result ≡ after_load_reserved mem.now (core_of core.old regs.now) rd width place }
-    ensures pc { core.new.pc % 4 ≡ 0 }
+    ensures pc { core.new.pc % instruction_size ≡ 0 }
 {
     match place {
         Ok(hpa) => {
@@ -125,7 +126,7 @@ pub(crate) fn store(
     requires ram { IfOk place (λ hpa. length mem.old.tables ≤ hpa) }
     ensures attempted { attempted_of mem.new core.new regs.now result ≡ after_store mem.old (core_of core.old regs.now) stored.width stored.value place }
     ensures tables { mem.new.tables ≡ mem.old.tables }
-    ensures pc { core.new.pc % 4 ≡ 0 }
+    ensures pc { core.new.pc % instruction_size ≡ 0 }
 {
     match place {
         Ok(hpa) => {
@@ -173,7 +174,7 @@ pub(crate) fn store_conditional(
     requires ram { IfOk place (λ hpa. length mem.old.tables ≤ hpa) }
     ensures attempted { attempted_of mem.new core.new regs.now result ≡ after_store_conditional mem.old (core_of core.old regs.now) rd stored.width stored.value place }
     ensures tables { mem.new.tables ≡ mem.old.tables }
-    ensures pc { core.new.pc % 4 ≡ 0 }
+    ensures pc { core.new.pc % instruction_size ≡ 0 }
 {
     match place {
         Ok(hpa) => {
@@ -224,7 +225,7 @@ pub(crate) fn atomic(
     requires ram { IfOk place (λ hpa. length mem.old.tables ≤ hpa) }
     ensures attempted { attempted_of mem.new core.new regs.now result ≡ after_amo mem.old (core_of core.old regs.now) rd operation.width operation.op operation.value place }
     ensures tables { mem.new.tables ≡ mem.old.tables }
-    ensures pc { core.new.pc % 4 ≡ 0 }
+    ensures pc { core.new.pc % instruction_size ≡ 0 }
 {
     match place {
         Ok(hpa) => {

@@ -7,6 +7,7 @@ ghost use Rattle.processor.specs.HardwareAttempt.{illegal, virtual_instruction, 
 ghost use Rattle.processor.specs.IntegerRegisters.{register_count};
 ghost use Rattle.hart.specs.Cores.{core_of, step_of};
 ghost use Rattle.hart.specs.Conditions.{MayStep};
+ghost use Rattle.processor.specs.Bytes.{instruction_size};
 
 use crate::hart::Core;
 use crate::requests::{retire, retire_with};
@@ -100,7 +101,7 @@ pub(crate) fn csr(
     requires ready { MayStep core.old regs.now }
     requires register { rd < register_count }
     ensures step { step_of core.new regs.now result ≡ after_csr (core_of core.old regs.now) lines.now rd access.op access.value access.writes reached }
-    ensures pc { core.new.pc % 4 ≡ 0 }
+    ensures pc { core.new.pc % instruction_size ≡ 0 }
 {
     match reached {
         Ok(csr) => {
@@ -117,7 +118,7 @@ pub(crate) fn csr(
 pub(crate) fn supervisor_only(core: &mut Core, regs: &HRegs, word: u32) -> Outcome
     requires ready { MayStep core.old regs.now }
     ensures step { step_of core.new regs.now result ≡ after_supervisor_only (core_of core.old regs.now) word regs.now.mode }
-    ensures pc { core.new.pc % 4 ≡ 0 }
+    ensures pc { core.new.pc % instruction_size ≡ 0 }
 {
     match regs.mode {
         Mode::Kernel => retire(core, None),
@@ -131,7 +132,7 @@ pub(crate) fn supervisor_only(core: &mut Core, regs: &HRegs, word: u32) -> Outco
 pub(crate) fn sret(core: &mut Core, regs: &HRegs, word: u32) -> Outcome
     requires ready { MayStep core.old regs.now }
     ensures step { step_of core.new regs.now result ≡ after_sret (core_of core.old regs.now) word regs.now.mode }
-    ensures pc { core.new.pc % 4 ≡ 0 }
+    ensures pc { core.new.pc % instruction_size ≡ 0 }
 {
     raise(core, regs, virtual_instruction(word))
 }
@@ -141,7 +142,7 @@ pub(crate) fn sret(core: &mut Core, regs: &HRegs, word: u32) -> Outcome
 pub(crate) fn call(core: &mut Core, regs: &HRegs) -> Outcome
     requires ready { MayStep core.old regs.now }
     ensures step { step_of core.new regs.now result ≡ raise (core_of core.old regs.now) (plain_exception (call_cause regs.now.mode) 0) }
-    ensures pc { core.new.pc % 4 ≡ 0 }
+    ensures pc { core.new.pc % instruction_size ≡ 0 }
 {
     let cause = match regs.mode {
         Mode::Kernel => Cause::GuestCall,

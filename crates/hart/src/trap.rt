@@ -6,6 +6,7 @@ ghost use Rattle.processor.specs.Traps.{is_interrupt, guest_number};
 ghost use Rattle.processor.specs.declared.mode.Mode.TheVariants as Mode;
 ghost use Rattle.hart.specs.Cores.{core_of, step_of};
 ghost use Rattle.hart.specs.Conditions.{MayStep};
+ghost use Rattle.processor.specs.Bytes.{instruction_size};
 
 use crate::hart::Core;
 use processor::{Cause, Exception, Exit, ExitCause, HRegs, Interrupt, Mode, Outcome, has_bit};
@@ -29,7 +30,7 @@ pub(crate) fn plain_exception(cause: Cause, tval: u64) -> Exception
 pub(crate) fn raise(core: &mut Core, regs: &HRegs, exception: Exception) -> Outcome
     requires ready { MayStep core.old regs.now }
     ensures step { step_of core.new regs.now result ≡ raise (core_of core.old regs.now) exception }
-    ensures pc { core.new.pc % 4 ≡ 0 }
+    ensures pc { core.new.pc % instruction_size ≡ 0 }
 {
     let cause = ExitCause::Exception(exception.cause);
     if has_bit(regs.hedeleg, exception.cause.number() as u8) {
@@ -52,7 +53,7 @@ pub(crate) fn raise(core: &mut Core, regs: &HRegs, exception: Exception) -> Outc
 pub(crate) fn interrupt(core: &mut Core, regs: &HRegs, interrupt: Interrupt) -> Outcome
     requires ready { MayStep core.old regs.now }
     ensures step { step_of core.new regs.now result ≡ after_interrupt (core_of core.old regs.now) interrupt }
-    ensures pc { core.new.pc % 4 ≡ 0 }
+    ensures pc { core.new.pc % instruction_size ≡ 0 }
 {
     let cause = ExitCause::Interrupt(interrupt);
     if has_bit(regs.hideleg, interrupt.virtual_place()) {
@@ -73,10 +74,10 @@ pub(crate) fn interrupt(core: &mut Core, regs: &HRegs, interrupt: Interrupt) -> 
 #[tactic(auto, unfolding(processor::specs::Hardware::guest_trap))]
 #[inline(always)]
 fn guest_trap(core: &mut Core, regs: &HRegs, cause: ExitCause, tval: u64) -> Outcome
-    requires aligned { core.old.pc % 4 ≡ 0 }
+    requires aligned { core.old.pc % instruction_size ≡ 0 }
     requires kernel { regs.now.mode ≡ Mode.Kernel }
     ensures step { step_of core.new regs.now result ≡ guest_trap (core_of core.old regs.now) (is_interrupt cause) (guest_number cause) tval }
-    ensures pc { core.new.pc % 4 ≡ 0 }
+    ensures pc { core.new.pc % instruction_size ≡ 0 }
 {
     core.pc = into_guest(&mut core.csrs, regs.mode, cause, tval, core.pc);
     core.reservation = None;
@@ -86,10 +87,10 @@ fn guest_trap(core: &mut Core, regs: &HRegs, cause: ExitCause, tval: u64) -> Out
 #[tactic(auto, unfolding(processor::specs::Hardware::leave))]
 #[inline(always)]
 fn leave(core: &mut Core, regs: &HRegs, exit: Exit) -> Outcome
-    requires aligned { core.old.pc % 4 ≡ 0 }
-    requires exit { exit.pc % 4 ≡ 0 }
+    requires aligned { core.old.pc % instruction_size ≡ 0 }
+    requires exit { exit.pc % instruction_size ≡ 0 }
     ensures step { step_of core.new regs.now result ≡ leave (core_of core.old regs.now) exit }
-    ensures pc { core.new.pc % 4 ≡ 0 }
+    ensures pc { core.new.pc % instruction_size ≡ 0 }
 {
     Outcome::Exit(into_hypervisor(&mut core.csrs, exit))
 }

@@ -4,7 +4,7 @@ use Rattle.std.specs.Prelude.{slice_index_or, if◌then◌else◌}
 use Rattle.machine_model.specs.Machine.{forgets}
 use Rattle.machine_model.specs.HardwareEvent.{interrupted_hosts, software_set}
 use Rattle.hart_answers.specs.Hosts.{host_at, hosts_of}
-use Rattle.hart_answers.specs.Seats.{forgotten, notified, notified_by, first_changed}
+use Rattle.hart_answers.specs.Seats.{seat_after_write, seat_with_software, notified_by, first_changed}
 use Rattle.hart_answers.specs.declared.seats.Seat.{Seat}
 
 pub none_changed : (change : ℕ → Seat → Seat) (seats : List Seat) → first_changed change 0 0 seats ≡ seats
@@ -38,7 +38,7 @@ length_changed change at (suc n) (x ∷ seats) = ap (λ k. suc k) (length_change
 
 -- all hosts behind a write
 pub all_forgotten : (hpa width at n : ℕ) (seats : List Seat) → length seats ≤ n
-    → hosts_of (first_changed (λ h. forgotten hpa width) at n seats) ≡ map (forgets hpa width) (hosts_of seats)
+    → hosts_of (first_changed (λ h. seat_after_write hpa width) at n seats) ≡ map (forgets hpa width) (hosts_of seats)
 unfolding first_changed
 all_forgotten hpa width at zero [] below = refl
 all_forgotten hpa width at zero (x ∷ seats) below = absurd (omega arith)
@@ -46,7 +46,7 @@ all_forgotten hpa width at (suc n) [] below = refl
 all_forgotten hpa width at (suc n) (x ∷ seats) below =
     ap (◌∷◌ (forgets hpa width (host_at x))) (all_forgotten hpa width (at + 1) n seats (omega arith))
 
-notified_one : (b : Bool) (x : Seat) → host_at (if b then notified x else x) ≡ (if b then software_set (host_at x) else host_at x)
+notified_one : (b : Bool) (x : Seat) → host_at (if b then seat_with_software x else x) ≡ (if b then software_set (host_at x) else host_at x)
 notified_one true x = refl
 notified_one false x = refl
 

@@ -57,10 +57,10 @@ left_entry hart View.User = refl
 left_entry hart (View.Entry i) = refl
 
 -- a hart that is stopped
-abbrev pub stopped : Hart → Hart
-stopped hart = record hart { core = record hart.core { reservation = None }; started = false }
+abbrev pub hart_at_stop : Hart → Hart
+hart_at_stop hart = record hart { core = record hart.core { reservation = None }; started = false }
 
-pub at_stop : (hart : Hart) (view : View) → host_of (stopped hart) (view_outside view) ≡ host_stopped (host_of hart view)
+pub at_stop : (hart : Hart) (view : View) → host_of (hart_at_stop hart) (view_outside view) ≡ host_stopped (host_of hart view)
 unfolding host_stopped
 at_stop hart View.Kernel = refl
 at_stop hart View.User = refl

@@ -4,13 +4,13 @@ use Rattle.processor.specs.Requests.{after_write}
 use Rattle.processor.specs.HypervisorRegisters.{virtual_software_bit}
 use Rattle.hart_answers.specs.declared.seats.Seat.{Seat}
 
-abbrev pub forgotten : ℕ → ℕ → Seat → Seat
-forgotten hpa width seat = record seat {
+abbrev pub seat_after_write : ℕ → ℕ → Seat → Seat
+seat_after_write hpa width seat = record seat {
   hart = record seat.hart { core = record seat.hart.core { reservation = after_write hpa width seat.hart.core.reservation } };
 }
 
-abbrev pub notified : Seat → Seat
-notified seat = record seat { hart = record seat.hart { core = record seat.hart.core { csrs = record seat.hart.core.csrs { hvip = virtual_software_bit } } } }
+abbrev pub seat_with_software : Seat → Seat
+seat_with_software seat = record seat { hart = record seat.hart { core = record seat.hart.core { csrs = record seat.hart.core.csrs { hvip = virtual_software_bit } } } }
 
 -- of seats that are numbered from `at` on, the first n
 unfoldable pub first_changed : (ℕ → Seat → Seat) → (at n : ℕ) → List Seat → List Seat
@@ -19,4 +19,4 @@ first_changed change at (suc n) [] = []
 first_changed change at (suc n) (seat ∷ seats) = change at seat ∷ first_changed change (at + 1) n seats
 
 abbrev pub notified_by : (ℕ → Bool) → ℕ → Seat → Seat
-notified_by named h seat = if named h then notified seat else seat
+notified_by named h seat = if named h then seat_with_software seat else seat

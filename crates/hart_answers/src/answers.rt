@@ -12,6 +12,7 @@ ghost use Rattle.page_guard.specs.Sides.{mode_of, view_at_return};
 ghost use Rattle.hart_answers.specs.Hosts.{host_of};
 ghost use Rattle.hart_answers.specs.Trapped.{in_handler, back_from_handler};
 ghost use Rattle.hart.specs.declared.hart.Hart.{Hart as Kept};
+ghost use Rattle.processor.specs.Bytes.{instruction_size};
 
 use csr_file::Csrs;
 use hart::Hart;
@@ -37,7 +38,7 @@ pub fn take_trap(
     entries: &Entries,
     trap: Trap,
 ) -> Result<(), Forbidden>
-    requires { hart.old.core.pc % 4 ≡ 0 }
+    requires { hart.old.core.pc % instruction_size ≡ 0 }
     ensures permitted { (rules : Rules) → rules.entries ≡ entries.now.entries → OnOk result (may_enter rules (mode_of side.old) (trap_target hart.old.core.csrs.vstvec (is_interrupt trap.cause) (guest_number trap.cause)) ≡ true) }
     ensures forbidden { (rules : Rules) → rules.entries ≡ entries.now.entries → OnErr result (may_enter rules (mode_of side.old) (trap_target hart.old.core.csrs.vstvec (is_interrupt trap.cause) (guest_number trap.cause)) ≡ false) }
     ensures hart { (rules : Rules) → rules.entries ≡ entries.now.entries → rules.bound ≡ entries.now.bound → OnOk result (host_of hart.new side.new ≡ host_at_trap rules (is_interrupt trap.cause) (guest_number trap.cause) trap.tval (host_of hart.old side.old)) }
@@ -54,7 +55,7 @@ pub fn take_trap(
 // The hart in its trap handler, which it came to from a mode.
 #[inline(always)]
 fn enter_handler(hart: &mut Hart, from: Mode, trap: Trap)
-    requires { hart.old.core.pc % 4 ≡ 0 }
+    requires { hart.old.core.pc % instruction_size ≡ 0 }
     ensures { hart.new ≡ in_handler hart.old from (is_interrupt trap.cause) (guest_number trap.cause) trap.tval }
 {
     hart.core.pc = into_guest(
@@ -167,12 +168,12 @@ pub fn send_again(side: &mut Side, guard: &Guard)
 /// Whatever it was, the hart begins in kernel mode at an address, with its number in a0, a value in a1, and all other
 /// registers as at boot.
 #[tactic(auto, unfolding(machine_model::specs::HostHarts::host_started, reference::specs::Calls::hart_at))]
-pub fn start(hart: &mut Hart, side: &mut Side, guard: &Guard, which: u8, pc: u64, opaque: u64)
-    ensures hart { host_of hart.new side.new ≡ host_started which pc opaque (host_of hart.old side.old) }
+pub fn start(hart: &mut Hart, side: &mut Side, guard: &Guard, hart_index: u8, pc: u64, opaque: u64)
+    ensures hart { host_of hart.new side.new ≡ host_started hart_index pc opaque (host_of hart.old side.old) }
 {
     *side = Side::at_boot(guard);
     hart.core.regs = Regs::new();
-    hart.core.regs.set(A0, u64::from(which));
+    hart.core.regs.set(A0, u64::from(hart_index));
     hart.core.regs.set(A1, opaque);
     hart.core.pc = pc;
     hart.core.csrs = Csrs::at_boot();

@@ -6,7 +6,7 @@ ghost use Rattle.reference.specs.Calls.{mask_names};
 ghost use Rattle.machine_model.specs.Machine.{forgets};
 ghost use Rattle.machine_model.specs.HardwareEvent.{interrupted_hosts};
 ghost use Rattle.hart_answers.specs.Hosts.{hosts_of};
-ghost use Rattle.hart_answers.specs.Seats.{forgotten, notified};
+ghost use Rattle.hart_answers.specs.Seats.{seat_after_write, seat_with_software};
 
 use csr_file::{Csrs, VIRTUAL_SOFTWARE};
 use hart::Hart;
@@ -38,7 +38,7 @@ pub fn forget(seats: &mut [Seat], hpa: u64, width: u64)
 }
 
 fn forget_one(seat: &mut Seat, hpa: u64, width: u64)
-    ensures { seat.new ≡ forgotten hpa width seat.old }
+    ensures { seat.new ≡ seat_after_write hpa width seat.old }
 {
     seat.hart.core.forget(hpa, width);
 }
@@ -56,7 +56,7 @@ pub fn interrupt(seats: &mut [Seat], mask: u64, base: u64)
 }
 
 fn notify(seat: &mut Seat, named: bool)
-    ensures { seat.new ≡ (if named then notified seat.old else seat.old) }
+    ensures { seat.new ≡ (if named then seat_with_software seat.old else seat.old) }
 {
     if named {
         set_software(&mut seat.hart.core.csrs);
@@ -71,11 +71,11 @@ fn set_software(csrs: &mut Csrs)
 
 // Whether a mask and a base name a hart: the hart base + i for each bit i of the mask, or all of them.
 #[tactic(auto, unfolding(reference::specs::Calls::mask_names))]
-fn is_named(mask: u64, base: u64, which: u64) -> bool
-    ensures { result ≡ mask_names mask base which }
+fn is_named(mask: u64, base: u64, hart: u64) -> bool
+    ensures { result ≡ mask_names mask base hart }
 {
     if base == ALL_HARTS {
         return true;
     }
-    base <= which && which - base < u64::from(MASK_WIDTH) && has_bit(mask, (which - base) as u8)
+    base <= hart && hart - base < u64::from(MASK_WIDTH) && has_bit(mask, (hart - base) as u8)
 }

@@ -7,7 +7,7 @@ use Rattle.std.proofs.lemmas.Bool.Decides.{nat_tests}
 use Rattle.std.proofs.lemmas.List.{length-replicate, ext_get_or}
 use Rattle.std.proofs.lemmas.List.Elements.{All-head, All-tail, All-take, All-get_or}
 use Rattle.std.proofs.lemmas.List.Sums.{fold-append}
-use Rattle.processor.specs.Bytes.{padded, page_size, ram_place}
+use Rattle.processor.specs.Bytes.{with_padding, page_size, ram_place}
 use Rattle.sv_types.specs.Kernel.{LoadedSegment, with_segment}
 use Rattle.processor_laws.proofs.ByteLemmas.{lt_or_le, length_padded}
 use Rattle.elf64_load.proofs.LoadedBytes.{at_before, at_written, at_behind, at_padded, zero_at}
@@ -25,14 +25,14 @@ segment_byte ram s at placed =
     elim (lt_or_le at (ram_place s.gpa)) [
       | inl before ↦
           let test : has_byte s at ≡ false = grind (arith, nat_tests) in
-          rw test (at_before ram (padded s.bytes s.memory) (ram_place s.gpa) at (omega arith) before)
+          rw test (at_before ram (with_padding s.bytes s.memory) (ram_place s.gpa) at (omega arith) before)
       | inr from ↦ elim (lt_or_le at (ram_place s.gpa + s.memory)) [
         | inl within ↦
             let test : has_byte s at ≡ true = grind (arith, nat_tests) in
-            rw test (at_written ram (padded s.bytes s.memory) (ram_place s.gpa) at (omega arith) from (omega arith) ∙ at_padded s.bytes s.memory (at - ram_place s.gpa))
+            rw test (at_written ram (with_padding s.bytes s.memory) (ram_place s.gpa) at (omega arith) from (omega arith) ∙ at_padded s.bytes s.memory (at - ram_place s.gpa))
         | inr behind ↦
             let test : has_byte s at ≡ false = grind (arith, nat_tests) in
-            rw test (at_behind ram (padded s.bytes s.memory) (ram_place s.gpa) at (omega arith) (omega arith))
+            rw test (at_behind ram (with_padding s.bytes s.memory) (ram_place s.gpa) at (omega arith) (omega arith))
       ]
     ]
 

@@ -4,7 +4,7 @@ use Rattle.std.proofs.Math.Seq.{drop-append-add}
 use Rattle.std.proofs.lemmas.List.{drop-drop, take-append-drop, length-replicate, take_at}
 use Rattle.std.specs.Prelude.{max, min, ◌*◌, ◌/◌, ◌==◌, nat_le, nat_lt, ◌&&◌, if◌then◌else◌}
 use Rattle.std.proofs.lemmas.Bool.Decides.{nat_tests}
-use Rattle.processor.specs.Bytes.{overwrite, padded, part}
+use Rattle.processor.specs.Bytes.{overwrite, with_padding, part}
 use Rattle.sv_types.specs.Kernel.{LoadedSegment, with_segment}
 use Rattle.processor.specs.Regions.{Region}
 use Rattle.processor_laws.proofs.ByteLemmas.{lt_or_le, length_before, length_overwrite, length_padded}
@@ -78,7 +78,7 @@ pub part_put : (old m new : Region) (place at from count filled : ℕ) (bytes pi
     → piece ≡ part bytes from count
     → (length old.tables ≤ at → m ≡ record { tables = old.tables; ram = overwrite old.ram (at - length old.tables) piece })
     → new ≡ record { tables = m.tables; ram = overwrite m.ram (place + filled) (replicate (count - filled) 0) }
-    → new ≡ record { tables = old.tables; ram = overwrite old.ram place (padded (part bytes from count) count) }
+    → new ≡ record { tables = old.tables; ram = overwrite old.ram place (with_padding (part bytes from count) count) }
 part_put old m new place at from count filled bytes piece filled_is fits at_is piece_is copied zeros_put =
     let m_is = copied (omega arith) in
     let e : at - length old.tables ≡ place = omega arith in
@@ -87,9 +87,9 @@ part_put old m new place at from count filled bytes piece filled_is fits at_is p
     let short : length (part bytes from count) ≤ count = let most = length-take count (drop from bytes) in omega arith in
     let few : length piece ≤ count = let same = ap length piece_is in omega arith in
     let size : length {A = ℕ} (replicate (count - length piece) 0) ≡ count - length piece = length-replicate (count - length piece) 0 in
-    let made : overwrite m.ram (place + filled) (replicate (count - filled) 0) ≡ overwrite old.ram place (padded (part bytes from count) count) =
+    let made : overwrite m.ram (place + filled) (replicate (count - filled) 0) ≡ overwrite old.ram place (with_padding (part bytes from count) count) =
     rw (sym filled_is, r) (overwrite_joined old.ram piece (replicate (count - length piece) 0) place (omega arith))
-    ∙ ap (λ (xs : List ℕ). overwrite old.ram place (padded xs count)) piece_is in
+    ∙ ap (λ (xs : List ℕ). overwrite old.ram place (with_padding xs count)) piece_is in
     zeros_put ∙ rw (made, t) refl
 
 pub part_size : (old m : Region) (place at : ℕ) (piece : List ℕ) → place + length piece ≤ length old.ram → at ≡ length old.tables + place
@@ -99,33 +99,33 @@ part_size old m place at piece fits at_is copied =
     ap (λ (r : Region). length r.ram) (copied (omega arith)) ∙ length_overwrite old.ram piece (at - length old.tables) (omega arith)
 
 pub padded_fits : (ram bytes : List ℕ) (place from count : ℕ) → place + count ≤ length ram
-    → length (overwrite ram place (padded (part bytes from count) count)) ≡ length ram
+    → length (overwrite ram place (with_padding (part bytes from count) count)) ≡ length ram
 padded_fits ram bytes place from count fits =
     let most = length-take count (drop from bytes) in
-    let size : length (padded (part bytes from count) count) ≡ count = length_padded (part bytes from count) count (omega arith) in
-    length_overwrite ram (padded (part bytes from count) count) place (omega arith)
+    let size : length (with_padding (part bytes from count) count) ≡ count = length_padded (part bytes from count) count (omega arith) in
+    length_overwrite ram (with_padding (part bytes from count) count) place (omega arith)
 
 -- the bytes of a list with a part written in it
 pub part_byte : (ram bytes : List ℕ) (place start count at : ℕ) → place ≤ start → start + count ≤ length ram
     → (b : Bool) → b ≡ (nat_le start at && nat_lt at (start + count))
-    → get_or (overwrite ram start (padded (part bytes (start - place) count) count)) at 0 ≡ (if b then get_or bytes (at - place) 0 else get_or ram at 0)
+    → get_or (overwrite ram start (with_padding (part bytes (start - place) count) count)) at 0 ≡ (if b then get_or bytes (at - place) 0 else get_or ram at 0)
 part_byte ram bytes place start count at order fits b is =
     let piece = part bytes (start - place) count in
     let most = length-take count (drop (start - place) bytes) in
-    let size : length (padded piece count) ≡ count = length_padded piece count (omega arith) in
+    let size : length (with_padding piece count) ≡ count = length_padded piece count (omega arith) in
     elim (lt_or_le at start) [
       | inl before ↦
           let test : (nat_le start at && nat_lt at (start + count)) ≡ false = grind (arith, nat_tests) in
-          rw (is, test) (at_before ram (padded piece count) start at (omega arith) before)
+          rw (is, test) (at_before ram (with_padding piece count) start at (omega arith) before)
       | inr from ↦ elim (lt_or_le at (start + count)) [
         | inl inside ↦
             let test : (nat_le start at && nat_lt at (start + count)) ≡ true = grind (arith, nat_tests) in
             let e : start - place + (at - start) ≡ at - place = omega arith in
-            rw (is, test) (at_written ram (padded piece count) start at (omega arith) from (omega arith) ∙ at_padded piece count (at - start)
+            rw (is, test) (at_written ram (with_padding piece count) start at (omega arith) from (omega arith) ∙ at_padded piece count (at - start)
             ∙ at_part bytes (start - place) count (at - start) (omega arith) ∙ ap (λ n. get_or bytes n 0) e)
         | inr behind ↦
             let test : (nat_le start at && nat_lt at (start + count)) ≡ false = grind (arith, nat_tests) in
-            rw (is, test) (at_behind ram (padded piece count) start at (omega arith) (omega arith))
+            rw (is, test) (at_behind ram (with_padding piece count) start at (omega arith) (omega arith))
       ]
     ]
 

@@ -3,7 +3,7 @@
 
 ghost use Rattle.std.specs.List.{All};
 ghost use Rattle.std.specs.Prelude.{◌≡◌, ℕ, ◌+◌, ◌-◌, ◌*◌, ◌/◌, ◌<◌, ◌≤◌, ◌==◌, ◌&&◌, false, nat_le, nat_lt, map, length, replicate, slice_index, slice_index_or, if◌then◌else◌, OnErr, OnOk};
-ghost use Rattle.processor.specs.Bytes.{page_size, overwrite, padded, part, ram_place};
+ghost use Rattle.processor.specs.Bytes.{page_size, overwrite, with_padding, part, ram_place};
 ghost use Rattle.sv_types.specs.Kernel.{segments_ram};
 ghost use Rattle.processor.specs.Regions.{most_ram_pages};
 ghost use Rattle.elf64_load.specs.Images.{segment_of, segments_of};
@@ -60,7 +60,7 @@ fn put_piece(mem: &mut HostMem, segment: &Segment, page: usize, zeros: &Zeros)
 fn put_part(mem: &mut HostMem, place: usize, bytes: &[u8], from: usize, count: usize, zeros: &Zeros)
     requires inside { place + count ≤ length mem.old.ram }
     requires from { from ≤ length mem.old.ram }
-    ensures { mem.new ≡ record mem.old { ram = overwrite mem.old.ram place (padded (part bytes.now from count) count) } }
+    ensures { mem.new ≡ record mem.old { ram = overwrite mem.old.ram place (with_padding (part bytes.now from count) count) } }
 {
     let base = mem.table_bytes();
     let start = from.min(bytes.len());

@@ -6,7 +6,7 @@ ghost use Rattle.sv_types.specs.Boot.{no_counts};
 ghost use Rattle.sv_types.specs.declared.event.Note.TheVariants.{Demote, Denied, Load, Unload, Retire};
 ghost use Rattle.sv_types.specs.declared.event.Verdict.TheVariants.{Running, Shutdown, Stopped};
 ghost use Rattle.sv_types.specs.declared.sbi.SbiCode.TheVariants.{Success};
-ghost use Rattle.reference.specs.Counting.{counted, count_turn, count_beat, count_key, count_tick, count_retired, count_trap, count_return, count_demote, count_denied, count_dropped, count_load, count_unload, MayCount, noted, printed_low, machine_ended};
+ghost use Rattle.reference.specs.Counting.{with_count, count_turn, count_beat, count_key, count_tick, count_retired, count_trap, count_return, count_demote, count_denied, count_dropped, count_load, count_unload, MayCount, with_note, printed_low, machine_ended};
 ghost use Rattle.journal_records.specs.Journals.{count_row};
 ghost use Rattle.reference.specs.Answers.{count_answer, journal_beside};
 
@@ -139,7 +139,7 @@ impl Journal {
     /// A hart has its turn.
     pub fn count_turn(&mut self)
         requires { self.old.counts.turns < 2 ^ 64 - 1 }
-        ensures { self.new ≡ counted count_turn self.old }
+        ensures { self.new ≡ with_count count_turn self.old }
     {
         self.counts.turns += 1;
     }
@@ -147,7 +147,7 @@ impl Journal {
     /// The disk does the next part of its work.
     pub fn count_beat(&mut self)
         requires { self.old.counts.beats < 2 ^ 64 - 1 }
-        ensures { self.new ≡ counted count_beat self.old }
+        ensures { self.new ≡ with_count count_beat self.old }
     {
         self.counts.beats += 1;
     }
@@ -155,7 +155,7 @@ impl Journal {
     /// A key is typed.
     pub fn count_key(&mut self)
         requires { self.old.counts.keys < 2 ^ 64 - 1 }
-        ensures { self.new ≡ counted count_key self.old }
+        ensures { self.new ≡ with_count count_key self.old }
     {
         self.counts.keys += 1;
     }
@@ -163,7 +163,7 @@ impl Journal {
     /// Time goes on by one.
     pub fn count_tick(&mut self)
         requires { self.old.counts.ticks < 2 ^ 64 - 1 }
-        ensures { self.new ≡ counted count_tick self.old }
+        ensures { self.new ≡ with_count count_tick self.old }
     {
         self.counts.ticks += 1;
     }
@@ -171,7 +171,7 @@ impl Journal {
     /// An instruction that was carried out.
     pub fn count_retired(&mut self)
         requires { self.old.counts.retired < 2 ^ 64 - 1 }
-        ensures { self.new ≡ counted count_retired self.old }
+        ensures { self.new ≡ with_count count_retired self.old }
     {
         self.counts.retired += 1;
     }
@@ -181,7 +181,7 @@ impl Journal {
     pub fn count_row(&mut self, made: u64)
         requires turns { self.old.counts.turns + made < 2 ^ 64 }
         requires retired { self.old.counts.retired + made < 2 ^ 64 }
-        ensures { self.new ≡ counted (count_row made) self.old }
+        ensures { self.new ≡ with_count (count_row made) self.old }
     {
         self.counts.turns += made;
         self.counts.retired += made;
@@ -191,7 +191,7 @@ impl Journal {
     pub fn count_trap(&mut self, from: Mode)
         requires traps { self.old.counts.traps < 2 ^ 64 - 1 }
         requires enters { self.old.counts.enters < 2 ^ 64 - 1 }
-        ensures { self.new ≡ counted (count_trap from) self.old }
+        ensures { self.new ≡ with_count (count_trap from) self.old }
     {
         self.counts.traps += 1;
         if from == Mode::User {
@@ -203,7 +203,7 @@ impl Journal {
     pub fn count_return(&mut self, to: Mode)
         requires retired { self.old.counts.retired < 2 ^ 64 - 1 }
         requires leaves { self.old.counts.leaves < 2 ^ 64 - 1 }
-        ensures { self.new ≡ counted (count_return to) self.old }
+        ensures { self.new ≡ with_count (count_return to) self.old }
     {
         self.counts.retired += 1;
         if to == Mode::User {
@@ -214,7 +214,7 @@ impl Journal {
     /// A byte of input that found no room.
     pub fn count_dropped(&mut self)
         requires { self.old.counts.dropped < 2 ^ 64 - 1 }
-        ensures { self.new ≡ counted count_dropped self.old }
+        ensures { self.new ≡ with_count count_dropped self.old }
     {
         self.counts.dropped += 1;
     }
@@ -223,7 +223,7 @@ impl Journal {
     pub fn demote(&mut self, hart: u8, pc: u64, gpa: u64)
         requires demotes { self.old.counts.demotes < 2 ^ 64 - 1 }
         requires notes { self.old.counts.notes < 2 ^ 64 - 1 }
-        ensures { self.new ≡ noted (Demote hart self.old.counts.turns pc gpa) (counted count_demote self.old) }
+        ensures { self.new ≡ with_note (Demote hart self.old.counts.turns pc gpa) (with_count count_demote self.old) }
     {
         let turn = self.counts.turns;
         self.counts.demotes += 1;
@@ -239,7 +239,7 @@ impl Journal {
     pub fn deny(&mut self, gpa: u64)
         requires denied { self.old.counts.denied < 2 ^ 64 - 1 }
         requires notes { self.old.counts.notes < 2 ^ 64 - 1 }
-        ensures { self.new ≡ noted (Denied gpa) (counted count_denied self.old) }
+        ensures { self.new ≡ with_note (Denied gpa) (with_count count_denied self.old) }
     {
         self.counts.denied += 1;
         self.note(Note::Denied { gpa });
@@ -281,7 +281,7 @@ impl Journal {
     fn answer_load(&mut self, hart: u8, id: u64, code: SbiCode)
         requires refused { self.old.counts.refused < 2 ^ 64 - 1 }
         requires notes { self.old.counts.notes < 2 ^ 64 - 1 }
-        ensures { self.new ≡ noted (Load hart self.old.counts.turns id code) (counted (count_answer code) self.old) }
+        ensures { self.new ≡ with_note (Load hart self.old.counts.turns id code) (with_count (count_answer code) self.old) }
     {
         let turn = self.counts.turns;
         self.count_answer(code);
@@ -297,7 +297,7 @@ impl Journal {
     fn answer_unload(&mut self, hart: u8, id: u64, code: SbiCode)
         requires refused { self.old.counts.refused < 2 ^ 64 - 1 }
         requires notes { self.old.counts.notes < 2 ^ 64 - 1 }
-        ensures { self.new ≡ noted (Unload hart self.old.counts.turns id code) (counted (count_answer code) self.old) }
+        ensures { self.new ≡ with_note (Unload hart self.old.counts.turns id code) (with_count (count_answer code) self.old) }
     {
         let turn = self.counts.turns;
         self.count_answer(code);
@@ -313,7 +313,7 @@ impl Journal {
     fn answer_retire(&mut self, hart: u8, code: SbiCode)
         requires refused { self.old.counts.refused < 2 ^ 64 - 1 }
         requires notes { self.old.counts.notes < 2 ^ 64 - 1 }
-        ensures { self.new ≡ noted (Retire hart self.old.counts.turns code) (counted (count_answer code) self.old) }
+        ensures { self.new ≡ with_note (Retire hart self.old.counts.turns code) (with_count (count_answer code) self.old) }
     {
         let turn = self.counts.turns;
         self.count_answer(code);
@@ -323,7 +323,7 @@ impl Journal {
     // A module that was loaded.
     fn loaded(&mut self, hart: u8, id: u64)
         requires counts { MayCount self.old.counts }
-        ensures { self.new ≡ noted (Load hart self.old.counts.turns id Success) (counted count_load self.old) }
+        ensures { self.new ≡ with_note (Load hart self.old.counts.turns id Success) (with_count count_load self.old) }
     {
         self.counts.loads += 1;
         self.answer_load(hart, id, SbiCode::Success);
@@ -332,7 +332,7 @@ impl Journal {
     // A module that was unloaded.
     fn unloaded(&mut self, hart: u8, id: u64)
         requires counts { MayCount self.old.counts }
-        ensures { self.new ≡ noted (Unload hart self.old.counts.turns id Success) (counted count_unload self.old) }
+        ensures { self.new ≡ with_note (Unload hart self.old.counts.turns id Success) (with_count count_unload self.old) }
     {
         self.counts.unloads += 1;
         self.answer_unload(hart, id, SbiCode::Success);
@@ -341,7 +341,7 @@ impl Journal {
     // A code other than success is a refusal.
     fn count_answer(&mut self, code: SbiCode)
         requires { self.old.counts.refused < 2 ^ 64 - 1 }
-        ensures { self.new ≡ counted (count_answer code) self.old }
+        ensures { self.new ≡ with_count (count_answer code) self.old }
     {
         match code {
             SbiCode::Success => {}
@@ -352,7 +352,7 @@ impl Journal {
     #[tactic(auto, using(crate::proofs::Notes::notes_full, crate::proofs::Notes::notes_room))]
     fn note(&mut self, note: Note)
         requires { self.old.counts.notes < 2 ^ 64 - 1 }
-        ensures { self.new ≡ noted note self.old }
+        ensures { self.new ≡ with_note note self.old }
     {
         if self.notes.len() < MOST_NOTES {
             self.notes.push_reserved(note);

@@ -24,7 +24,7 @@ use Rattle.secvisor_cli.specs.CommandLine.{unless_none}
 use Rattle.secvisor_cli.specs.Plans.{Due, Refuse, RunFrom, Make, Saving, Plan, run_plan}
 use Rattle.secvisor_cli.specs.Reading.{Follows}
 use Rattle.secvisor_cli.specs.Answers.{outside, Writes, SavedBehind}
-use Rattle.outside.specs.Endings.{settled}
+use Rattle.outside.specs.Endings.{status_of_end}
 use Rattle.secvisor_cli.proofs.PlanLemmas.{Keeps, HasFault, HasFoundFaults, follows_keeps}
 use Rattle.secvisor_cli.proofs.SaveLemmas.{changes, exact_saving, ChangesOut, changes_none, writes_faults}
 use Rattle.secvisor_cli.proofs.TopLemmas.{run_found_faults, EffectOut, effect_out, run_no_read_fault, refused_status, refused_fault}
@@ -159,7 +159,7 @@ reached_replays line (Ok words) (Some (RunFrom start asked save)) old new read a
     run_replays line words old new read start asked save answer (line_good line words is) follows a
 
 pub replays : (line : LiveLine) (words : Result LiveWords Refusal) (old new : LiveOutside) (result : Result Status Trouble) → live_judged (live_line line) ≡ words → PerformsLive words old new result →
-    HasEnded (settled result) old.keys new.keys → Replays line old new (settled result)
+    HasEnded (status_of_end result) old.keys new.keys → Replays line old new (status_of_end result)
 replays line words old new (Ok answer) is p ended = reached_replays line words p.reached old new p.read answer is p.follows p.answers ended
 replays line words old new (Err Write) is p (inl ended) = absurd (cc ended)
 replays line words old new (Err Write) is p (inr ended) = absurd (cc ended.0)
@@ -182,7 +182,7 @@ answer_no_refusal : (verdict : Verdict) (old new : KeysState) (answer : Status) 
 answer_no_refusal verdict old new answer (inl is) refused = cc (refused, ap is_refusal is, run_no_refusal verdict)
 answer_no_refusal verdict old new answer (inr it) refused = cc (refused, ap is_refusal it.0)
 
-run_unrefused : (start : State) (asked : List Event) (name : List ℕ) (old new : LiveOutside) (result : Result Status Trouble) → RunsLive start asked name old new result → is_refusal (settled result) ≡ true → ⊥
+run_unrefused : (start : State) (asked : List Event) (name : List ℕ) (old new : LiveOutside) (result : Result Status Trouble) → RunsLive start asked name old new result → is_refusal (status_of_end result) ≡ true → ⊥
 run_unrefused start asked name old new (Ok answer) r refused =
     answer_no_refusal (run start r.journal).journal.verdict old.keys new.keys answer (is_done start asked name old new answer r).status refused
 run_unrefused start asked name old new (Err Write) r refused = cc refused
@@ -217,13 +217,13 @@ live_keys words old new result p = reached_keys (out_of words) p.reached (live_o
 
 -- ---- no key was read
 
-reached_keyless : (name : List ℕ) (reached : Option Due) (old new : LiveOutside) (result : Result Status Trouble) → AnswersLiveReached name reached old new result → is_refusal (settled result) ≡ true → new.keys ≡ old.keys
+reached_keyless : (name : List ℕ) (reached : Option Due) (old new : LiveOutside) (result : Result Status Trouble) → AnswersLiveReached name reached old new result → is_refusal (status_of_end result) ≡ true → new.keys ≡ old.keys
 reached_keyless name None old new result a refused = ap (λ (o : LiveOutside). o.keys) a.1
 reached_keyless name (Some (Refuse refusal)) old new result a refused = a.1
 reached_keyless name (Some (RunFrom start asked save)) old new result a refused = absurd (run_unrefused start asked name old new result a refused)
 reached_keyless name (Some (Make out rules line)) old new result a refused = absurd a
 
-pub live_keyless : (words : Result LiveWords Refusal) (old new : LiveOutside) (result : Result Status Trouble) → PerformsLive words old new result → is_refusal (settled result) ≡ true → new.keys ≡ old.keys
+pub live_keyless : (words : Result LiveWords Refusal) (old new : LiveOutside) (result : Result Status Trouble) → PerformsLive words old new result → is_refusal (status_of_end result) ≡ true → new.keys ≡ old.keys
 live_keyless words old new result p = reached_keyless (out_of words) p.reached (live_outside p.read old.sink old.keys old.bench) new result p.answers
 
 -- ---- the files
@@ -261,7 +261,7 @@ answer_no_memory : (verdict : Verdict) (old new : KeysState) (answer : Status) �
 answer_no_memory verdict old new answer (inl is) memory = run_no_memory verdict (sym is ∙ memory)
 answer_no_memory verdict old new answer (inr it) memory = cc (it.0, memory)
 
-run_unsaved : (start : State) (asked : List Event) (name : List ℕ) (old new : LiveOutside) (result : Result Status Trouble) → RunsLive start asked name old new result → settled result ≡ Status.Memory → new.files ≡ old.files
+run_unsaved : (start : State) (asked : List Event) (name : List ℕ) (old new : LiveOutside) (result : Result Status Trouble) → RunsLive start asked name old new result → status_of_end result ≡ Status.Memory → new.files ≡ old.files
 run_unsaved start asked name old new (Ok answer) r memory =
     absurd (answer_no_memory (run start r.journal).journal.verdict old.keys new.keys answer (is_done start asked name old new answer r).status memory)
 run_unsaved start asked name old new (Err Write) r memory = absurd (cc memory)
@@ -269,7 +269,7 @@ run_unsaved start asked name old new (Err Memory) r memory =
     memory_unsaved start.rules.harts r.journal name old.files new.files r.written r.saved r.saves (wanted r.ended.read_failed r.saved r.status)
 
 reached_unsaved : (name : List ℕ) (reached : Option Due) (old new : LiveOutside) (result : Result Status Trouble) → AnswersLiveReached name reached old new result →
-    (is_refusal (settled result) ≡ true) ⊎ (settled result ≡ Status.Memory) → new.files ≡ old.files
+    (is_refusal (status_of_end result) ≡ true) ⊎ (status_of_end result ≡ Status.Memory) → new.files ≡ old.files
 reached_unsaved name None old new result a is = ap (λ (o : LiveOutside). o.files) a.1
 reached_unsaved name (Some (Refuse refusal)) old new result a is = a.0.saves.0
 reached_unsaved name (Some (RunFrom start asked save)) old new result a (inl refused) = absurd (run_unrefused start asked name old new result a refused)
@@ -277,7 +277,7 @@ reached_unsaved name (Some (RunFrom start asked save)) old new result a (inr mem
 reached_unsaved name (Some (Make out rules line)) old new result a is = absurd a
 
 pub live_unsaved : (words : Result LiveWords Refusal) (old new : LiveOutside) (result : Result Status Trouble) → PerformsLive words old new result →
-    (is_refusal (settled result) ≡ true) ⊎ (settled result ≡ Status.Memory) → (new.files.held ≡ old.files.held) × (new.files.save_faults ≡ old.files.save_faults)
+    (is_refusal (status_of_end result) ≡ true) ⊎ (status_of_end result ≡ Status.Memory) → (new.files.held ≡ old.files.held) × (new.files.save_faults ≡ old.files.save_faults)
 live_unsaved words old new result p is =
     let k : Keeps old.files p.read = follows_keeps (live_plan words) old.files p.read p.reached p.follows in
     let same : new.files ≡ p.read = reached_unsaved (out_of words) p.reached (live_outside p.read old.sink old.keys old.bench) new result p.answers is in
@@ -312,14 +312,14 @@ answer_fault : (verdict : Verdict) (old new : KeysState) (answer : Status) → R
 answer_fault verdict old new answer (inl same) is = absurd (run_no_read_fault verdict (sym same ∙ is))
 answer_fault verdict old new answer (inr it) is = it.1
 
-run_fault : (start : State) (asked : List Event) (name : List ℕ) (old new : LiveOutside) (result : Result Status Trouble) → RunsLive start asked name old new result → settled result ≡ Status.ReadFault →
+run_fault : (start : State) (asked : List Event) (name : List ℕ) (old new : LiveOutside) (result : Result Status Trouble) → RunsLive start asked name old new result → status_of_end result ≡ Status.ReadFault →
     old.keys.faults < new.keys.faults
 run_fault start asked name old new (Ok answer) r is = answer_fault (run start r.journal).journal.verdict old.keys new.keys answer (is_done start asked name old new answer r).status is
 run_fault start asked name old new (Err Write) r is = absurd (cc is)
 run_fault start asked name old new (Err Memory) r is = absurd (cc is)
 
 reached_fault : (plan : Plan) (name : List ℕ) (reached : Option Due) (old new : LiveOutside) (read : FilesState) (result : Result Status Trouble) → HasFoundFaults plan → Follows plan old.files read reached →
-    AnswersLiveReached name reached (live_outside read old.sink old.keys old.bench) new result → settled result ≡ Status.ReadFault → LiveFault plan old new
+    AnswersLiveReached name reached (live_outside read old.sink old.keys old.bench) new result → status_of_end result ≡ Status.ReadFault → LiveFault plan old new
 reached_fault plan name None old new read (Ok answer) never follows a is = absurd (cc a.0)
 reached_fault plan name None old new read (Err Write) never follows a is = absurd (cc is)
 reached_fault plan name None old new read (Err Memory) never follows a is = absurd (cc is)
@@ -328,7 +328,7 @@ reached_fault plan name (Some (RunFrom start asked save)) old new read result ne
     inr (run_fault start asked name (live_outside read old.sink old.keys old.bench) new result a is)
 reached_fault plan name (Some (Make out rules line)) old new read result never follows a is = absurd a
 
-pub live_fault : (words : List (List ℕ)) (old new : LiveOutside) (result : Result Status Trouble) → PerformsLive (live_judged words) old new result → settled result ≡ Status.ReadFault →
+pub live_fault : (words : List (List ℕ)) (old new : LiveOutside) (result : Result Status Trouble) → PerformsLive (live_judged words) old new result → status_of_end result ≡ Status.ReadFault →
     LiveFault (live_plan (live_judged words)) old new
 live_fault words old new result p is =
     reached_fault (live_plan (live_judged words)) (out_of (live_judged words)) p.reached old new p.read result (live_found_faults (live_judged words) (live_no_read_fault words)) p.follows p.answers is

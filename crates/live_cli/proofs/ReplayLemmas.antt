@@ -31,7 +31,7 @@ use Rattle.secvisor_cli.specs.declared.file_fault.Part.{Part}
 use Rattle.secvisor_cli.specs.declared.refusal.Refusal.{Refusal}
 use Rattle.secvisor_cli.specs.declared.refusal.Refusal.TheVariants.{NoCommand, Measure, Entry}
 use Rattle.command_words.specs.declared.command.DiskKind.{DiskKind}
-use Rattle.secvisor_cli.specs.CommandLine.{Command, Run, RunWords, Source, Text, judged, split_judged, run_words, unless_none}
+use Rattle.secvisor_cli.specs.CommandLine.{Command, Run, RunWords, Source, Text, judgement_of_words, split_judged, run_words, unless_none}
 use Rattle.secvisor_cli.specs.Plans.{Due, Refuse, RunFrom, Plan, End, Judge, most_policy_bytes, most_image_bytes, most_script_bytes, policy_judged, policy_part, part_judged, kernel_part, disk_refusal, disk_part, text_part, script_part, image_measure, boot_judged, boot_plan, image_plan, run_plan, command_plan, plan_of}
 use Rattle.secvisor_cli.specs.Reading.{Follows}
 use Rattle.secvisor_cli.proofs.PlanLemmas.{Keeps}
@@ -356,8 +356,8 @@ split_as line script events save none =
     ap (λ (b : Bool). if b then None else shape_split (run_line line script events save)) none
 
 pub run_judged_as : (line : LiveLine) (words : LiveWords) (script : List ℕ) (events : ℕ) (save : List ℕ) → LineGood line words → NamesScript script → has_dash save ≡ false → events ≤ most_events →
-    judged (run_line line script events save) ≡ Ok (Run (again_run line script events (unless_none save)))
-unfolding judged run_words
+    judgement_of_words (run_line line script events save) ≡ Ok (Run (again_run line script events (unless_none save)))
+unfolding judgement_of_words run_words
 run_judged_as line words script events save good names saves few =
     let split : RunSplit = record { kind = DiskKind.Block; image = line.image; policy = line.policy; disk = line.disk; script = script; events = decimal events; save = save } in
     ap split_judged (split_as line script events save (no_dash line words script events save good names saves few))
@@ -366,7 +366,7 @@ run_judged_as line words script events save good names saves few =
 
 -- what `run` is due by its words is due by its plan
 pub words_due : (line : LiveLine) (words : LiveWords) (script : List ℕ) (events : ℕ) (save : List ℕ) (held : List ℕ → Option (List ℕ)) → LineGood line words → NamesScript script → has_dash save ≡ false →
-    events ≤ most_events → due_in held (plan_of (judged (run_line line script events save))) ≡ due_in held (run_plan (again_run line script events (unless_none save)))
+    events ≤ most_events → due_in held (plan_of (judgement_of_words (run_line line script events save))) ≡ due_in held (run_plan (again_run line script events (unless_none save)))
 unfolding plan_of command_plan
 words_due line words script events save held good names saves few =
     ap (λ (asked : Result Command Refusal). due_in held (plan_of asked)) (run_judged_as line words script events save good names saves few)

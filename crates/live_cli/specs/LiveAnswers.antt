@@ -24,7 +24,7 @@ use Rattle.outside.specs.declared.trouble.Trouble.TheVariants.{Write, Memory}
 use Rattle.secvisor_cli.specs.Plans.{Due, Refuse, RunFrom, Make, Exactly, most_script_bytes}
 use Rattle.secvisor_cli.specs.Reading.{Follows}
 use Rattle.secvisor_cli.specs.Answers.{outside, Writes, SavedBehind, WritesAndSaves}
-use Rattle.outside.specs.Endings.{settled}
+use Rattle.outside.specs.Endings.{status_of_end}
 use Rattle.live_cli.specs.LiveWords.{LiveWords, live_plan}
 use Rattle.live_cli.specs.LiveReady.{out_of}
 
@@ -141,4 +141,4 @@ pub record LiveHeadline (words : Result LiveWords Refusal) (old new : LiveOutsid
   -- how the answer ended
   pub result : Result Status Trouble
   pub performs : PerformsLive words old new result
-  pub status : answer ≡ settled result
+  pub status : answer ≡ status_of_end result

@@ -13,7 +13,7 @@ use Rattle.machine_model.specs.Machine.{Machine}
 use Rattle.command_words.specs.Commands.{has_dash}
 use Rattle.outside.specs.Outside.{after_taking}
 use Rattle.live_keys.specs.Keys.{KeysState}
-use Rattle.secvisor_cli.specs.CommandLine.{Text, judged, source_of, unless_none}
+use Rattle.secvisor_cli.specs.CommandLine.{Text, judgement_of_words, source_of, unless_none}
 use Rattle.secvisor_cli.specs.DueIn.{due_in}
 use Rattle.secvisor_cli.specs.Plans.{RunFrom, plan_of}
 use Rattle.live_cli.specs.LiveAnswers.{LiveOutside}
@@ -95,4 +95,4 @@ pub record Replays (line : LiveLine) (old new : LiveOutside) (answer : Status) :
   -- in all files that hold the same parts, and the text under a name of their own, with at least as many events
   pub again : (held : List ℕ → Option (List ℕ)) (script : List ℕ) (events : ℕ) (save : List ℕ) → HoldParts held line parts → held script ≡ Some text →
       NamesScript script → has_dash save ≡ false → length journal ≤ events → events ≤ most_events →
-      due_in held (plan_of (judged (run_line line script events save))) ≡ RunFrom start journal (unless_none save)
+      due_in held (plan_of (judgement_of_words (run_line line script events save))) ≡ RunFrom start journal (unless_none save)

@@ -26,8 +26,8 @@ use Rattle.processor.specs.declared.mode.Mode.{Mode}
 use Rattle.processor.specs.declared.mode.Mode.TheVariants.{Kernel, User}
 use Rattle.reference.specs.States.{State, Hart, Loading, Binding, is_protected}
 use Rattle.reference.specs.Counting.{count, count_turn, count_beat, count_key, count_tick}
-use Rattle.reference.specs.Answers.{replied, harts_beside, answered}
-use Rattle.reference.specs.Calls.{hart_at, interrupted, with_software, mask_names}
+use Rattle.reference.specs.Answers.{with_reply, harts_beside, state_after_answer}
+use Rattle.reference.specs.Calls.{hart_at, interrupt_harts, with_software, mask_names}
 use Rattle.reference.specs.declared.answers.Answer.{Answer}
 use Rattle.reference.specs.declared.answers.Beside.{Beside}
 use Rattle.reference.specs.declared.answers.Beside.TheVariants.{SendsInterrupts, StartsHart}
@@ -74,8 +74,8 @@ software_addressed : (named : Bool) (hart : Hart) → HasAddress hart.reservatio
 software_addressed true hart has = has
 software_addressed false hart has = has
 
-sent_addressed : (named : ℕ → Bool) (first : ℕ) (harts : List Hart) → HaveAddresses harts → HaveAddresses (interrupted named first harts)
-unfolding interrupted
+sent_addressed : (named : ℕ → Bool) (first : ℕ) (harts : List Hart) → HaveAddresses harts → HaveAddresses (interrupt_harts named first harts)
+unfolding interrupt_harts
 sent_addressed named first [] have = tt
 sent_addressed named first (x ∷ harts) have = (software_addressed (named first) x have.0, sent_addressed named (first + 1) harts have.1)
 
@@ -212,8 +212,8 @@ csr_keeps r h hart w rd op operand writes (Some csr) k has = set_addressed r.har
 
 -- ---- calls, by what an answer does
 
-replied_addressed : (reply : Reply) (hart : Hart) → HasAddress (replied reply hart).reservation
-unfolding replied
+replied_addressed : (reply : Reply) (hart : Hart) → HasAddress (with_reply reply hart).reservation
+unfolding with_reply
 replied_addressed (Gives a0) hart = tt
 replied_addressed (Replies a0 a1) hart = tt
 replied_addressed Stays hart = tt
@@ -225,10 +225,10 @@ beside_addressed (SendsInterrupts mask base) harts have = sent_addressed (mask_n
 beside_addressed (StartsHart other pc opaque) harts have = set_addressed harts other _ have tt
 beside_addressed _ harts have = have
 
-answered_keeps : (r : State) (h : ℕ) (hart : Hart) (a : Answer) → Keeps r → Keeps (answered r h hart a)
-unfolding answered
+answered_keeps : (r : State) (h : ℕ) (hart : Hart) (a : Answer) → Keeps r → Keeps (state_after_answer r h hart a)
+unfolding state_after_answer
 answered_keeps r h hart a k =
-    beside_addressed a.beside (slice_set r.harts h (replied a.reply hart)) (set_addressed r.harts h (replied a.reply hart) k (replied_addressed a.reply hart))
+    beside_addressed a.beside (slice_set r.harts h (with_reply a.reply hart)) (set_addressed r.harts h (with_reply a.reply hart) k (replied_addressed a.reply hart))
 
 load_step_keeps : (r : State) (h : ℕ) (hart : Hart) (load : Loading) (left : ℕ) → Keeps r → Keeps (load_step_of r h hart load left)
 unfolding load_step_of decide

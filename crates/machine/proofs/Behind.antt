@@ -14,14 +14,14 @@ use Rattle.sv_types.specs.declared.event.Event.TheVariants.{Turn}
 use Rattle.sv_types.specs.declared.event.Rule.TheVariants.{Entry}
 use Rattle.sv_types.specs.declared.event.Verdict.{Verdict}
 use Rattle.sv_types.specs.declared.event.Verdict.TheVariants.{Stopped}
-use Rattle.reference.specs.Counting.{CountsAtMost, MayCount, count_trap, count_turn, counted, machine_ended}
+use Rattle.reference.specs.Counting.{CountsAtMost, MayCount, count_trap, count_turn, with_count, machine_ended}
 use Rattle.reference.specs.Devices.{lines_at}
 use Rattle.reference.specs.States.{Binding, Journal, State}
 use Rattle.reference.specs.Trapping.{may_enter}
-use Rattle.machine_model.specs.HardwareEvent.{attempted, left_by}
+use Rattle.machine_model.specs.HardwareEvent.{attempt_of, left_by}
 use Rattle.machine_model.specs.HostExits.{host_exit_answered, served_exit}
 use Rattle.machine_model.specs.HostHarts.{asks_again, host_at_trap, host_seen}
-use Rattle.machine_model.specs.Machine.{HostHart, Machine, all_forget, raised, update, with_core}
+use Rattle.machine_model.specs.Machine.{HostHart, Machine, all_forget, with_count_raised, update, with_core}
 use Rattle.machine_model.specs.Served.{Seen, answer_in, exit_answer, is_again, is_sret, plain_answer, virtual_answer}
 use Rattle.machine_model.specs.StandsFor.{StandsFor}
 use Rattle.machine_model.specs.Steps.{AttemptsServed, IsStep, IsTurn, StepsUnder, WithTables}
@@ -84,7 +84,7 @@ call_quiet : (m : Machine) (h : ℕ) (host : HostHart) (mode : Mode) → (host_e
 unfolding host_exit_answered
 call_quiet m h host mode =
     either_printed (may_enter m.rules mode (trap_target host.core.csrs.vstvec false 8))
-    (record m { harts = update m.harts h (host_at_trap m.rules false 8 0); journal = counted (count_trap mode) m.journal })
+    (record m { harts = update m.harts h (host_at_trap m.rules false 8 0); journal = with_count (count_trap mode) m.journal })
     (record m { journal = machine_ended (Stopped (Entry (trap_target host.core.csrs.vstvec false 8)) h m.journal.counts.turns) m.journal })
     m.journal.printed refl refl
 
@@ -126,7 +126,7 @@ module _ (m : Machine) (h n : ℕ) (region : Region) (last core : Core) (exit : 
   core_is = ap (λ (x : HostHart). x.core) host_is
 
   made : Attempted
-  made = attempted (raised now count_turn) h host
+  made = attempt_of (with_count_raised now count_turn) h host
 
   made_is : made ≡ with_region region (leave last exit)
   unfolding made
@@ -141,11 +141,11 @@ module _ (m : Machine) (h n : ℕ) (region : Region) (last core : Core) (exit : 
       ∙ ap (λ (c : Core). update now.harts h (with_core c)) (ap (λ (a : Attempted). a.core) made_is ∙ sym leaves.left)
       ∙ updated_twice m.harts h last core
 
-  left_is : left_by (raised now count_turn) h host ≡ behind
+  left_is : left_by (with_count_raised now count_turn) h host ≡ behind
   unfolding made
   left_is =
       same_but m made.region region (all_forget made.outcome (update now.harts h (with_core made.core))) (update m.harts h (with_core core))
-      (counted count_turn (counted_row n m.journal)) (m.attempts + n + 1)
+      (with_count count_turn (counted_row n m.journal)) (m.attempts + n + 1)
       (ap (λ (a : Attempted). a.region) made_is) harts_are
 
   -- the hart that it left is in the same mode
@@ -165,17 +165,17 @@ module _ (m : Machine) (h n : ℕ) (region : Region) (last core : Core) (exit : 
       ap (λ (o : Outcome). asks_again region.ram m.rules host o) outcome_is
       ∙ ap is_again (asked (host_seen region.ram m.rules host host.core.hregs.mode exit) (ap (λ (c : Core). c.hregs.mode) core_is)) ∙ once
 
-  served : AttemptsServed (asks_again region.ram m.rules host made.outcome) (raised now count_turn) h host after
+  served : AttemptsServed (asks_again region.ram m.rules host made.outcome) (with_count_raised now count_turn) h host after
   unfolding made
   served =
-      subst (λ (again : Bool). AttemptsServed again (raised now count_turn) h host after) (sym not_again)
-      (exit_served (raised now count_turn) after h exit false (still_there m.harts h h last may.below) outcome_is
+      subst (λ (again : Bool). AttemptsServed again (with_count_raised now count_turn) h host after) (sym not_again)
+      (exit_served (with_count_raised now count_turn) after h exit false (still_there m.harts h h last may.below) outcome_is
       (subst (λ (x : Machine). WithTables x (served_exit x h exit) after) (sym left_is) answered))
 
   turned : IsTurn now h after
   unfolding made
   turned =
-      turn_served (raised now count_turn) after h (still_there m.harts h h last may.below)
+      turn_served (with_count_raised now count_turn) after h (still_there m.harts h h last may.below)
       (ap (λ (x : HostHart). x.started) host_is ∙ may.attempts.started) may.attempts.free served
 
   pub steps_behind : IsStep now (Turn h) after

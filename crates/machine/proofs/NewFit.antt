@@ -33,17 +33,17 @@ image_addressed : (rules : Rules) (file : List ℕ) (disk : Disk) → HaveAddres
 image_addressed rules file disk = start_addressed rules _ _ _ disk
 
 -- a machine of these parts, of which no reservation is noted
-abbrev pub unnoted : Machine → Inside
-unnoted parts = record { parts = parts; none_reserved = false }
+abbrev pub without_reservations : Machine → Inside
+without_reservations parts = record { parts = parts; none_reserved = false }
 
-new_fit : (m : Machine) (start : State) → HaveAddresses start.harts → IsNew m start → m.journal ≡ journal_at_boot → IsFit (unnoted m)
+new_fit : (m : Machine) (start : State) → HaveAddresses start.harts → IsNew m start → m.journal ≡ journal_at_boot → IsFit (without_reservations m)
 new_fit m start have new none =
     let attempts = new.attempts in
     let cleared = new.cleared in
     let printed : length m.journal.printed ≡ 0 = ap (λ (j : Journal). length j.printed) none in
     record { state = start; stands = new.stands; addresses = have; attempts = omega arith; few = omega arith; free = tt; printed = omega arith }
 
-pub flat_fit : (m : Machine) (pages wanted : List ℕ) → IsNew m (flat_start pages wanted) → m.journal ≡ journal_at_boot → IsFit (unnoted m)
+pub flat_fit : (m : Machine) (pages wanted : List ℕ) → IsNew m (flat_start pages wanted) → m.journal ≡ journal_at_boot → IsFit (without_reservations m)
 flat_fit m pages wanted new none = new_fit m (flat_start pages wanted) (flat_addressed pages wanted) new none
 
 -- an image that was read lies in RAM
@@ -51,5 +51,5 @@ pub read_placed : (ram_pages : ℕ) (image : KernelImage) → IsRead ram_pages i
 read_placed ram_pages image read = image_placed read.file ram_pages (segments_of image) read.is.accepted read.is.segments
 
 pub image_fit : (m : Machine) (rules : Rules) (ram_pages : ℕ) (image : KernelImage) (disk : Disk) → IsRead ram_pages image
-    → ((file : List ℕ) → IsImageOf file ram_pages image → IsNew m (image_start rules file disk)) → m.journal ≡ journal_at_boot → IsFit (unnoted m)
+    → ((file : List ℕ) → IsImageOf file ram_pages image → IsNew m (image_start rules file disk)) → m.journal ≡ journal_at_boot → IsFit (without_reservations m)
 image_fit m rules ram_pages image disk read new none = new_fit m (image_start rules read.file disk) (image_addressed rules read.file disk) (new read.file read.is) none

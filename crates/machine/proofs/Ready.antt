@@ -3,7 +3,7 @@ use Rattle.std.proofs.Common.{◌≡◌, ℕ, zero, suc, ◌<◌, List, [], ◌�
 use Rattle.std.specs.Prelude.{Option, Some, None, IfSome, option_map}
 use Rattle.processor.specs.Hardware.{Core}
 use Rattle.processor.specs.HardwareAttempt.{attempt, after_pending, OnlyWrites}
-use Rattle.processor.specs.HardwareMemory.{translated}
+use Rattle.processor.specs.HardwareMemory.{translation_result}
 use Rattle.processor.specs.HypervisorRegisters.{HypervisorRegisters, pending}
 use Rattle.sv_types.specs.Policies.{Rules}
 use Rattle.processor.specs.Regions.{Region}
@@ -19,14 +19,14 @@ use Rattle.processor.specs.declared.exit.Exit.{Exit}
 use Rattle.processor.specs.declared.mode.Mode.TheVariants.{Kernel}
 use Rattle.sv_types.specs.declared.protection.Protection.{Protection}
 use Rattle.processor_laws.proofs.HardwareWrites.{interrupt_writes, fetch_writes}
-use Rattle.reference.specs.Counting.{counted, count_turn, count_retired, count_trap}
+use Rattle.reference.specs.Counting.{with_count, count_turn, count_retired, count_trap}
 use Rattle.reference.specs.Devices.{lines_at}
 use Rattle.reference.specs.Run.{step}
 use Rattle.reference.specs.States.{State, Hart}
 use Rattle.reference.specs.Turn.{leave_entry}
-use Rattle.machine_model.specs.HardwareEvent.{attempted, hart_again, is_loading, left_by, sent_again}
+use Rattle.machine_model.specs.HardwareEvent.{attempt_of, hart_again, is_loading, left_by, sent_again}
 use Rattle.machine_model.specs.HostHarts.{asks_again, host_outside}
-use Rattle.machine_model.specs.Machine.{Machine, HostHart, HostLoad, raised}
+use Rattle.machine_model.specs.Machine.{Machine, HostHart, HostLoad, with_count_raised}
 use Rattle.machine_model.specs.StandsFor.{StandsFor, Unseen, machine_of, host_hart, host_harts, load_kept}
 use Rattle.machine_model.specs.Steps.{IsStep, IsTurn, StepsUnder}
 use Rattle.answer_laws.specs.Laws.{IsQuiet, MakesAttempt}
@@ -114,7 +114,7 @@ running_of m r stands on = sym (ap (λ (x : Machine). x.journal.verdict) stands.
 pending_writes : (r : Region) (core : Core) (lines : Lines) (x : Option Interrupt) → OnlyWrites r (after_pending r core lines x).region (after_pending r core lines x).outcome
 unfolding after_pending
 pending_writes r core lines (Some interrupt) = interrupt_writes r core interrupt
-pending_writes r core lines None = fetch_writes r core lines (translated r core Access.Fetch core.pc 0)
+pending_writes r core lines None = fetch_writes r core lines (translation_result r core Access.Fetch core.pc 0)
 
 attempt_writes : (r : Region) (core : Core) (lines : Lines) → OnlyWrites r (attempt r core lines).region (attempt r core lines).outcome
 unfolding attempt
@@ -130,27 +130,27 @@ stepped m after r h stands on served =
     (step_law m after r (Turn h) stands (subst (λ (v : Verdict). StepsUnder v m (Turn h) after) (sym on) served)).0
 
 -- a turn of one attempt, without an exit
-quiet_turn : (m after : Machine) (h : ℕ) (o : Outcome) → Attempts m h → o ≡ (attempted m h (hart_in m.harts h)).outcome → IsQuiet o
-    → Finished o (left_by (raised m count_turn) h (hart_in m.harts h)) h after → IsTurn m h after
+quiet_turn : (m after : Machine) (h : ℕ) (o : Outcome) → Attempts m h → o ≡ (attempt_of m h (hart_in m.harts h)).outcome → IsQuiet o
+    → Finished o (left_by (with_count_raised m count_turn) h (hart_in m.harts h)) h after → IsTurn m h after
 quiet_turn m after h o makes e quiet served =
-    turn_served (raised m count_turn) after h (started_below m.harts h makes.started) makes.started makes.free
-    (quiet_served (raised m count_turn) after h (hart_in m.harts h) o e quiet served)
+    turn_served (with_count_raised m count_turn) after h (started_below m.harts h makes.started) makes.started makes.free
+    (quiet_served (with_count_raised m count_turn) after h (hart_in m.harts h) o e quiet served)
 
 size_by : (m : Machine) (r : State) (h : ℕ) (o : Outcome) → StandsFor m r → m.journal.verdict ≡ Running → Attempts m h
-    → o ≡ (attempted m h (hart_in m.harts h)).outcome → length (attempted m h (hart_in m.harts h)).region.ram ≡ length m.region.ram
+    → o ≡ (attempt_of m h (hart_in m.harts h)).outcome → length (attempt_of m h (hart_in m.harts h)).region.ram ≡ length m.region.ram
 size_by m r h (Outcome.Retired wrote) stands on makes e =
-    let left = left_by (raised m count_turn) h (hart_in m.harts h) in
-    let after : Machine = record left { journal = counted count_retired left.journal } in
+    let left = left_by (with_count_raised m count_turn) h (hart_in m.harts h) in
+    let after : Machine = record left { journal = with_count count_retired left.journal } in
     same_size m after r (step r (Turn h)) stands
     (stepped m after r h stands on (quiet_turn m after h (Outcome.Retired wrote) makes e tt refl)) refl
 size_by m r h Outcome.GuestTrap stands on makes e =
-    let left = left_by (raised m count_turn) h (hart_in m.harts h) in
-    let after : Machine = record left { journal = counted (count_trap Kernel) left.journal } in
+    let left = left_by (with_count_raised m count_turn) h (hart_in m.harts h) in
+    let after : Machine = record left { journal = with_count (count_trap Kernel) left.journal } in
     same_size m after r (step r (Turn h)) stands
     (stepped m after r h stands on (quiet_turn m after h Outcome.GuestTrap makes e tt refl)) refl
 size_by m r h (Outcome.Exit exit) stands on makes e =
     ap (λ (x : Region). length x.ram)
-    (subst (λ (o : Outcome). OnlyWrites m.region (attempted m h (hart_in m.harts h)).region o) (sym e)
+    (subst (λ (o : Outcome). OnlyWrites m.region (attempt_of m h (hart_in m.harts h)).region o) (sym e)
     (attempt_writes m.region (hart_in m.harts h).core (lines_at m.devices h)))
 
 pub ready_at : (m : Machine) (r : State) (h : ℕ) → StandsFor m r → m.journal.verdict ≡ Running → Attempts m h → IsReadyAt m h
@@ -162,13 +162,13 @@ ready_at m r h stands on makes =
       keeps = hart.keeps;
       stage = hart.stage;
       apart = hart.apart;
-      ram = size_by m r h (attempted m h (hart_in m.harts h)).outcome stands on makes refl;
+      ram = size_by m r h (attempt_of m h (hart_in m.harts h)).outcome stands on makes refl;
     }
 
 -- ---- two attempts
 
 -- the answer to an exit goes by what the attempt leaves as it was
-asked_before : (m : Machine) (r : State) (h : ℕ) (exit : Exit) → StandsFor m r → Attempts m h → (attempted m h (hart_in m.harts h)).outcome ≡ Outcome.Exit exit
+asked_before : (m : Machine) (r : State) (h : ℕ) (exit : Exit) → StandsFor m r → Attempts m h → (attempt_of m h (hart_in m.harts h)).outcome ≡ Outcome.Exit exit
     → asked_of (left_by m h (hart_in m.harts h)) h exit ≡ asked_of m h exit
 asked_before m r h exit stands makes e =
     let k = makes_attempt m r h stands makes in
@@ -184,7 +184,7 @@ asked_before m r h exit stands makes e =
 
 -- the hart that has left its entry attempts again
 again_ready : (m : Machine) (r : State) (h : ℕ) → StandsFor m r → m.journal.verdict ≡ Running → Attempts m h
-    → asks_again m.region.ram m.rules (hart_in m.harts h) (attempted m h (hart_in m.harts h)).outcome ≡ true → IsReadyAt (sent_again m h (hart_in m.harts h)) h
+    → asks_again m.region.ram m.rules (hart_in m.harts h) (attempt_of m h (hart_in m.harts h)).outcome ≡ true → IsReadyAt (sent_again m h (hart_in m.harts h)) h
 unfolding host_outside
 again_ready m r h stands on makes again =
     let k = makes_attempt m r h stands makes in

@@ -13,11 +13,11 @@ use Rattle.reference.specs.Disk.{disk_beat, is_writable}
 use Rattle.reference.specs.Move.{Move, Idle, FromRam, IntoRam, DeniedAt, OutsideRam}
 use Rattle.machine_model.specs.HostEvents.{after_host_move, beat_served, event_served, key_served, tick_served, with_host_disk}
 use Rattle.sv_types.specs.Policies.{Rules}
-use Rattle.reference.specs.Counting.{count_beat, count_trap, counted, machine_ended}
+use Rattle.reference.specs.Counting.{count_beat, count_trap, with_count, machine_ended}
 use Rattle.reference.specs.Trapping.{may_enter}
 use Rattle.machine_model.specs.HostExits.{host_exit_answered}
 use Rattle.machine_model.specs.HostHarts.{host_at_return, host_at_trap}
-use Rattle.machine_model.specs.Machine.{HostHart, Machine, raised, update}
+use Rattle.machine_model.specs.Machine.{HostHart, Machine, with_count_raised, update}
 use Rattle.machine_model.specs.Steps.{IsStep, Steps, StepsUnder}
 use Rattle.machine_model.specs.declared.exits.ExitAnswer.{ExitAnswer}
 use Rattle.quick_turns.specs.declared.leaving.Leaving.{Leaving}
@@ -45,7 +45,7 @@ event_free : (known : Bool) (m after : Machine) (e : Event) → AreFreeWhere kno
 unfolding event_served key_served tick_served
 event_free false m after e free steps = tt
 event_free true m after (Turn h) free steps = tt
-event_free true m after Beat free steps = subst (λ (x : Machine). AreFree x.harts) (sym steps) (beaten_free (raised m count_beat) free)
+event_free true m after Beat free steps = subst (λ (x : Machine). AreFree x.harts) (sym steps) (beaten_free (with_count_raised m count_beat) free)
 event_free true m after (Key byte) free steps = subst (λ (x : Machine). AreFree x.harts) (sym steps) free
 event_free true m after (Tick n) free steps = subst (λ (x : Machine). AreFree x.harts) (sym steps) free
 
@@ -86,7 +86,7 @@ called_free : (m : Machine) (h : ℕ) (host : HostHart) (mode : Mode) → AreFre
 unfolding host_exit_answered
 called_free m h host mode free =
     either_free (may_enter m.rules mode (trap_target host.core.csrs.vstvec false 8))
-    (record m { harts = update m.harts h (host_at_trap m.rules false 8 0); journal = counted (count_trap mode) m.journal })
+    (record m { harts = update m.harts h (host_at_trap m.rules false 8 0); journal = with_count (count_trap mode) m.journal })
     (record m { journal = machine_ended (Stopped (Entry (trap_target host.core.csrs.vstvec false 8)) h m.journal.counts.turns) m.journal })
     (changed_free m.harts h (host_at_trap m.rules false 8 0) (trap_free m.rules false 8 0) free) free
 

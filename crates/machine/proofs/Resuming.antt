@@ -22,7 +22,7 @@ use Rattle.resumed_parts.specs.declared.parts.ResumedParts.{ResumedParts}
 use Rattle.hart_answers.specs.Hosts.{hosts_of}
 use Rattle.module_answers.specs.Parts.{loading_of}
 use Rattle.machine.specs.Machines.{HasAddress, HaveAddresses, IsFit}
-use Rattle.machine.proofs.NewFit.{unnoted}
+use Rattle.machine.proofs.NewFit.{without_reservations}
 
 -- ---- reservations
 
@@ -53,7 +53,7 @@ resumed_journal tables rules s = refl
 -- ---- the machine is fit
 
 pub resumed_fit : (m : Machine) (rules : Rules) (s : Contents) → IsTrue (rules_within rules) → IsResumable rules s → IsNew m (resumed_state rules s)
-    → m.journal ≡ (resumed_state rules s).journal → IsFit (unnoted m)
+    → m.journal ≡ (resumed_state rules s).journal → IsFit (without_reservations m)
 resumed_fit m rules s within resumable new journal =
     let attempts = new.attempts in
     let cleared = new.cleared in

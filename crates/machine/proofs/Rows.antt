@@ -14,13 +14,13 @@ use Rattle.processor.specs.Requests.{after_write}
 use Rattle.processor.specs.declared.outcome.Outcome.{Outcome}
 use Rattle.sv_types.specs.declared.event.Event.TheVariants.{Turn}
 use Rattle.sv_types.specs.declared.event.Verdict.{Verdict}
-use Rattle.reference.specs.Counting.{counted, count_turn, count_retired, CountsAtMost}
+use Rattle.reference.specs.Counting.{with_count, count_turn, count_retired, CountsAtMost}
 use Rattle.reference.specs.Devices.{lines_at}
 use Rattle.reference.specs.Run.{step}
 use Rattle.reference.specs.States.{State, Journal}
 use Rattle.journal_records.specs.Journals.{count_row}
-use Rattle.machine_model.specs.HardwareEvent.{attempted, left_by}
-use Rattle.machine_model.specs.Machine.{Machine, HostHart, raised, update, with_core, forgets, all_forget}
+use Rattle.machine_model.specs.HardwareEvent.{attempt_of, left_by}
+use Rattle.machine_model.specs.Machine.{Machine, HostHart, with_count_raised, update, with_core, forgets, all_forget}
 use Rattle.machine_model.specs.StandsFor.{StandsFor}
 use Rattle.machine_model.specs.Steps.{IsStep, IsTurn, StepsUnder}
 use Rattle.answer_laws.specs.Laws.{IsQuiet as IsQuietOutcome}
@@ -114,7 +114,7 @@ row_printed (suc n) j = row_printed n j
 
 -- ---- one turn more
 
-finished : (o : Outcome) (m after : Machine) (h : ℕ) → IsRetired o → after ≡ record m { journal = counted count_retired m.journal } → Finished o m h after
+finished : (o : Outcome) (m after : Machine) (h : ℕ) → IsRetired o → after ≡ record m { journal = with_count count_retired m.journal } → Finished o m h after
 finished (Outcome.Retired wrote) m after h retired same = same
 finished Outcome.GuestTrap m after h retired same = absurd retired
 finished (Outcome.Exit exit) m after h retired same = absurd retired
@@ -143,7 +143,7 @@ module _ (m : Machine) (h n : ℕ) (mid : Region) (before : Core) (region : Regi
   core_is = ap (λ (x : HostHart). x.core) host_is
 
   made : Attempted
-  made = attempted (raised now count_turn) h host
+  made = attempt_of (with_count_raised now count_turn) h host
 
   made_is : made ≡ attempt mid before (lines_at m.devices h)
   unfolding made attempt
@@ -155,7 +155,7 @@ module _ (m : Machine) (h n : ℕ) (mid : Region) (before : Core) (region : Regi
       ∙ ap (all_forget made.outcome) (updated_twice m.harts h before core)
       ∙ forgets_nothing made.outcome (update m.harts h (with_core core)) (still_free m.harts h core carries.free may.free)
 
-  left : after_row m h (suc n) region core ≡ record (left_by (raised now count_turn) h host) { journal = counted count_retired (raised now count_turn).journal }
+  left : after_row m h (suc n) region core ≡ record (left_by (with_count_raised now count_turn) h host) { journal = with_count count_retired (with_count_raised now count_turn).journal }
   unfolding attempt made
   left =
       built m region made.region (update m.harts h (with_core core)) (all_forget made.outcome (update now.harts h (with_core made.core)))
@@ -166,12 +166,12 @@ module _ (m : Machine) (h n : ℕ) (mid : Region) (before : Core) (region : Regi
   unfolding attempt made
   turned =
       let retired : IsRetired made.outcome = subst (λ (a : Attempted). IsRetired a.outcome) (sym made_is) carries.retired in
-      turn_served (raised now count_turn) (after_row m h (suc n) region core) h
+      turn_served (with_count_raised now count_turn) (after_row m h (suc n) region core) h
       (still_there m.harts h h before may.below)
       (ap (λ (x : HostHart). x.started) host_is ∙ may.attempts.started)
       may.attempts.free
-      (quiet_served (raised now count_turn) (after_row m h (suc n) region core) h host made.outcome refl (is_quiet made.outcome retired)
-      (finished made.outcome (left_by (raised now count_turn) h host) (after_row m h (suc n) region core) h retired left))
+      (quiet_served (with_count_raised now count_turn) (after_row m h (suc n) region core) h host made.outcome refl (is_quiet made.outcome retired)
+      (finished made.outcome (left_by (with_count_raised now count_turn) h host) (after_row m h (suc n) region core) h retired left))
 
   pub steps : IsStep now (Turn h) (after_row m h (suc n) region core)
   unfolding IsStep
@@ -239,11 +239,11 @@ counted_same j turns retired others more same alike =
     ap (λ (n : ℕ). record j { counts = record j.counts { turns = n; retired = retired } }) same
     ∙ ap (λ (n : ℕ). record j { counts = record j.counts { turns = others; retired = n } }) alike
 
-pub row_counted : (n : ℕ) (j : Journal) → counted (count_row n) j ≡ counted_row n j
+pub row_counted : (n : ℕ) (j : Journal) → with_count (count_row n) j ≡ counted_row n j
 row_counted zero j = counted_same j (j.counts.turns + 0) (j.counts.retired + 0) j.counts.turns j.counts.retired (omega arith) (omega arith)
 row_counted (suc n) j =
     counted_same j (j.counts.turns + suc n) (j.counts.retired + suc n) (j.counts.turns + n + 1) (j.counts.retired + n + 1) (omega arith) (omega arith)
-    ∙ ap (λ (x : Journal). counted count_retired (counted count_turn x)) (row_counted n j)
+    ∙ ap (λ (x : Journal). with_count count_retired (with_count count_turn x)) (row_counted n j)
 
 -- ---- seats
 

@@ -15,7 +15,7 @@ use Rattle.reference.specs.Protections.{protection_at}
 use Rattle.reference.specs.Start.{block_disk, flat_rules}
 use Rattle.standing_laws.specs.Starts.{host_at_boot, hosts_at_boot, machine_at_boot, flat_machine, flat_protections, flat_ram}
 use Rattle.sv_types.specs.ApprovedPages.{numbers_from}
-use Rattle.processor.specs.Bytes.{overwrite, padded, ram_base}
+use Rattle.processor.specs.Bytes.{overwrite, with_padding, ram_base}
 use Rattle.sv_types.specs.Policies.{Rules}
 use Rattle.processor.specs.Regions.{Region, host_bytes}
 use Rattle.sv_types.specs.Views.{with_ram}
@@ -79,7 +79,7 @@ pages_fit r tables n pages fresh few =
     let size : length (host_bytes r) ≡ tables + n = ap (λ (r : Region). length (host_bytes r)) fresh ∙ length_both tables n in
     omega arith
 
-over_zeros : (n : ℕ) (pages : List ℕ) → overwrite (replicate n 0) 0 pages ≡ padded pages n
+over_zeros : (n : ℕ) (pages : List ℕ) → overwrite (replicate n 0) 0 pages ≡ with_padding pages n
 unfolding overwrite
 over_zeros n pages =
     let same : 0 + length pages ≡ length pages = omega arith in
@@ -87,7 +87,7 @@ over_zeros n pages =
 
 -- pages copied to the start of RAM, which was zeros
 pub pages_copied : (before after : Region) (tables n : ℕ) (pages : List ℕ) → before ≡ record { tables = replicate tables 0; ram = replicate n 0 }
-    → (length before.tables ≤ tables → after ≡ record before { ram = overwrite before.ram (tables - length before.tables) pages }) → after.ram ≡ padded pages n
+    → (length before.tables ≤ tables → after ≡ record before { ram = overwrite before.ram (tables - length before.tables) pages }) → after.ram ≡ with_padding pages n
 pages_copied before after tables n pages fresh copied =
     let size = tables_sized before tables n fresh in
     let none : tables - length before.tables ≡ 0 = omega arith in

@@ -8,17 +8,17 @@ use Rattle.sv_types.specs.declared.event.Event.TheVariants.{Turn, Beat, Key, Tic
 use Rattle.sv_types.specs.declared.event.Verdict.{Verdict}
 use Rattle.sv_types.specs.declared.event.Verdict.TheVariants.{Running, Shutdown, Stopped}
 use Rattle.processor.specs.declared.outcome.Outcome.{Outcome}
-use Rattle.reference.specs.Counting.{count, counted, count_turn, count_beat, count_key, count_tick, count_dropped}
+use Rattle.reference.specs.Counting.{count, with_count, count_turn, count_beat, count_key, count_tick, count_dropped}
 use Rattle.reference.specs.Disk.{disk_beat, is_writable, Beaten}
 use Rattle.reference.specs.Move.{Move, Idle, FromRam, IntoRam, DeniedAt, OutsideRam}
 use Rattle.reference.specs.Run.{step}
 use Rattle.reference.specs.States.{State, Journal}
 use Rattle.reference.specs.Turn.{turn}
 use Rattle.run_laws.proofs.Growth.{Gains}
-use Rattle.machine_model.specs.HardwareEvent.{IsEvent, HappensUnder, TurnOf, HartTurn, StartedTurn, OneOrTwo, AfterOutcome, attempted, hart_again, is_loading, sent_again}
+use Rattle.machine_model.specs.HardwareEvent.{IsEvent, HappensUnder, TurnOf, HartTurn, StartedTurn, OneOrTwo, AfterOutcome, attempt_of, hart_again, is_loading, sent_again}
 use Rattle.machine_model.specs.HostHarts.{asks_again}
 use Rattle.machine_model.specs.HostEvents.{event_served, beat_served, key_served, tick_served, after_host_move, with_host_disk}
-use Rattle.machine_model.specs.Machine.{Machine, HostHart, raised}
+use Rattle.machine_model.specs.Machine.{Machine, HostHart, with_count_raised}
 use Rattle.machine_model.specs.StandsFor.{StandsFor, Unseen, IsRightFor, machine_of}
 use Rattle.machine_model.specs.Steps.{IsStep, StepsUnder}
 use Rattle.machine_model.specs.Reaches.{without_first_printed}
@@ -37,21 +37,21 @@ step_happens m after r e stands steps = (step_law m after r e stands steps).1
 
 -- ---- attempts: two at most in a turn
 
-outcome_attempts : (m after : Machine) (h : ℕ) (host : HostHart) (o : Outcome) → AfterOutcome o m h (attempted m h host) after → after.attempts ≤ m.attempts + 1
+outcome_attempts : (m after : Machine) (h : ℕ) (host : HostHart) (o : Outcome) → AfterOutcome o m h (attempt_of m h host) after → after.attempts ≤ m.attempts + 1
 outcome_attempts m after h host (Outcome.Retired wrote) k = let same : after.attempts ≡ m.attempts + 1 = ap (λ (x : Machine). x.attempts) k.same in omega (arith, same)
 outcome_attempts m after h host Outcome.GuestTrap k = let same : after.attempts ≡ m.attempts + 1 = ap (λ (x : Machine). x.attempts) k.same in omega (arith, same)
 outcome_attempts m after h host (Outcome.Exit exit) k = let same : after.attempts ≡ m.attempts + 1 = ap (λ (x : Machine). x.attempts) k.same in omega (arith, same)
 
 two_attempts : (m after : Machine) (h : ℕ) (host : HostHart) (again : Bool) → OneOrTwo again m h host after → after.attempts ≤ m.attempts + 2
-two_attempts m after h host false k = let one = outcome_attempts m after h host (attempted m h host).outcome k in omega (arith, one)
+two_attempts m after h host false k = let one = outcome_attempts m after h host (attempt_of m h host).outcome k in omega (arith, one)
 two_attempts m after h host true k =
     let one : after.attempts ≤ m.attempts + 1 + 1 =
-    outcome_attempts (sent_again m h host) after h (hart_again m h host) (attempted (sent_again m h host) h (hart_again m h host)).outcome k in
+    outcome_attempts (sent_again m h host) after h (hart_again m h host) (attempt_of (sent_again m h host) h (hart_again m h host)).outcome k in
     omega (arith, one)
 
 started_attempts : (m after : Machine) (h : ℕ) (host : HostHart) (loads : Bool) → StartedTurn loads m h host after → after.attempts ≤ m.attempts + 2
 started_attempts m after h host true k = let same : after.attempts ≡ m.attempts = ap (λ (x : Machine). x.attempts) k.same in omega (arith, same)
-started_attempts m after h host false k = two_attempts m after h host (asks_again m.region.ram m.rules host (attempted m h host).outcome) k
+started_attempts m after h host false k = two_attempts m after h host (asks_again m.region.ram m.rules host (attempt_of m h host).outcome) k
 
 hart_attempts : (m after : Machine) (h : ℕ) (host : HostHart) (started : Bool) → HartTurn started m h host after → after.attempts ≤ m.attempts + 2
 hart_attempts m after h host true k = started_attempts m after h host (is_loading m.loading h) k
@@ -92,7 +92,7 @@ beat_leaves m =
 abbrev pub JournalLeft : Journal → Journal → Type 0
 JournalLeft old new = (new.counts.turns ≡ old.counts.turns) × (new.printed ≡ old.printed)
 
-room_leaves : (j : Journal) (room : Bool) → JournalLeft j (if room then j else counted count_dropped j)
+room_leaves : (j : Journal) (room : Bool) → JournalLeft j (if room then j else with_count count_dropped j)
 room_leaves j true = (refl, refl)
 room_leaves j false = (refl, refl)
 
@@ -149,11 +149,11 @@ bounded_by : (m after : Machine) (r : State) (e : Event) (v : Verdict) → m.jou
 unfolding event_served
 bounded_by m after r (Turn h) Running on stands behind event steps b = turn_bounded m after r h stands on behind event b
 bounded_by m after r Beat Running on stands behind event steps b =
-    subst Bounded (sym steps) (left_bounded (raised m count_beat) (beat_served (raised m count_beat)) (beat_leaves (raised m count_beat)) (record { attempts = b.attempts; printed = b.printed }))
+    subst Bounded (sym steps) (left_bounded (with_count_raised m count_beat) (beat_served (with_count_raised m count_beat)) (beat_leaves (with_count_raised m count_beat)) (record { attempts = b.attempts; printed = b.printed }))
 bounded_by m after r (Key byte) Running on stands behind event steps b =
-    subst Bounded (sym steps) (left_bounded (raised m count_key) (key_served (raised m count_key) byte) (key_leaves (raised m count_key) byte) (record { attempts = b.attempts; printed = b.printed }))
+    subst Bounded (sym steps) (left_bounded (with_count_raised m count_key) (key_served (with_count_raised m count_key) byte) (key_leaves (with_count_raised m count_key) byte) (record { attempts = b.attempts; printed = b.printed }))
 bounded_by m after r (Tick n) Running on stands behind event steps b =
-    subst Bounded (sym steps) (left_bounded (raised m count_tick) (tick_served (raised m count_tick) n) (tick_leaves (raised m count_tick) n) (record { attempts = b.attempts; printed = b.printed }))
+    subst Bounded (sym steps) (left_bounded (with_count_raised m count_tick) (tick_served (with_count_raised m count_tick) n) (tick_leaves (with_count_raised m count_tick) n) (record { attempts = b.attempts; printed = b.printed }))
 bounded_by m after r e Shutdown on stands behind event steps b = subst Bounded (sym steps) b
 bounded_by m after r e (Stopped rule hart at) on stands behind event steps b = subst Bounded (sym steps) b
 

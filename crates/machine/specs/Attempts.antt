@@ -53,8 +53,8 @@ pub record AreUsable (tables : List ℕ) (caches : List HartCaches) : Type 0 whe
   pub each : (h : ℕ) (own : HartCaches) → slice_get caches h ≡ Some own → IsUsable tables own
 
 -- a hart among all harts may make turns: it is there, and there are as many caches as harts, all of which are usable
-pub record MayTakeTurns {S : Type 0} (tables : List ℕ) (seats : List S) (caches : List HartCaches) (which : ℕ) : Type 0 where
-  pub there : which < length seats
+pub record MayTakeTurns {S : Type 0} (tables : List ℕ) (seats : List S) (caches : List HartCaches) (hart : ℕ) : Type 0 where
+  pub there : hart < length seats
   pub number : length caches ≡ length seats
   pub usable : AreUsable tables caches
 

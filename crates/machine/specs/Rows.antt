@@ -15,7 +15,7 @@ use Rattle.machine_model.specs.declared.exits.ExitAnswer.TheVariants.{Traps}
 use Rattle.sv_types.specs.declared.event.Event.{Event}
 use Rattle.sv_types.specs.declared.event.Event.TheVariants.{Turn, Beat, Key, Tick}
 use Rattle.sv_types.specs.declared.event.Verdict.TheVariants.{Running}
-use Rattle.reference.specs.Counting.{counted, count_turn, count_retired}
+use Rattle.reference.specs.Counting.{with_count, count_turn, count_retired}
 use Rattle.reference.specs.Devices.{lines_at}
 use Rattle.reference.specs.States.{Journal}
 use Rattle.machine_model.specs.Machine.{Machine, HostHart, update, with_core}
@@ -52,7 +52,7 @@ pub record WalksUnderRoot (region : Region) (host : HostHart) : Type 0 where
 -- so many turns counted, each with its instruction
 abbrev pub counted_row : ℕ → Journal → Journal
 counted_row zero j = j
-counted_row (suc n) j = counted count_retired (counted count_turn (counted_row n j))
+counted_row (suc n) j = with_count count_retired (with_count count_turn (counted_row n j))
 
 -- the machine whose hart h has made so many turns, which left this region and this core
 abbrev pub after_row : Machine → ℕ → ℕ → Region → Core → Machine
@@ -89,7 +89,7 @@ pub record EndsRow (left : Leaving) (n : ℕ) (m : Machine) (h : ℕ) (after : M
 
 -- a turn and its attempt, counted
 abbrev pub counted_leaving : Machine → Machine
-counted_leaving m = record m { journal = counted count_turn m.journal; attempts = m.attempts + 1 }
+counted_leaving m = record m { journal = with_count count_turn m.journal; attempts = m.attempts + 1 }
 
 -- what SecVisor answers ECALL of user mode
 abbrev pub call_answer : ExitAnswer

@@ -5,9 +5,9 @@ use Rattle.processor.specs.declared.exit.Exit.{Exit}
 use Rattle.processor.specs.declared.outcome.Outcome.{Outcome}
 use Rattle.processor.specs.declared.mode.Mode.TheVariants.{Kernel}
 use Rattle.sv_types.specs.Limits.{most_printed}
-use Rattle.reference.specs.Counting.{MayCount, counted, count_retired, count_trap}
+use Rattle.reference.specs.Counting.{MayCount, with_count, count_retired, count_trap}
 use Rattle.reference.specs.Devices.{lines_at}
-use Rattle.machine_model.specs.HardwareEvent.{attempted, is_loading, left_by, sent_again}
+use Rattle.machine_model.specs.HardwareEvent.{attempt_of, is_loading, left_by, sent_again}
 use Rattle.machine_model.specs.HostExits.{host_exit_answered, served_exit}
 use Rattle.machine_model.specs.HostHarts.{asks_again, host_outside, host_seen, with_host}
 use Rattle.machine_model.specs.Machine.{HostHart, Machine}
@@ -25,8 +25,8 @@ pub record HasPagesOf (before after : Machine) : Type 0 where
 
 -- what follows an attempt: a count, or SecVisor's answer
 abbrev pub Finished : Outcome → Machine → ℕ → Machine → Type 0
-Finished (Outcome.Retired wrote) m h after = after ≡ record m { journal = counted count_retired m.journal }
-Finished Outcome.GuestTrap m h after = after ≡ record m { journal = counted (count_trap Kernel) m.journal }
+Finished (Outcome.Retired wrote) m h after = after ≡ record m { journal = with_count count_retired m.journal }
+Finished Outcome.GuestTrap m h after = after ≡ record m { journal = with_count (count_trap Kernel) m.journal }
 Finished (Outcome.Exit exit) m h after = WithTables m (served_exit m h exit) after
 
 -- what an answer about modules relies on
@@ -76,9 +76,9 @@ left_entry m h = with_host m h host_outside
 -- for before the attempt
 pub record IsReadyTwice (m : Machine) (h : ℕ) : Type 0 where
   pub first : IsReadyAt m h
-  pub asked : (exit : Exit) → (attempted m h (hart_in m.harts h)).outcome ≡ Outcome.Exit exit
+  pub asked : (exit : Exit) → (attempt_of m h (hart_in m.harts h)).outcome ≡ Outcome.Exit exit
       → asked_of (left_by m h (hart_in m.harts h)) h exit ≡ asked_of m h exit
-  pub second : asks_again m.region.ram m.rules (hart_in m.harts h) (attempted m h (hart_in m.harts h)).outcome ≡ true
+  pub second : asks_again m.region.ram m.rules (hart_in m.harts h) (attempt_of m h (hart_in m.harts h)).outcome ≡ true
       → IsReadyAt (sent_again m h (hart_in m.harts h)) h
 
 -- where hart h makes an attempt in its turn, it may
@@ -94,8 +94,8 @@ ExitServed true m h exit after = AttemptServed (left_entry m h) h (hart_in (left
 
 -- a count, or what an exit asks for
 abbrev pub Concluded : Outcome → Machine → ℕ → Machine → Type 0
-Concluded (Outcome.Retired wrote) m h after = after ≡ record m { journal = counted count_retired m.journal }
-Concluded Outcome.GuestTrap m h after = after ≡ record m { journal = counted (count_trap Kernel) m.journal }
+Concluded (Outcome.Retired wrote) m h after = after ≡ record m { journal = with_count count_retired m.journal }
+Concluded Outcome.GuestTrap m h after = after ≡ record m { journal = with_count (count_trap Kernel) m.journal }
 Concluded (Outcome.Exit exit) m h after = ExitServed (is_again (asked_of m h exit)) m h exit after
 
 -- a second attempt that this outcome asks for may be made

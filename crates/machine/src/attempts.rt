@@ -5,6 +5,7 @@ ghost use Rattle.processor.specs.HardwareAttempt.{attempt};
 ghost use Rattle.machine_model.specs.Machine.{with_core, update, all_forget};
 ghost use Rattle.hart_answers.specs.Hosts.{host_at, hosts_of};
 ghost use Rattle.machine.specs.Attempts.{hart_in, IsReady, IsUsable, KeepsTurns, MayTakeTurns};
+ghost use Rattle.processor.specs.Bytes.{instruction_size};
 
 use crate::caches::HartCaches;
 use hart::{Cpu, Wires};
@@ -28,7 +29,7 @@ fn attempt_in_seat<W: Wires>(
     ensures host { host_at seat.new ≡ with_core (attempt mem.old (host_at seat.old).core (W.seen wires.now)).core (host_at seat.old) }
     ensures region { mem.new ≡ (attempt mem.old (host_at seat.old).core (W.seen wires.now)).region }
     ensures outcome { result ≡ (attempt mem.old (host_at seat.old).core (W.seen wires.now)).outcome }
-    ensures aligned { seat.new.hart.core.pc % 4 ≡ 0 }
+    ensures aligned { seat.new.hart.core.pc % instruction_size ≡ 0 }
     ensures tables { mem.new.tables ≡ mem.old.tables }
     ensures ram { length mem.new.ram ≡ length mem.old.ram }
     ensures usable { IsUsable mem.new.tables own.new }
@@ -44,22 +45,22 @@ pub(crate) fn attempt<W: Wires>(
     cpu: &mut Cpu,
     seats: &mut [Seat],
     caches: &mut [HartCaches],
-    which: u8,
+    hart: u8,
     mem: &mut HostMem,
     wires: &W,
 ) -> Outcome
-    requires may { MayTakeTurns mem.old.tables seats.old caches.old which }
+    requires may { MayTakeTurns mem.old.tables seats.old caches.old hart }
     requires count { cpu.old < 2 ^ 64 - 1 }
-    requires ready { IsReady mem.old (hart_in (hosts_of seats.old) which) (W.seen wires.now) }
+    requires ready { IsReady mem.old (hart_in (hosts_of seats.old) hart) (W.seen wires.now) }
     ensures counted { cpu.new ≡ cpu.old + 1 }
-    ensures harts { hosts_of seats.new ≡ all_forget result (update (hosts_of seats.old) which (with_core (attempt mem.old (hart_in (hosts_of seats.old) which).core (W.seen wires.now)).core)) }
-    ensures region { mem.new ≡ (attempt mem.old (hart_in (hosts_of seats.old) which).core (W.seen wires.now)).region }
-    ensures outcome { result ≡ (attempt mem.old (hart_in (hosts_of seats.old) which).core (W.seen wires.now)).outcome }
-    ensures aligned { (hart_in (hosts_of seats.new) which).core.pc % 4 ≡ 0 }
+    ensures harts { hosts_of seats.new ≡ all_forget result (update (hosts_of seats.old) hart (with_core (attempt mem.old (hart_in (hosts_of seats.old) hart).core (W.seen wires.now)).core)) }
+    ensures region { mem.new ≡ (attempt mem.old (hart_in (hosts_of seats.old) hart).core (W.seen wires.now)).region }
+    ensures outcome { result ≡ (attempt mem.old (hart_in (hosts_of seats.old) hart).core (W.seen wires.now)).outcome }
+    ensures aligned { (hart_in (hosts_of seats.new) hart).core.pc % instruction_size ≡ 0 }
     ensures kept { KeepsTurns mem.old mem.new seats.old seats.new caches.old caches.new }
 {
-    let seat = &mut seats[which as usize];
-    let own = &mut caches[which as usize];
+    let seat = &mut seats[hart as usize];
+    let own = &mut caches[hart as usize];
     let outcome = attempt_in_seat(cpu, seat, own, mem, wires);
     forget_wrote(seats, outcome);
     outcome

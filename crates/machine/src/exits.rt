@@ -43,25 +43,25 @@ impl Parts {
     // What an exit of a hart is answered.
     #[tactic(auto, using(hart_answers::proofs::Hosts::hosts_length))]
     #[inline(always)]
-    pub(crate) fn exit_answer(&self, which: u8, exit: &Exit) -> ExitAnswer
-        requires hart { MayTrap self.now.harts which }
-        ensures answer { result ≡ asked_of self.now which exit.now }
-        ensures possible { IsPossible (hart_in self.now.harts which).core.hregs.mode result }
+    pub(crate) fn exit_answer(&self, hart: u8, exit: &Exit) -> ExitAnswer
+        requires hart { MayTrap self.now.harts hart }
+        ensures answer { result ≡ asked_of self.now hart exit.now }
+        ensures possible { IsPossible (hart_in self.now.harts hart).core.hregs.mode result }
     {
-        exit_answer(&self.mem, &self.seats[which as usize], &self.entries, exit)
+        exit_answer(&self.mem, &self.seats[hart as usize], &self.entries, exit)
     }
 
     // A hart traps.
     #[tactic(auto, using(hart_answers::proofs::Hosts::hosts_length))]
     #[inline(always)]
-    pub(crate) fn guest_trap(&mut self, which: u8, trap: Trap)
-        requires hart { MayTrap self.old.harts which }
+    pub(crate) fn guest_trap(&mut self, hart: u8, trap: Trap)
+        requires hart { MayTrap self.old.harts hart }
         requires counts { MayCount self.old.journal.counts }
-        ensures { WithTables self.old (answered_exit self.old which (Traps trap.cause trap.tval)) self.new }
+        ensures { WithTables self.old (answered_exit self.old hart (Traps trap.cause trap.tval)) self.new }
     {
-        let seat = &mut self.seats[which as usize];
+        let seat = &mut self.seats[hart as usize];
         guest_trap(
-            which,
+            hart,
             seat,
             &self.guard,
             &self.entries,
@@ -73,59 +73,59 @@ impl Parts {
     // It returns from its trap.
     #[tactic(auto, using(hart_answers::proofs::Hosts::hosts_length))]
     #[inline(always)]
-    pub(crate) fn guest_return(&mut self, which: u8)
-        requires there { which < length self.old.harts }
-        requires kernel { (hart_in self.old.harts which).core.hregs.mode ≡ Kernel }
+    pub(crate) fn guest_return(&mut self, hart: u8)
+        requires there { hart < length self.old.harts }
+        requires kernel { (hart_in self.old.harts hart).core.hregs.mode ≡ Kernel }
         requires counts { MayCount self.old.journal.counts }
-        ensures { WithTables self.old (answered_exit self.old which Returns) self.new }
+        ensures { WithTables self.old (answered_exit self.old hart Returns) self.new }
     {
-        let seat = &mut self.seats[which as usize];
+        let seat = &mut self.seats[hart as usize];
         guest_return(seat, &self.guard, &mut self.journal);
     }
 
     // It leaves kernel mode.
     #[tactic(auto, using(hart_answers::proofs::Hosts::hosts_length))]
-    fn guest_demotion(&mut self, which: u8, gpa: u64)
-        requires there { which < length self.old.harts }
+    fn guest_demotion(&mut self, hart: u8, gpa: u64)
+        requires there { hart < length self.old.harts }
         requires counts { MayCount self.old.journal.counts }
-        ensures { WithTables self.old (answered_exit self.old which (Demotes gpa)) self.new }
+        ensures { WithTables self.old (answered_exit self.old hart (Demotes gpa)) self.new }
     {
-        let seat = &mut self.seats[which as usize];
-        guest_demotion(which, seat, &self.guard, &mut self.journal, gpa);
+        let seat = &mut self.seats[hart as usize];
+        guest_demotion(hart, seat, &self.guard, &mut self.journal, gpa);
     }
 
     // It leaves its entry.
     #[tactic(auto, using(hart_answers::proofs::Hosts::hosts_length))]
-    pub(crate) fn leave_entry(&mut self, which: u8)
-        requires there { which < length self.old.harts }
-        ensures left { self.new ≡ left_entry self.old which }
+    pub(crate) fn leave_entry(&mut self, hart: u8)
+        requires there { hart < length self.old.harts }
+        ensures left { self.new ≡ left_entry self.old hart }
         ensures number { length self.new.harts ≡ length self.old.harts }
-        ensures answer { WithTables self.old (answered_exit self.old which LeavesEntry) self.new }
+        ensures answer { WithTables self.old (answered_exit self.old hart LeavesEntry) self.new }
     {
-        let seat = &mut self.seats[which as usize];
+        let seat = &mut self.seats[hart as usize];
         leave_entry(seat, &self.guard);
     }
 
     // It stops the machine by a store into a protected page.
     #[tactic(auto, using(hart_answers::proofs::Hosts::hosts_length))]
-    fn stop_at_write(&mut self, which: u8, gpa: u64)
-        requires there { which < length self.old.harts }
-        ensures { WithTables self.old (answered_exit self.old which (StopsAtWrite gpa)) self.new }
+    fn stop_at_write(&mut self, hart: u8, gpa: u64)
+        requires there { hart < length self.old.harts }
+        ensures { WithTables self.old (answered_exit self.old hart (StopsAtWrite gpa)) self.new }
     {
-        stop_at_write(which, &self.seats[which as usize], &mut self.journal, gpa);
+        stop_at_write(hart, &self.seats[hart as usize], &mut self.journal, gpa);
     }
 
     // It loads from a device's register.
     #[tactic(auto, using(hart_answers::proofs::Hosts::hosts_length))]
-    fn device_load(&mut self, which: u8, load: Load)
-        requires hart { MayTrap self.old.harts which }
+    fn device_load(&mut self, hart: u8, load: Load)
+        requires hart { MayTrap self.old.harts hart }
         requires counts { MayCount self.old.journal.counts }
         requires register { load.rd < register_count }
-        ensures { WithTables self.old (answered_exit self.old which (LoadsDevice load.rd load.address load.width load.signed load.gpa)) self.new }
+        ensures { WithTables self.old (answered_exit self.old hart (LoadsDevice load.rd load.address load.width load.signed load.gpa)) self.new }
     {
-        let seat = &mut self.seats[which as usize];
+        let seat = &mut self.seats[hart as usize];
         device_load(
-            which,
+            hart,
             seat,
             &self.guard,
             &self.entries,
@@ -137,15 +137,15 @@ impl Parts {
 
     // It stores into a device's register.
     #[tactic(auto, using(hart_answers::proofs::Hosts::hosts_length))]
-    fn device_store(&mut self, which: u8, store: Store)
-        requires hart { MayTrap self.old.harts which }
+    fn device_store(&mut self, hart: u8, store: Store)
+        requires hart { MayTrap self.old.harts hart }
         requires counts { MayCount self.old.journal.counts }
         requires room { length self.old.journal.printed < most_printed }
-        ensures { WithTables self.old (answered_exit self.old which (StoresDevice store.address store.gpa store.width store.value)) self.new }
+        ensures { WithTables self.old (answered_exit self.old hart (StoresDevice store.address store.gpa store.width store.value)) self.new }
     {
-        let seat = &mut self.seats[which as usize];
+        let seat = &mut self.seats[hart as usize];
         device_store(
-            which,
+            hart,
             seat,
             &self.guard,
             &self.entries,
@@ -157,13 +157,13 @@ impl Parts {
 
     // What its call is answered.
     #[tactic(auto, using(hart_answers::proofs::Hosts::hosts_length, crate::proofs::Called::registers_there))]
-    fn call_answer(&self, which: u8) -> Answer
-        requires there { which < length self.now.harts }
+    fn call_answer(&self, hart: u8) -> Answer
+        requires there { hart < length self.now.harts }
         requires guarded { IsGuarded self.now }
-        ensures answer { result ≡ answer_of (host_facts self.now) (asked_by (hart_in self.now.harts which).core.registers) }
+        ensures answer { result ≡ answer_of (host_facts self.now) (asked_by (hart_in self.now.harts hart).core.registers) }
         ensures starts { StartsOneOf (length self.now.harts) result.beside }
     {
-        let asked = Asked::by(&self.seats[which as usize].hart.core.regs);
+        let asked = Asked::by(&self.seats[hart as usize].hart.core.regs);
         law_starts();
         if asked.is_about_modules() {
             module_answer(&self.policy, &self.guard, &self.mem, &self.modules, &asked)
@@ -173,15 +173,15 @@ impl Parts {
     }
 
     // Does what the answer to a call says, or the decision of a load.
-    pub(crate) fn give(&mut self, which: u8, answer: &Answer)
-        requires there { which < length self.old.harts }
+    pub(crate) fn give(&mut self, hart: u8, answer: &Answer)
+        requires there { hart < length self.old.harts }
         requires may { MayServe self.old }
         requires given { IsGiven (host_facts self.old) self.old.loading answer.now.beside }
         requires starts { StartsOneOf (length self.old.harts) answer.now.beside }
-        ensures { WithTables self.old (host_given self.old which answer.now) self.new }
+        ensures { WithTables self.old (host_given self.old hart answer.now) self.new }
     {
         call_answers::give(
-            which,
+            hart,
             &mut self.seats,
             &self.guard,
             &mut self.devices,
@@ -189,7 +189,7 @@ impl Parts {
             answer,
         );
         let changed = give_pages(
-            which,
+            hart,
             &mut self.guard,
             &mut self.mem,
             &self.policy,
@@ -200,30 +200,30 @@ impl Parts {
     }
 
     // A call from kernel mode.
-    fn serve_call(&mut self, which: u8)
-        requires there { which < length self.old.harts }
+    fn serve_call(&mut self, hart: u8)
+        requires there { hart < length self.old.harts }
         requires may { MayServe self.old }
-        ensures { WithTables self.old (served_call self.old which (hart_in self.old.harts which)) self.new }
+        ensures { WithTables self.old (served_call self.old hart (hart_in self.old.harts hart)) self.new }
     {
-        let answer = self.call_answer(which);
-        self.give(which, &answer);
+        let answer = self.call_answer(hart);
+        self.give(hart, &answer);
     }
 
     // Does what an exit is answered.
     #[tactic(auto, unfolding(machine_model::specs::HostExits::host_exit_answered))]
     #[inline(always)]
-    pub(crate) fn carry_out(&mut self, which: u8, answer: ExitAnswer)
-        requires hart { MayTrap self.old.harts which }
+    pub(crate) fn carry_out(&mut self, hart: u8, answer: ExitAnswer)
+        requires hart { MayTrap self.old.harts hart }
         requires may { MayServe self.old }
-        requires possible { IsPossible (hart_in self.old.harts which).core.hregs.mode answer }
-        ensures { WithTables self.old (answered_exit self.old which answer) self.new }
+        requires possible { IsPossible (hart_in self.old.harts hart).core.hregs.mode answer }
+        ensures { WithTables self.old (answered_exit self.old hart answer) self.new }
     {
         match answer {
-            ExitAnswer::Traps { cause, tval } => self.guest_trap(which, Trap { cause, tval }),
-            ExitAnswer::Returns => self.guest_return(which),
-            ExitAnswer::Demotes { gpa } => self.guest_demotion(which, gpa),
-            ExitAnswer::LeavesEntry => self.leave_entry(which),
-            ExitAnswer::StopsAtWrite { gpa } => self.stop_at_write(which, gpa),
+            ExitAnswer::Traps { cause, tval } => self.guest_trap(hart, Trap { cause, tval }),
+            ExitAnswer::Returns => self.guest_return(hart),
+            ExitAnswer::Demotes { gpa } => self.guest_demotion(hart, gpa),
+            ExitAnswer::LeavesEntry => self.leave_entry(hart),
+            ExitAnswer::StopsAtWrite { gpa } => self.stop_at_write(hart, gpa),
             ExitAnswer::LoadsDevice {
                 rd,
                 address,
@@ -231,7 +231,7 @@ impl Parts {
                 signed,
                 gpa,
             } => self.device_load(
-                which,
+                hart,
                 Load {
                     rd,
                     address,
@@ -246,7 +246,7 @@ impl Parts {
                 width,
                 value,
             } => self.device_store(
-                which,
+                hart,
                 Store {
                     address,
                     gpa,
@@ -254,18 +254,18 @@ impl Parts {
                     value,
                 },
             ),
-            ExitAnswer::Calls => self.serve_call(which),
+            ExitAnswer::Calls => self.serve_call(hart),
         }
     }
 
     /// The answer to an exit of a hart.
     #[tactic(auto, unfolding(machine_model::specs::HostExits::host_exit))]
-    pub(crate) fn serve_exit(&mut self, which: u8, exit: Exit)
-        requires hart { MayTrap self.old.harts which }
+    pub(crate) fn serve_exit(&mut self, hart: u8, exit: Exit)
+        requires hart { MayTrap self.old.harts hart }
         requires may { MayServe self.old }
-        ensures { WithTables self.old (host_exit self.old which (hart_in self.old.harts which) (hart_in self.old.harts which).core.hregs.mode exit) self.new }
+        ensures { WithTables self.old (host_exit self.old hart (hart_in self.old.harts hart) (hart_in self.old.harts hart).core.hregs.mode exit) self.new }
     {
-        let answer = self.exit_answer(which, &exit);
-        self.carry_out(which, answer);
+        let answer = self.exit_answer(hart, &exit);
+        self.carry_out(hart, answer);
     }
 }

@@ -73,7 +73,7 @@ impl Machine {
         }
         // The loop of each kind of event asks for it no more.
         match event {
-            Event::Turn(which) => self.rounds(Event::Turn(which), count),
+            Event::Turn(hart) => self.rounds(Event::Turn(hart), count),
             Event::Beat | Event::Key(_) | Event::Tick(_) => self.rounds(event, count),
         }
     }
@@ -103,8 +103,8 @@ impl Machine {
         requires { MayMake self.old most }
         ensures { Made result most self.old event self.new }
     {
-        if let Event::Turn(which) = event {
-            return self.hart_turns(which, most);
+        if let Event::Turn(hart) = event {
+            return self.hart_turns(hart, most);
         }
         self.make(event);
         1
@@ -112,28 +112,28 @@ impl Machine {
 
     // A row of turns of a hart, and the turn that stopped it where some are left.
     #[inline(always)]
-    fn hart_turns(&mut self, which: u8, most: u64) -> u64
+    fn hart_turns(&mut self, hart: u8, most: u64) -> u64
         requires { MayMake self.old most }
-        ensures { Made result most self.old (Turn which) self.new }
+        ensures { Made result most self.old (Turn hart) self.new }
     {
-        let row = self.row(which, most);
+        let row = self.row(hart, most);
         let made = row.turns();
         if made == most || row.left.is_left() {
             return made;
         }
-        self.make(Event::Turn(which));
+        self.make(Event::Turn(hart));
         made + 1
     }
 
     // Turns of a hart that only carry out instructions, and one that leaves the guest by a call or a return, by a shorter way.
     #[inline(always)]
-    fn row(&mut self, which: u8, most: u64) -> Row
+    fn row(&mut self, hart: u8, most: u64) -> Row
         requires few { most ≤ most_counts }
         requires counts { CountsAtMost (most_counts - most) self.old.journal.counts }
-        ensures { MadeInRow (turns_of result) most self.old (Turn which) self.new }
+        ensures { MadeInRow (turns_of result) most self.old (Turn hart) self.new }
     {
-        if self.may_row(which) {
-            self.one_row(which, most)
+        if self.may_row(hart) {
+            self.one_row(hart, most)
         } else {
             Row::none()
         }
@@ -141,11 +141,11 @@ impl Machine {
 
     // A hart makes attempts in its turns, no interrupt is due, and no write of it meets a reservation.
     #[inline(always)]
-    fn may_row(&mut self, which: u8) -> bool
-        ensures may { result ≡ true → MayRow self.new which }
+    fn may_row(&mut self, hart: u8) -> bool
+        ensures may { result ≡ true → MayRow self.new hart }
         ensures same { self.new ≡ self.old }
     {
-        self.is_unreserved() && self.parts.is_quiet_at(which)
+        self.is_unreserved() && self.parts.is_quiet_at(hart)
     }
 
     // No hart has a reservation. That is noted, since only an attempt that isn't made in a row gives one.
@@ -162,14 +162,14 @@ impl Machine {
 
     // A row of turns of a hart, with the answer to the exit by which it left the guest behind them.
     #[inline(always)]
-    fn one_row(&mut self, which: u8, most: u64) -> Row
-        requires may { MayRow self.old which }
+    fn one_row(&mut self, hart: u8, most: u64) -> Row
+        requires may { MayRow self.old hart }
         requires few { most ≤ most_counts }
         requires counts { CountsAtMost (most_counts - most) self.old.journal.counts }
-        ensures { MadeInRow (turns_of result) most self.old (Turn which) self.new }
+        ensures { MadeInRow (turns_of result) most self.old (Turn hart) self.new }
     {
-        let row = self.parts.row(which, most);
-        self.parts.answer_leaving(which, row.left);
+        let row = self.parts.row(hart, most);
+        self.parts.answer_leaving(hart, row.left);
         row
     }
 

@@ -4,7 +4,7 @@ ghost use Rattle.std.specs.Prelude.{◌≡◌, ℕ, ◌+◌, ◌-◌, ◌<◌, �
 ghost use Rattle.sv_types.specs.Limits.{most_printed};
 ghost use Rattle.reference.specs.Devices.{lines_at};
 ghost use Rattle.machine_model.specs.Machine.{after_attempt};
-ghost use Rattle.machine_model.specs.HardwareEvent.{attempted, is_loading};
+ghost use Rattle.machine_model.specs.HardwareEvent.{attempt_of, is_loading};
 ghost use Rattle.machine_model.specs.Served.{is_again};
 ghost use Rattle.machine_model.specs.HostEvents.{event_served};
 ghost use Rattle.machine_model.specs.HostExits.{served_load_turn};
@@ -16,6 +16,7 @@ ghost use Rattle.machine_model.specs.Steps.{AttemptServed, IsStep, IsTurn, TurnS
 ghost use Rattle.machine.specs.Attempts.{hart_in, IsReady};
 ghost use Rattle.machine.specs.Limits.{most_counts};
 ghost use Rattle.machine.specs.Turns.{Attempts, Concluded, ExitServed, Finished, IsGuarded, IsReadyAt, IsReadyTwice, MayAttemptAgain, MayServe, MayTrap, MayTurn, asked_of, left_entry};
+ghost use Rattle.processor.specs.Bytes.{instruction_size};
 
 use crate::attempts::attempt;
 use crate::beats::beat_disk;
@@ -72,24 +73,24 @@ impl Parts {
     // An attempt of a hart, which SecVisor's answer follows where it gives an exit.
     #[inline(always)]
     #[tactic(auto, using(hart_answers::proofs::Hosts::hosts_length))]
-    fn attempt(&mut self, which: u8) -> Outcome
-        requires there { which < length self.old.harts }
+    fn attempt(&mut self, hart: u8) -> Outcome
+        requires there { hart < length self.old.harts }
         requires count { self.old.attempts < 2 ^ 64 - 1 }
-        requires ready { IsReady self.old.region (hart_in self.old.harts which) (lines_at self.old.devices which) }
-        ensures machine { self.new ≡ after_attempt self.old which (attempted self.old which (hart_in self.old.harts which)) }
-        ensures outcome { result ≡ (attempted self.old which (hart_in self.old.harts which)).outcome }
-        ensures aligned { (hart_in self.new.harts which).core.pc % 4 ≡ 0 }
+        requires ready { IsReady self.old.region (hart_in self.old.harts hart) (lines_at self.old.devices hart) }
+        ensures machine { self.new ≡ after_attempt self.old hart (attempt_of self.old hart (hart_in self.old.harts hart)) }
+        ensures outcome { result ≡ (attempt_of self.old hart (hart_in self.old.harts hart)).outcome }
+        ensures aligned { (hart_in self.new.harts hart).core.pc % instruction_size ≡ 0 }
         ensures number { length self.new.harts ≡ length self.old.harts }
     {
         let wires = HartWires {
             devices: &self.devices,
-            hart: which,
+            hart,
         };
         attempt(
             &mut self.cpu,
             &mut self.seats,
             &mut self.caches,
-            which,
+            hart,
             &mut self.mem,
             &wires,
         )
@@ -98,136 +99,136 @@ impl Parts {
     // What follows the last attempt of a turn.
     #[inline(always)]
     #[tactic(auto, using(crate::proofs::Turns::served_there))]
-    fn finish(&mut self, which: u8, outcome: Outcome)
-        requires hart { MayTrap self.old.harts which }
+    fn finish(&mut self, hart: u8, outcome: Outcome)
+        requires hart { MayTrap self.old.harts hart }
         requires may { MayServe self.old }
-        ensures { Finished outcome self.old which self.new }
+        ensures { Finished outcome self.old hart self.new }
     {
         match outcome {
             Outcome::Retired { wrote: _ } => self.journal.count_retired(),
             Outcome::GuestTrap => self.journal.count_trap(Mode::Kernel),
-            Outcome::Exit(exit) => self.serve_exit(which, exit),
+            Outcome::Exit(exit) => self.serve_exit(hart, exit),
         }
     }
 
     // It leaves its entry, and makes the second attempt of its turn.
-    fn attempt_again(&mut self, which: u8)
-        requires there { which < length self.old.harts }
+    fn attempt_again(&mut self, hart: u8)
+        requires there { hart < length self.old.harts }
         requires count { self.old.attempts < 2 ^ 64 - 1 }
         requires may { MayServe self.old }
-        requires ready { IsReadyAt (left_entry self.old which) which }
-        ensures { AttemptServed (left_entry self.old which) which (hart_in (left_entry self.old which).harts which) self.new }
+        requires ready { IsReadyAt (left_entry self.old hart) hart }
+        ensures { AttemptServed (left_entry self.old hart) hart (hart_in (left_entry self.old hart).harts hart) self.new }
     {
-        self.leave_entry(which);
-        let outcome = self.attempt(which);
-        self.finish(which, outcome);
+        self.leave_entry(hart);
+        let outcome = self.attempt(hart);
+        self.finish(hart, outcome);
     }
 
     // The answer to the exit of a first attempt, or a second attempt.
-    fn serve_first_exit(&mut self, which: u8, exit: Exit)
-        requires hart { MayTrap self.old.harts which }
+    fn serve_first_exit(&mut self, hart: u8, exit: Exit)
+        requires hart { MayTrap self.old.harts hart }
         requires count { self.old.attempts < 2 ^ 64 - 1 }
         requires may { MayServe self.old }
-        requires again { is_again (asked_of self.old which exit) ≡ true → IsReadyAt (left_entry self.old which) which }
-        ensures { ExitServed (is_again (asked_of self.old which exit)) self.old which exit self.new }
+        requires again { is_again (asked_of self.old hart exit) ≡ true → IsReadyAt (left_entry self.old hart) hart }
+        ensures { ExitServed (is_again (asked_of self.old hart exit)) self.old hart exit self.new }
     {
-        let answer = self.exit_answer(which, &exit);
+        let answer = self.exit_answer(hart, &exit);
         if is_again(answer) {
-            self.attempt_again(which);
+            self.attempt_again(hart);
         } else {
-            self.carry_out(which, answer);
+            self.carry_out(hart, answer);
         }
     }
 
     // What follows the first attempt of a turn.
     #[inline(always)]
     #[tactic(auto)]
-    fn conclude(&mut self, which: u8, outcome: Outcome)
-        requires hart { MayTrap self.old.harts which }
+    fn conclude(&mut self, hart: u8, outcome: Outcome)
+        requires hart { MayTrap self.old.harts hart }
         requires count { self.old.attempts < 2 ^ 64 - 1 }
         requires may { MayServe self.old }
-        requires again { MayAttemptAgain outcome self.old which }
-        ensures { Concluded outcome self.old which self.new }
+        requires again { MayAttemptAgain outcome self.old hart }
+        ensures { Concluded outcome self.old hart self.new }
     {
         match outcome {
             Outcome::Retired { wrote: _ } => self.journal.count_retired(),
             Outcome::GuestTrap => self.journal.count_trap(Mode::Kernel),
-            Outcome::Exit(exit) => self.serve_first_exit(which, exit),
+            Outcome::Exit(exit) => self.serve_first_exit(hart, exit),
         }
     }
 
     // A load of a hart is under way.
     #[tactic(auto, unfolding(machine_model::specs::HardwareEvent::is_loading))]
-    pub(crate) fn is_loading(&self, which: u8) -> bool
-        ensures { result ≡ is_loading self.now.loading which }
+    pub(crate) fn is_loading(&self, hart: u8) -> bool
+        ensures { result ≡ is_loading self.now.loading hart }
     {
         match &self.modules.loading {
-            Some(under_way) => under_way.hart == which,
+            Some(under_way) => under_way.hart == hart,
             None => false,
         }
     }
 
     // A load under way goes on: a page is counted, or its answer is given.
-    fn serve_load_turn(&mut self, which: u8)
-        requires there { which < length self.old.harts }
+    fn serve_load_turn(&mut self, hart: u8)
+        requires there { hart < length self.old.harts }
         requires may { MayServe self.old }
-        ensures { WithTables self.old (served_load_turn self.old which) self.new }
+        ensures { WithTables self.old (served_load_turn self.old hart) self.new }
     {
         law_starts();
         if let Some(answer) = load_turn(&self.mem, &self.policy, &mut self.modules) {
-            self.give(which, &answer);
+            self.give(hart, &answer);
         }
     }
 
     // A turn in which a hart makes an attempt, or two. It stands once, out of the way of the loops over events.
     #[tactic(auto)]
     #[inline(never)]
-    fn serve_attempts(&mut self, which: u8)
-        requires there { which < length self.old.harts }
-        requires attempts { Attempts self.old which }
+    fn serve_attempts(&mut self, hart: u8)
+        requires there { hart < length self.old.harts }
+        requires attempts { Attempts self.old hart }
         requires count { self.old.attempts < 2 ^ 64 - 2 }
         requires may { MayServe self.old }
-        requires ready { IsReadyTwice self.old which }
-        ensures { TurnServed self.old which (slice_get self.old.harts which) self.new }
+        requires ready { IsReadyTwice self.old hart }
+        ensures { TurnServed self.old hart (slice_get self.old.harts hart) self.new }
     {
-        let outcome = self.attempt(which);
-        self.conclude(which, outcome);
+        let outcome = self.attempt(hart);
+        self.conclude(hart, outcome);
     }
 
     // A turn of a hart, the count of turns raised already.
     #[tactic(auto)]
     #[inline(always)]
-    fn serve_turn(&mut self, which: u8)
+    fn serve_turn(&mut self, hart: u8)
         requires count { self.old.attempts < 2 ^ 64 - 2 }
         requires may { MayServe self.old }
-        requires ready { MayTurn self.old which }
-        ensures { TurnServed self.old which (slice_get self.old.harts which) self.new }
+        requires ready { MayTurn self.old hart }
+        ensures { TurnServed self.old hart (slice_get self.old.harts hart) self.new }
     {
-        if which as usize >= self.seats.len() {
+        if hart as usize >= self.seats.len() {
             return;
         }
-        if !self.seats[which as usize].hart.started {
+        if !self.seats[hart as usize].hart.started {
             return;
         }
-        if self.is_loading(which) {
-            self.serve_load_turn(which);
+        if self.is_loading(hart) {
+            self.serve_load_turn(hart);
             return;
         }
-        self.serve_attempts(which);
+        self.serve_attempts(hart);
     }
 
     /// A turn of a hart, which is counted.
     #[tactic(auto)]
     #[inline(always)]
-    pub(crate) fn turn(&mut self, which: u8)
+    pub(crate) fn turn(&mut self, hart: u8)
         requires turns { self.old.journal.counts.turns < 2 ^ 64 - 1 }
         requires count { self.old.attempts < 2 ^ 64 - 2 }
         requires may { MayServe self.old }
-        requires ready { MayTurn self.old which }
-        ensures { IsTurn self.old which self.new }
+        requires ready { MayTurn self.old hart }
+        ensures { IsTurn self.old hart self.new }
     {
         self.journal.count_turn();
-        self.serve_turn(which);
+        self.serve_turn(hart);
     }
 
     /// One beat of the disk's device.
@@ -286,7 +287,7 @@ impl Parts {
             return;
         }
         match event {
-            Event::Turn(which) => self.turn(which),
+            Event::Turn(hart) => self.turn(hart),
             Event::Beat => self.beat(),
             Event::Key(byte) => self.key(byte),
             Event::Tick(n) => self.tick(n),

@@ -15,6 +15,7 @@ ghost use Rattle.machine.specs.Attempts.{hart_in, IsReady, IsUsable, KeepsTurns,
 ghost use Rattle.machine.specs.Limits.{most_counts};
 ghost use Rattle.machine.specs.Rows.{AnswersLeaving, AreFree, EndsRow, WalksUnderRoot, IsQuietAt, counted_leaving, counted_row, MayRow};
 ghost use Rattle.machine.specs.Turns.{MayTrap};
+ghost use Rattle.processor.specs.Bytes.{instruction_size};
 
 use crate::caches::HartCaches;
 use crate::parts::Parts;
@@ -40,7 +41,7 @@ fn row_in_seat(
     requires usable { IsUsable mem.old.tables own.old }
     ensures ends { (lines : Lines) → pending (host_at seat.old).core.hregs (host_at seat.old).core.csrs lines ≡ None → EndsBy result.left result.made mem.old (host_at seat.old).core lines mem.new (host_at seat.new).core }
     ensures host { host_at seat.new ≡ with_core (host_at seat.new).core (host_at seat.old) }
-    ensures aligned { (host_at seat.new).core.pc % 4 ≡ 0 }
+    ensures aligned { (host_at seat.new).core.pc % instruction_size ≡ 0 }
     ensures free { (host_at seat.new).core.reservation ≡ None }
     ensures most { turns_of result ≤ most }
     ensures tables { mem.new.tables ≡ mem.old.tables }
@@ -65,22 +66,22 @@ fn row(
     words: &mut Words,
     seats: &mut [Seat],
     caches: &mut [HartCaches],
-    which: u8,
+    hart: u8,
     mem: &mut HostMem,
     most: u64,
 ) -> Row
-    requires may { MayTakeTurns mem.old.tables seats.old caches.old which }
-    requires walks { WalksUnderRoot mem.old (hart_in (hosts_of seats.old) which) }
+    requires may { MayTakeTurns mem.old.tables seats.old caches.old hart }
+    requires walks { WalksUnderRoot mem.old (hart_in (hosts_of seats.old) hart) }
     requires free { AreFree (hosts_of seats.old) }
-    ensures ends { (lines : Lines) → pending (hart_in (hosts_of seats.old) which).core.hregs (hart_in (hosts_of seats.old) which).core.csrs lines ≡ None → EndsBy result.left result.made mem.old (hart_in (hosts_of seats.old) which).core lines mem.new (hart_in (hosts_of seats.new) which).core }
-    ensures harts { hosts_of seats.new ≡ update (hosts_of seats.old) which (with_core (hart_in (hosts_of seats.new) which).core) }
-    ensures aligned { (hart_in (hosts_of seats.new) which).core.pc % 4 ≡ 0 }
+    ensures ends { (lines : Lines) → pending (hart_in (hosts_of seats.old) hart).core.hregs (hart_in (hosts_of seats.old) hart).core.csrs lines ≡ None → EndsBy result.left result.made mem.old (hart_in (hosts_of seats.old) hart).core lines mem.new (hart_in (hosts_of seats.new) hart).core }
+    ensures harts { hosts_of seats.new ≡ update (hosts_of seats.old) hart (with_core (hart_in (hosts_of seats.new) hart).core) }
+    ensures aligned { (hart_in (hosts_of seats.new) hart).core.pc % instruction_size ≡ 0 }
     ensures free { AreFree (hosts_of seats.new) }
     ensures most { turns_of result ≤ most }
     ensures kept { KeepsTurns mem.old mem.new seats.old seats.new caches.old caches.new }
 {
-    let seat = &mut seats[which as usize];
-    let own = &mut caches[which as usize];
+    let seat = &mut seats[hart as usize];
+    let own = &mut caches[hart as usize];
     row_in_seat(words, seat, own, mem, most)
 }
 
@@ -114,18 +115,18 @@ impl Parts {
     // An interrupt is due for a hart. Where none is enabled, no wire is read.
     #[tactic(auto, unfolding(processor::specs::HypervisorRegisters::pending, processor::specs::HypervisorRegisters::is_taken))]
     #[inline(always)]
-    fn is_interrupted(&self, which: u8) -> bool
-        requires there { which < length self.now.harts }
-        ensures { result ≡ false → pending (hart_in self.now.harts which).core.hregs (hart_in self.now.harts which).core.csrs (lines_at self.now.devices which) ≡ None }
+    fn is_interrupted(&self, hart: u8) -> bool
+        requires there { hart < length self.now.harts }
+        ensures { result ≡ false → pending (hart_in self.now.harts hart).core.hregs (hart_in self.now.harts hart).core.csrs (lines_at self.now.devices hart) ≡ None }
     {
-        let seat = &self.seats[which as usize];
+        let seat = &self.seats[hart as usize];
         if seat.hart.core.csrs.hie == 0 {
             return false;
         }
         pending(
             &seat.hart.core.csrs,
             seat.side.registers(),
-            &self.devices.lines(which),
+            &self.devices.lines(hart),
         )
         .is_some()
     }
@@ -140,32 +141,32 @@ impl Parts {
 
     /// A hart makes attempts in its turns, and no interrupt is due.
     #[inline(always)]
-    pub(crate) fn is_quiet_at(&self, which: u8) -> bool
-        ensures { result ≡ true → IsQuietAt self.now which }
+    pub(crate) fn is_quiet_at(&self, hart: u8) -> bool
+        ensures { result ≡ true → IsQuietAt self.now hart }
     {
         if self.journal.verdict() != Verdict::Running {
             return false;
         }
-        if which as usize >= self.seats.len() {
+        if hart as usize >= self.seats.len() {
             return false;
         }
-        if !self.seats[which as usize].hart.started || self.is_loading(which) {
+        if !self.seats[hart as usize].hart.started || self.is_loading(hart) {
             return false;
         }
-        !self.is_interrupted(which)
+        !self.is_interrupted(hart)
     }
 
     /// Up to so many turns of a hart, each of which carries out an instruction, and one behind them in which it leaves the
     /// guest. Those that carry out instructions are counted.
     #[inline(always)]
-    pub(crate) fn row(&mut self, which: u8, most: u64) -> Row
-        requires may { MayRow self.old which }
-        requires ready { IsReady self.old.region (hart_in self.old.harts which) (lines_at self.old.devices which) }
+    pub(crate) fn row(&mut self, hart: u8, most: u64) -> Row
+        requires may { MayRow self.old hart }
+        requires ready { IsReady self.old.region (hart_in self.old.harts hart) (lines_at self.old.devices hart) }
         requires few { most ≤ most_counts }
         requires counts { CountsAtMost (most_counts - most) self.old.journal.counts }
         requires attempts { self.old.attempts + most < 2 ^ 64 }
-        ensures ends { EndsRow result.left result.made self.old which self.new }
-        ensures aligned { (hart_in self.new.harts which).core.pc % 4 ≡ 0 }
+        ensures ends { EndsRow result.left result.made self.old hart self.new }
+        ensures aligned { (hart_in self.new.harts hart).core.pc % instruction_size ≡ 0 }
         ensures free { AreFree self.new.harts }
         ensures most { turns_of result ≤ most }
     {
@@ -173,7 +174,7 @@ impl Parts {
             &mut self.words,
             &mut self.seats,
             &mut self.caches,
-            which,
+            hart,
             &mut self.mem,
             most,
         );
@@ -184,24 +185,24 @@ impl Parts {
 
     /// What SecVisor answers where a hart left the guest behind a row, in a turn that is counted here.
     #[inline(always)]
-    pub(crate) fn answer_leaving(&mut self, which: u8, left: Leaving)
-        requires hart { MayTrap self.old.harts which }
-        requires mode { left ≡ Returns → (hart_in self.old.harts which).core.hregs.mode ≡ Kernel }
+    pub(crate) fn answer_leaving(&mut self, hart: u8, left: Leaving)
+        requires hart { MayTrap self.old.harts hart }
+        requires mode { left ≡ Returns → (hart_in self.old.harts hart).core.hregs.mode ≡ Kernel }
         requires counts { MayCount self.old.journal.counts }
         requires turns { self.old.journal.counts.turns < 2 ^ 64 - 1 }
         requires attempts { self.old.attempts < 2 ^ 64 - 1 }
-        ensures { AnswersLeaving left self.old which self.new }
+        ensures { AnswersLeaving left self.old hart self.new }
     {
         match left {
             Leaving::Stays => {}
             Leaving::Calls => {
                 self.count_leaving();
                 let cause = ExitCause::Exception(Cause::UserCall);
-                self.guest_trap(which, Trap { cause, tval: 0 });
+                self.guest_trap(hart, Trap { cause, tval: 0 });
             }
             Leaving::Returns => {
                 self.count_leaving();
-                self.guest_return(which);
+                self.guest_return(hart);
             }
         }
     }

@@ -4,7 +4,7 @@ use Rattle.std.specs.Prelude.{Option, Some, if◌then◌else◌}
 use Rattle.std.proofs.lemmas.Bool.{eqb-true, eqb-false, cases_Bool, not-true}
 use Rattle.reference.specs.Calls.{mask_names}
 use Rattle.machine_model.specs.Machine.{Machine, HostHart, update}
-use Rattle.machine_model.specs.HardwareEvent.{Answer, Others, Nobody, Starts, Interrupts, MayChange, is_stopped, hart_answered, software_set, interrupted_hosts, others_changed, answered}
+use Rattle.machine_model.specs.HardwareEvent.{Answer, Others, Nobody, Starts, Interrupts, MayChange, is_stopped, hart_answered, software_set, interrupted_hosts, others_changed, machine_after_answer}
 use Rattle.machine_model.specs.Frame.{FrameLaw, OtherStays, OwnStays}
 use Rattle.sv_types.proofs.SetElements.{set_other}
 
@@ -73,13 +73,13 @@ own_stays host new found (inl (false, e)) = inl (record { next = hart_answered n
 own_stays host new found (inr stopped) = inr stopped
 
 others_kept : (before : Machine) (h : ℕ) (a : Answer) (k : ℕ) (host : HostHart) → MayChange before.harts a.others → (k == h) ≡ false
-    → slice_get before.harts k ≡ Some host → OtherStays host (slice_get (answered before h a).harts k)
+    → slice_get before.harts k ≡ Some host → OtherStays host (slice_get (machine_after_answer before h a).harts k)
 others_kept before h a k host may other found = other_stays host _
     (get_others a.others before.harts (update before.harts h (hart_answered a.hart)) k host host may found
     (get_updated before.harts h k (hart_answered a.hart) (eqb-false k h other) ∙ found))
 
 own_kept : (before : Machine) (h : ℕ) (a : Answer) (host : HostHart) → MayChange before.harts a.others → slice_get before.harts h ≡ Some host
-    → OwnStays host (slice_get (answered before h a).harts h)
+    → OwnStays host (slice_get (machine_after_answer before h a).harts h)
 own_kept before h a host may found = own_stays host a.hart _
     (get_others a.others before.harts (update before.harts h (hart_answered a.hart)) h host (hart_answered a.hart host) may found
     (get_own before.harts h (hart_answered a.hart) host found))

@@ -26,13 +26,13 @@ pub record Recorded : Type 0 where
   pub counts : Counts
   pub notes : List Note
 
-abbrev pub recorded : Machine → Recorded → Machine
-recorded m new = record m { journal = record m.journal { counts = new.counts; notes = new.notes } }
+abbrev pub with_records : Machine → Recorded → Machine
+with_records m new = record m { journal = record m.journal { counts = new.counts; notes = new.notes } }
 
 -- nothing but counts and notes changes
 pub record SameButForCounts (before after : Machine) : Type 0 where
   pub new : Recorded
-  pub same : after ≡ recorded before new
+  pub same : after ≡ with_records before new
 
 -- ---- an answer of SecVisor's to hart h
 
@@ -108,8 +108,8 @@ MayChange harts (Starts other hart) = IsTrue (is_stopped (slice_get harts other)
 MayChange harts (Interrupts mask base) = ⊤
 
 -- RAM, the policy, time and both counts of the machine's own stay
-abbrev pub answered : Machine → ℕ → Answer → Machine
-answered m h a = record {
+abbrev pub machine_after_answer : Machine → ℕ → Answer → Machine
+machine_after_answer m h a = record {
   rules = m.rules;
   region = record m.region { tables = a.tables };
   harts = others_changed a.others (update m.harts h (hart_answered a.hart));
@@ -129,7 +129,7 @@ pub record Answers (before : Machine) (h : ℕ) (after : Machine) : Type 0 where
   pub answer : Answer
   pub size : length answer.tables ≡ length before.region.tables
   pub may : MayChange before.harts answer.others
-  pub same : after ≡ answered before h answer
+  pub same : after ≡ machine_after_answer before h answer
 
 -- ---- turns
 
@@ -139,22 +139,22 @@ AfterOutcome (Outcome.Exit exit) m h a after = Answers (after_attempt m h a) h a
 AfterOutcome (Outcome.Retired wrote) m h a after = SameButForCounts (after_attempt m h a) after
 AfterOutcome Outcome.GuestTrap m h a after = SameButForCounts (after_attempt m h a) after
 
-abbrev pub attempted : Machine → ℕ → HostHart → Attempted
-attempted m h hart = attempt m.region hart.core (lines_at m.devices h)
+abbrev pub attempt_of : Machine → ℕ → HostHart → Attempted
+attempt_of m h hart = attempt m.region hart.core (lines_at m.devices h)
 
 abbrev pub Attempts : Machine → ℕ → HostHart → Machine → Type 0
-Attempts m h hart after = AfterOutcome (attempted m h hart).outcome m h (attempted m h hart) after
+Attempts m h hart after = AfterOutcome (attempt_of m h hart).outcome m h (attempt_of m h hart) after
 
 -- the machine that an attempt leaves to SecVisor
 abbrev pub left_by : Machine → ℕ → HostHart → Machine
-left_by m h hart = after_attempt m h (attempted m h hart)
+left_by m h hart = after_attempt m h (attempt_of m h hart)
 
 -- the same with the hart sent to attempt again: it has left its entry, and nothing else was changed
 abbrev pub sent_again : Machine → ℕ → HostHart → Machine
 sent_again m h hart = with_host (left_by m h hart) h host_outside
 
 abbrev pub hart_again : Machine → ℕ → HostHart → HostHart
-hart_again m h hart = host_outside (with_core (attempted m h hart).core hart)
+hart_again m h hart = host_outside (with_core (attempt_of m h hart).core hart)
 
 -- one attempt, or two. After the second none follows, since the hart is in no entry
 abbrev pub OneOrTwo : (again : Bool) → Machine → ℕ → HostHart → Machine → Type 0
@@ -169,7 +169,7 @@ is_loading (Some load) h = load.hart == h
 -- a load of this hart goes on, by an answer alone, or else it makes an attempt
 abbrev pub StartedTurn : (loads : Bool) → Machine → ℕ → HostHart → Machine → Type 0
 StartedTurn true m h hart after = Answers m h after
-StartedTurn false m h hart after = OneOrTwo (asks_again m.region.ram m.rules hart (attempted m h hart).outcome) m h hart after
+StartedTurn false m h hart after = OneOrTwo (asks_again m.region.ram m.rules hart (attempt_of m h hart).outcome) m h hart after
 
 abbrev pub HartTurn : (started : Bool) → Machine → ℕ → HostHart → Machine → Type 0
 HartTurn true m h hart after = StartedTurn (is_loading m.loading h) m h hart after
@@ -196,9 +196,9 @@ abbrev pub IsPermitted : Machine → Option Written → Type 0
 IsPermitted m None = ⊤
 IsPermitted m (Some w) = IsPermittedWrite m w
 
-abbrev pub written : Machine → Option Written → Machine
-written m None = m
-written m (Some w) = record m {
+abbrev pub with_bytes_at : Machine → Option Written → Machine
+with_bytes_at m None = m
+with_bytes_at m (Some w) = record m {
   region = record m.region { ram = overwrite m.region.ram (ram_place w.gpa) w.bytes };
   harts = map (forgets (length m.region.tables + ram_place w.gpa) (length w.bytes)) m.harts;
 }
@@ -209,19 +209,19 @@ pub record OnlyDisk (before after : Machine) : Type 0 where
   pub bytes : Option Written
   pub new : Recorded
   pub permitted : IsPermitted before bytes
-  pub same : after ≡ recorded (record (written before bytes) { devices = record before.devices { disk = disk } }) new
+  pub same : after ≡ with_records (record (with_bytes_at before bytes) { devices = record before.devices { disk = disk } }) new
 
 -- the console's input and counts
 pub record OnlyConsole (before after : Machine) : Type 0 where
   pub console : List ℕ
   pub new : Recorded
-  pub same : after ≡ recorded (record before { devices = record before.devices { console = console } }) new
+  pub same : after ≡ with_records (record before { devices = record before.devices { console = console } }) new
 
 -- time and counts
 pub record OnlyTime (before after : Machine) : Type 0 where
   pub time : ℕ
   pub new : Recorded
-  pub same : after ≡ recorded (record before { devices = record before.devices { clock = record before.devices.clock { time = time } } }) new
+  pub same : after ≡ with_records (record before { devices = record before.devices { clock = record before.devices.clock { time = time } } }) new
 
 -- ---- an event
 

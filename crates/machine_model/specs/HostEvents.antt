@@ -7,10 +7,10 @@ use Rattle.sv_types.specs.declared.event.Event.{Event}
 use Rattle.sv_types.specs.declared.event.Event.TheVariants.{Turn, Beat, Key, Tick}
 use Rattle.sv_types.specs.declared.event.Note.TheVariants.{Denied}
 use Rattle.reference.specs.States.{Disk}
-use Rattle.reference.specs.Counting.{counted, noted, count_denied, count_dropped, count_beat, count_key, count_tick}
+use Rattle.reference.specs.Counting.{with_count, with_note, count_denied, count_dropped, count_beat, count_key, count_tick}
 use Rattle.reference.specs.Disk.{disk_beat, is_writable, Beaten}
 use Rattle.reference.specs.Move.{Move, Idle, FromRam, IntoRam, DeniedAt, OutsideRam}
-use Rattle.machine_model.specs.Machine.{Machine, forgets, raised}
+use Rattle.machine_model.specs.Machine.{Machine, forgets, with_count_raised}
 
 -- ---- a beat
 
@@ -24,7 +24,7 @@ after_host_move m (IntoRam gpa bytes) = record m {
   region = record m.region { ram = overwrite m.region.ram (ram_place gpa) bytes };
   harts = map (forgets (length m.region.tables + ram_place gpa) (length bytes)) m.harts;
 }
-after_host_move m (DeniedAt gpa) = record m { journal = noted (Denied gpa) (counted count_denied m.journal) }
+after_host_move m (DeniedAt gpa) = record m { journal = with_note (Denied gpa) (with_count count_denied m.journal) }
 after_host_move m OutsideRam = m
 
 abbrev pub after_host_beaten : Machine → Beaten → Machine
@@ -38,7 +38,7 @@ beat_served m = after_host_beaten m (disk_beat m.devices.disk m.region.ram (is_w
 unfoldable pub key_served : Machine → ℕ → Machine
 key_served m byte = record m {
   devices = record m.devices { console = after_key m.devices.console byte };
-  journal = if has_room m.devices.console then m.journal else counted count_dropped m.journal;
+  journal = if has_room m.devices.console then m.journal else with_count count_dropped m.journal;
 }
 
 unfoldable pub tick_served : Machine → ℕ → Machine
@@ -47,6 +47,6 @@ tick_served m n = record m { devices = record m.devices { clock = after_tick m.d
 -- the events that are no turn
 unfoldable pub event_served : Machine → Event → Machine
 event_served m (Turn h) = m
-event_served m Beat = beat_served (raised m count_beat)
-event_served m (Key byte) = key_served (raised m count_key) byte
-event_served m (Tick n) = tick_served (raised m count_tick) n
+event_served m Beat = beat_served (with_count_raised m count_beat)
+event_served m (Key byte) = key_served (with_count_raised m count_key) byte
+event_served m (Tick n) = tick_served (with_count_raised m count_tick) n

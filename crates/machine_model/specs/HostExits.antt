@@ -17,7 +17,7 @@ use Rattle.machine_model.specs.HostCalls.{served_call, host_given}
 use Rattle.reference.specs.Loads.{module_bases}
 use Rattle.machine_model.specs.Machine.{Machine, HostHart, HostLoad}
 use Rattle.reference.specs.ModuleCalls.{load_decision}
-use Rattle.reference.specs.Relocations.{masked, fields_right}
+use Rattle.reference.specs.Relocations.{masked_text, fields_right}
 
 -- ---- exits; `mode` is the one that the hart is in
 
@@ -72,7 +72,7 @@ page_counted rules rule load n page left = record {
   hart = load.hart;
   about = load.about;
   left = left;
-  digests = load.digests ++ page_digest (masked page (page_sites n rule.sites)) ∷ [];
+  digests = load.digests ++ page_digest (masked_text page (page_sites n rule.sites)) ∷ [];
   right = load.right && fields_right rules.exports (module_bases load.about) (page_sites n rule.sites) page;
 }
 

@@ -16,13 +16,13 @@ use Rattle.processor.specs.declared.mode.Mode.TheVariants.{Kernel, User}
 use Rattle.sv_types.specs.declared.event.Note.TheVariants.{Demote}
 use Rattle.sv_types.specs.declared.event.Rule.TheVariants.{Entry, Write}
 use Rattle.sv_types.specs.declared.event.Verdict.TheVariants.{Stopped}
-use Rattle.reference.specs.Counting.{counted, noted, machine_ended, count_trap, count_retired, count_return, count_demote}
+use Rattle.reference.specs.Counting.{with_count, with_note, machine_ended, count_trap, count_retired, count_return, count_demote}
 use Rattle.reference.specs.Calls.{started_hart}
 use Rattle.reference.specs.Turn.{bound_entry}
 use Rattle.reference.specs.Trapping.{may_enter, entry_at_trap, entry_in}
 use Rattle.reference.specs.Devices.{DeviceLoad, DeviceStore}
 use Rattle.machine_model.specs.Machine.{Machine, HostHart, update}
-use Rattle.machine_model.specs.Served.{Seen, transformed, exit_answer, is_again}
+use Rattle.machine_model.specs.Served.{Seen, transformed_effect, exit_answer, is_again}
 use Rattle.machine_model.specs.StandsFor.{hregs_in}
 
 -- ---- one hart
@@ -116,7 +116,7 @@ with_host m h change = record m { harts = update m.harts h change }
 abbrev pub trap_served : Machine → ℕ → Mode → (target : ℕ) → (interrupt : Bool) → (cause tval : ℕ) → Machine
 trap_served m h from target interrupt cause tval =
     if may_enter m.rules from target
-    then record m { harts = update m.harts h (host_at_trap m.rules interrupt cause tval); journal = counted (count_trap from) m.journal }
+    then record m { harts = update m.harts h (host_at_trap m.rules interrupt cause tval); journal = with_count (count_trap from) m.journal }
     else record m { journal = machine_ended (Stopped (Entry target) h m.journal.counts.turns) m.journal }
 
 abbrev pub host_trap : Machine → ℕ → HostHart → Mode → (interrupt : Bool) → (cause tval : ℕ) → Machine
@@ -128,13 +128,13 @@ host_exception m h host mode cause tval = host_trap m h host mode false (cause_n
 abbrev pub host_return : Machine → ℕ → HostHart → Machine
 host_return m h host = record m {
   harts = update m.harts h host_at_return;
-  journal = counted (count_return (mode_at_return host.core.csrs.vsstatus)) m.journal;
+  journal = with_count (count_return (mode_at_return host.core.csrs.vsstatus)) m.journal;
 }
 
 abbrev pub host_demote : Machine → ℕ → HostHart → ℕ → Machine
 host_demote m h host gpa = record m {
   harts = update m.harts h host_demoted;
-  journal = noted (Demote h m.journal.counts.turns host.core.pc gpa) (counted count_demote m.journal);
+  journal = with_note (Demote h m.journal.counts.turns host.core.pc gpa) (with_count count_demote m.journal);
 }
 
 -- ---- what an answer depends on
@@ -145,7 +145,7 @@ host_seen ram rules host mode exit = record {
   mode = mode;
   pc = host.core.pc;
   entry = bound_entry rules host.entry;
-  effect = transformed exit.htinst host.core.registers host.core.pc;
+  effect = transformed_effect exit.htinst host.core.registers host.core.pc;
 }
 
 -- the hart attempts again after an attempt with this outcome
@@ -161,7 +161,7 @@ host_device_load m h host mode rd address width signed None = host_exception m h
 host_device_load m h host mode rd address width signed (Some l) = record m {
   harts = update m.harts h (host_with rd (loaded_value signed width l.value));
   devices = l.devices;
-  journal = counted count_retired m.journal;
+  journal = with_count count_retired m.journal;
 }
 
 unfoldable pub host_device_store : Machine → ℕ → HostHart → Mode → (address : ℕ) → Option DeviceStore → Machine
@@ -169,7 +169,7 @@ host_device_store m h host mode address None = host_exception m h host mode Caus
 host_device_store m h host mode address (Some s) = record m {
   harts = update m.harts h host_passed;
   devices = s.devices;
-  journal = counted count_retired s.journal;
+  journal = with_count count_retired s.journal;
 }
 
 abbrev pub host_write_stopped : Machine → ℕ → HostHart → ℕ → Machine

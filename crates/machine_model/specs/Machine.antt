@@ -11,7 +11,7 @@ use Rattle.processor.specs.declared.mode.Mode.TheVariants.{Kernel}
 use Rattle.sv_types.specs.declared.protection.Protection.{Protection}
 use Rattle.sv_types.specs.declared.saved.SavedModule.{SavedModule}
 use Rattle.reference.specs.States.{Devices, Journal}
-use Rattle.reference.specs.Counting.{counted, count_retired, count_trap}
+use Rattle.reference.specs.Counting.{with_count, count_retired, count_trap}
 
 -- a hart of the hardware, and what SecVisor keeps of it: whether it is started, and the entry that it is in
 pub record HostHart : Type 0 where
@@ -53,8 +53,8 @@ update (hart ∷ harts) zero change = change hart ∷ harts
 update (hart ∷ harts) (suc h) change = hart ∷ update harts h change
 
 -- a count raised
-abbrev pub raised : Machine → (Counts → Counts) → Machine
-raised m f = record m { journal = counted f m.journal }
+abbrev pub with_count_raised : Machine → (Counts → Counts) → Machine
+with_count_raised m f = record m { journal = with_count f m.journal }
 
 -- ---- an attempt
 
@@ -86,4 +86,4 @@ count_outcome Outcome.GuestTrap c = count_trap Kernel c
 count_outcome (Outcome.Exit exit) c = c
 
 abbrev pub after_quiet_attempt : Machine → ℕ → Attempted → Machine
-after_quiet_attempt m h a = record (after_attempt m h a) { journal = counted (count_outcome a.outcome) m.journal }
+after_quiet_attempt m h a = record (after_attempt m h a) { journal = with_count (count_outcome a.outcome) m.journal }

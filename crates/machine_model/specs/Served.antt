@@ -38,8 +38,8 @@ abbrev pub device_gpa : Exit → ℕ
 device_gpa exit = min (exit_gpa exit) (2 ^ 64 - 1)
 
 -- the effect of the transformed instruction, of which the address doesn't count
-unfoldable pub transformed : (htinst : ℕ) → (registers : List ℕ) → (pc : ℕ) → Option Effect
-transformed htinst registers pc = option_map (λ instr. effect_of instr registers pc) (instruction_of htinst)
+unfoldable pub transformed_effect : (htinst : ℕ) → (registers : List ℕ) → (pc : ℕ) → Option Effect
+transformed_effect htinst registers pc = option_map (λ instr. effect_of instr registers pc) (instruction_of htinst)
 
 -- ---- the fetch
 
@@ -104,7 +104,7 @@ seen_of r hart exit = record {
   mode = hart.mode;
   pc = hart.pc;
   entry = bound_entry r.rules hart.entry;
-  effect = transformed exit.htinst hart.registers hart.pc;
+  effect = transformed_effect exit.htinst hart.registers hart.pc;
 }
 
 -- ---- outside of an entry

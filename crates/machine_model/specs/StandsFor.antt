@@ -22,7 +22,7 @@ use Rattle.reference.specs.Loads.{module_text, module_bases}
 use Rattle.reference.specs.Soundness.{IsSound}
 use Rattle.sv_types.specs.Protections.{is_free}
 use Rattle.machine_model.specs.Machine.{Machine, HostHart, HostLoad}
-use Rattle.reference.specs.Relocations.{masked, fields_right}
+use Rattle.reference.specs.Relocations.{masked_text, fields_right}
 
 -- ---- a hart, as the hardware has it
 
@@ -72,7 +72,7 @@ abbrev pub pages_counted : ℕ → Loading → ℕ
 pages_counted pages load = pages - load.left
 
 unfoldable pub kept_digests : ModuleRule → List ℕ → ℕ → List (List ℕ)
-kept_digests rule text n = page_digests n (masked text rule.sites)
+kept_digests rule text n = page_digests n (masked_text text rule.sites)
 
 unfoldable pub kept_answer : Rules → ModuleRule → SavedModule → List ℕ → ℕ → Bool
 kept_answer rules rule m text n =

@@ -9,8 +9,8 @@ use Rattle.sv_types.specs.declared.event.Verdict.TheVariants.{Running, Shutdown,
 use Rattle.processor.specs.declared.outcome.Outcome.{Outcome}
 use Rattle.reference.specs.Counting.{count_turn}
 use Rattle.reference.specs.Protections.{protection_at}
-use Rattle.machine_model.specs.Machine.{Machine, HostHart, raised, after_quiet_attempt}
-use Rattle.machine_model.specs.HardwareEvent.{attempted, is_loading, left_by, hart_again, sent_again}
+use Rattle.machine_model.specs.Machine.{Machine, HostHart, with_count_raised, after_quiet_attempt}
+use Rattle.machine_model.specs.HardwareEvent.{attempt_of, is_loading, left_by, hart_again, sent_again}
 use Rattle.machine_model.specs.HostHarts.{asks_again}
 use Rattle.machine_model.specs.HostExits.{served_exit, served_load_turn, with_tables}
 use Rattle.machine_model.specs.StandsFor.{bound_pages}
@@ -31,13 +31,13 @@ pub record WithTables (before served after : Machine) : Type 0 where
 
 -- without an exit the attempt is all, and with one SecVisor answers
 abbrev pub OutcomeServed : Outcome → Machine → ℕ → HostHart → Machine → Type 0
-OutcomeServed (Outcome.Retired wrote) m h host after = after ≡ after_quiet_attempt m h (attempted m h host)
-OutcomeServed Outcome.GuestTrap m h host after = after ≡ after_quiet_attempt m h (attempted m h host)
+OutcomeServed (Outcome.Retired wrote) m h host after = after ≡ after_quiet_attempt m h (attempt_of m h host)
+OutcomeServed Outcome.GuestTrap m h host after = after ≡ after_quiet_attempt m h (attempt_of m h host)
 OutcomeServed (Outcome.Exit exit) m h host after = WithTables (left_by m h host) (served_exit (left_by m h host) h exit) after
 
 -- one attempt
 abbrev pub AttemptServed : Machine → ℕ → HostHart → Machine → Type 0
-AttemptServed m h host after = OutcomeServed (attempted m h host).outcome m h host after
+AttemptServed m h host after = OutcomeServed (attempt_of m h host).outcome m h host after
 
 -- one attempt, or two, where SecVisor asks for a second one: the hart has left its entry then, so it asks no more
 abbrev pub AttemptsServed : (again : Bool) → Machine → ℕ → HostHart → Machine → Type 0
@@ -47,7 +47,7 @@ AttemptsServed true m h host after = AttemptServed (sent_again m h host) h (hart
 -- a load of this hart goes on without an attempt
 abbrev pub StartedServed : (loads : Bool) → Machine → ℕ → HostHart → Machine → Type 0
 StartedServed true m h host after = WithTables m (served_load_turn m h) after
-StartedServed false m h host after = AttemptsServed (asks_again m.region.ram m.rules host (attempted m h host).outcome) m h host after
+StartedServed false m h host after = AttemptsServed (asks_again m.region.ram m.rules host (attempt_of m h host).outcome) m h host after
 
 abbrev pub HartServed : (started : Bool) → Machine → ℕ → HostHart → Machine → Type 0
 HartServed true m h host after = StartedServed (is_loading m.loading h) m h host after
@@ -61,7 +61,7 @@ TurnServed m h (Some host) after = HartServed host.started m h host after
 
 -- a turn raises its count, and then does the rest
 abbrev pub IsTurn : Machine → ℕ → Machine → Type 0
-IsTurn m h after = TurnServed (raised m count_turn) h (slice_get m.harts h) after
+IsTurn m h after = TurnServed (with_count_raised m count_turn) h (slice_get m.harts h) after
 
 abbrev pub Steps : Machine → Event → Machine → Type 0
 Steps m (Turn h) after = IsTurn m h after

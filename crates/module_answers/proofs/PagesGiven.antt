@@ -12,7 +12,7 @@ use Rattle.machine_model.specs.HostCalls.{host_pages_beside}
 use Rattle.machine_model.specs.HostExits.{with_tables}
 use Rattle.machine_model.specs.Machine.{Machine}
 use Rattle.page_guard.specs.Guarded.{with_span}
-use Rattle.module_gate.specs.Gates.{PageTurns, begun, load_span, pages_at}
+use Rattle.module_gate.specs.Gates.{PageTurns, new_load, load_span, pages_at}
 use Rattle.module_answers.specs.Parts.{with_modules}
 use Rattle.module_answers.specs.declared.modules.Modules.{Modules}
 use Rattle.module_answers.specs.declared.modules.UnderWay.{UnderWay}
@@ -28,11 +28,11 @@ module _ (m : Machine) (rules : Rules) (region : Region) (h : ℕ) (guard : List
   old = with_modules m rules region guard modules
 
   pub begins : (about : SavedModule) (pages asked : ℕ) → pages ≡ asked
-      → after (with_span guard (load_span (begun about pages)) Held) (record { gate = record modules.gate { loading = true }; loading = Some (record { hart = h; load = begun about pages }) })
+      → after (with_span guard (load_span (new_load about pages)) Held) (record { gate = record modules.gate { loading = true }; loading = Some (record { hart = h; load = new_load about pages }) })
       ≡ with_tables (host_pages_beside (BeginsLoad about asked) h old) tables
   unfolding host_pages_beside
   begins about pages asked same =
-      ap (λ (k : ℕ). after (with_span guard (load_span (begun about k)) Held) (record { gate = record modules.gate { loading = true }; loading = Some (record { hart = h; load = begun about k }) })) same
+      ap (λ (k : ℕ). after (with_span guard (load_span (new_load about k)) Held) (record { gate = record modules.gate { loading = true }; loading = Some (record { hart = h; load = new_load about k }) })) same
 
   pub approves : (load : PageTurns) → pages_in_rule (slice_get rules.modules load.about.id) ≡ load.pages
       → after (with_span guard (load_span load) Approved) (record { gate = record modules.gate { loaded = with_module modules.gate.loaded load.about; loading = false }; loading = None })

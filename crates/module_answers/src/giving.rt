@@ -9,7 +9,7 @@ ghost use Rattle.machine_model.specs.GivenAnswers.{IsGiven};
 ghost use Rattle.machine_model.specs.HostExits.{with_tables};
 ghost use Rattle.machine_model.specs.Machine.{Machine};
 ghost use Rattle.page_guard.specs.Guarded.{with_span, IsTheirs, StaysTheirs};
-ghost use Rattle.module_gate.specs.Gates.{begun, is_good_place, load_span};
+ghost use Rattle.module_gate.specs.Gates.{new_load, is_good_place, load_span};
 ghost use Rattle.module_answers.specs.Changes.{sets_protections};
 ghost use Rattle.module_answers.specs.Conditions.{AreJoined, AreGuarded, MayEnd};
 ghost use Rattle.module_answers.specs.Parts.{with_modules, loading_of, facts_in};
@@ -22,7 +22,7 @@ use sv_types::{Policy, SavedModule};
 
 // A load begins.
 fn begin_load(
-    which: u8,
+    hart: u8,
     guard: &mut Guard,
     mem: &mut HostMem,
     policy: &Policy,
@@ -35,12 +35,12 @@ fn begin_load(
     requires none { modules.old.loading ≡ None }
     requires idle { modules.old.gate.loading ≡ false }
     requires place { is_good_place mem.old.ram guard.old.pages about (pages_in_rule (slice_get (rules_of policy.now).modules about.id)) ≡ true }
-    ensures modules { modules.new ≡ record { gate = record modules.old.gate { loading = true }; loading = Some (record { hart = which; load = begun about (pages_in_rule (slice_get (rules_of policy.now).modules about.id)) }) } }
-    ensures guard { guard.new.pages ≡ with_span guard.old.pages (load_span (begun about (pages_in_rule (slice_get (rules_of policy.now).modules about.id)))) Held }
+    ensures modules { modules.new ≡ record { gate = record modules.old.gate { loading = true }; loading = Some (record { hart = hart; load = new_load about (pages_in_rule (slice_get (rules_of policy.now).modules about.id)) }) } }
+    ensures guard { guard.new.pages ≡ with_span guard.old.pages (load_span (new_load about (pages_in_rule (slice_get (rules_of policy.now).modules about.id)))) Held }
     ensures theirs { StaysTheirs mem.old mem.new guard.old guard.new }
 {
     let load = modules.gate.begin(guard, mem, policy, about);
-    put_load(modules, which, load);
+    put_load(modules, hart, load);
 }
 
 // The load under way ends, and its pages are approved.
@@ -78,7 +78,7 @@ fn release_load(guard: &mut Guard, mem: &mut HostMem, modules: &mut Modules)
 /// Says whether it set protections.
 #[tactic(auto, unfolding(machine_model::specs::HostCalls::host_pages_beside, crate::specs::Changes::sets_protections))]
 pub fn give_pages(
-    which: u8,
+    hart: u8,
     guard: &mut Guard,
     mem: &mut HostMem,
     policy: &Policy,
@@ -90,7 +90,7 @@ pub fn give_pages(
     requires joined { AreJoined (rules_of policy.now) modules.old }
     requires guarded { AreGuarded (rules_of policy.now) guard.old.pages modules.old.gate.loaded (loading_of modules.old) }
     requires given { IsGiven (facts_in [] [] (rules_of policy.now) mem.old.ram guard.old.pages modules.old) (loading_of modules.old) beside.now }
-    ensures machine { (m : Machine) → with_modules m (rules_of policy.now) mem.new guard.new.pages modules.new ≡ with_tables (host_pages_beside beside.now which (with_modules m (rules_of policy.now) mem.old guard.old.pages modules.old)) mem.new.tables }
+    ensures machine { (m : Machine) → with_modules m (rules_of policy.now) mem.new guard.new.pages modules.new ≡ with_tables (host_pages_beside beside.now hart (with_modules m (rules_of policy.now) mem.old guard.old.pages modules.old)) mem.new.tables }
     ensures changed { result ≡ sets_protections beside.now }
     ensures kept { result ≡ false → (guard.new ≡ guard.old) × (mem.new ≡ mem.old) }
     ensures joined { AreJoined (rules_of policy.now) modules.new }
@@ -98,7 +98,7 @@ pub fn give_pages(
 {
     match *beside {
         Beside::BeginsLoad { about, pages: _ } => {
-            begin_load(which, guard, mem, policy, modules, about);
+            begin_load(hart, guard, mem, policy, modules, about);
         }
         Beside::ApprovesModule { about: _ } => approve_load(guard, mem, modules),
         Beside::ReleasesModule { about: _ } => release_load(guard, mem, modules),

@@ -56,22 +56,22 @@ last_page : (b : Bool) (guard : List Protection) (pages : List ℕ) (page : ℕ)
 last_page true guard pages page = sym (each_more guard pages page Free)
 last_page false guard pages page = refl
 
-abbrev pub picked : (ℕ → Protection → Bool) → List Protection → ℕ → Bool
-picked picks guard page = picks page (protection_at guard page)
+abbrev pub picks_page : (ℕ → Protection → Bool) → List Protection → ℕ → Bool
+picks_page picks guard page = picks page (protection_at guard page)
 
 pub freed_each : (picks : ℕ → Protection → Bool) (guard : List Protection) (first count : ℕ)
-    → freed_by picks guard first count ≡ with_each guard (filter (picked picks guard) (numbers_from first count)) Free
+    → freed_by picks guard first count ≡ with_each guard (filter (picks_page picks guard) (numbers_from first count)) Free
 unfolding freed_by with_each
 freed_each picks guard first zero = refl
 freed_each picks guard first (suc count) =
     let page : ℕ = first + count in
     let before : List Protection = freed_by picks guard first count in
-    let pages : List ℕ = filter (picked picks guard) (numbers_from first count) in
+    let pages : List ℕ = filter (picks_page picks guard) (numbers_from first count) in
     ap (λ (x : Protection). if picks page x then slice_set before page Free else before) (next_as_it_was picks guard first count)
-    ∙ ap (λ (g : List Protection). if picked picks guard page then slice_set g page Free else g) (freed_each picks guard first count)
-    ∙ last_page (picked picks guard page) guard pages page
-    ∙ ap (λ (list : List ℕ). with_each guard list Free) (sym (filter_more (picked picks guard) (numbers_from first count) page))
-    ∙ ap (λ (list : List ℕ). with_each guard (filter (picked picks guard) list) Free) (sym (numbers_more first count))
+    ∙ ap (λ (g : List Protection). if picks_page picks guard page then slice_set g page Free else g) (freed_each picks guard first count)
+    ∙ last_page (picks_page picks guard page) guard pages page
+    ∙ ap (λ (list : List ℕ). with_each guard list Free) (sym (filter_more (picks_page picks guard) (numbers_from first count) page))
+    ∙ ap (λ (list : List ℕ). with_each guard (filter (picks_page picks guard) list) Free) (sym (numbers_more first count))
 
 -- ---- one page
 

@@ -61,8 +61,8 @@ unfoldable pub is_good_place : List ℕ → List Protection → SavedModule → 
 is_good_place ram guard about pages = is_place ram about.gpa about.va pages && not (list_any (is_taken guard) (numbers_from (page_of about.gpa) pages))
 
 -- nothing was counted yet
-abbrev pub begun : SavedModule → ℕ → PageTurns
-begun about pages = record { about = about; pages = pages; left = pages; digests = []; right = true }
+abbrev pub new_load : SavedModule → ℕ → PageTurns
+new_load about pages = record { about = about; pages = pages; left = pages; digests = []; right = true }
 
 -- the pages of each loaded module are in RAM, and approved
 pub record AreApproved (rules : Rules) (guard : List Protection) (loaded : List SavedModule) : Type 0 where

@@ -9,7 +9,7 @@ ghost use Rattle.reference.specs.States.{find_module, with_module, without_modul
 ghost use Rattle.page_guard.specs.Guarded.{with_span, IsTheirs, StaysTheirs};
 ghost use Rattle.module_gate.specs.Ascending.{AscendsFrom};
 ghost use Rattle.module_gate.specs.Retiring.{kernel_pages};
-ghost use Rattle.module_gate.specs.Gates.{no_modules, begun, is_good_place, load_span, module_span, AreApproved};
+ghost use Rattle.module_gate.specs.Gates.{no_modules, new_load, is_good_place, load_span, module_span, AreApproved};
 
 use crate::init::free_pages;
 use crate::load::Load;
@@ -120,7 +120,7 @@ impl Gate {
         requires idle { self.old.loading ≡ false }
         requires place { is_good_place mem.old.ram guard.old.pages about (pages_in_rule (slice_get (rules_of policy.now).modules about.id)) ≡ true }
         requires theirs { IsTheirs mem.old guard.old }
-        ensures load { result ≡ begun about (pages_in_rule (slice_get (rules_of policy.now).modules about.id)) }
+        ensures load { result ≡ new_load about (pages_in_rule (slice_get (rules_of policy.now).modules about.id)) }
         ensures gate { self.new ≡ record self.old { loading = true } }
         ensures guard { guard.new.pages ≡ with_span guard.old.pages (load_span result) Held }
         ensures theirs { StaysTheirs mem.old mem.new guard.old guard.new }

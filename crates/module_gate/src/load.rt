@@ -5,7 +5,7 @@ ghost use Rattle.processor.specs.Bytes.{page_size};
 ghost use Rattle.sv_types.specs.Measure.{page_digest};
 ghost use Rattle.sv_types.specs.Policies.{rules_of, rules_within};
 ghost use Rattle.sv_types.specs.declared.protection.Protection.TheVariants.{Free, Held, Approved};
-ghost use Rattle.reference.specs.Relocations.{masked};
+ghost use Rattle.reference.specs.Relocations.{masked_text};
 ghost use Rattle.reference.specs.States.{find_module, with_module, pages_in_rule};
 ghost use Rattle.machine_model.specs.HostExits.{host_is_good};
 ghost use Rattle.relocated_fields.specs.Pieces.{piece_sites, IsAligned};
@@ -148,7 +148,7 @@ fn masked_digest(bytes: &[u8], first: u32, sites: &[Site]) -> Digest
     requires page { length bytes.now ≡ page_size }
     requires start { first % page_size ≡ 0 }
     requires aligned { All IsAligned sites.now }
-    ensures { result ≡ page_digest (masked bytes.now (piece_sites first page_size sites.now)) }
+    ensures { result ≡ page_digest (masked_text bytes.now (piece_sites first page_size sites.now)) }
 {
     let mut page = [0; PAGE_SIZE];
     page.copy_from_slice(bytes);

@@ -5,7 +5,7 @@ use Rattle.outside.specs.declared.trouble.Trouble.{Trouble}
 use Rattle.outside.specs.declared.trouble.Trouble.TheVariants.{Write, Memory}
 
 -- the status at the end
-abbrev pub settled : Result Status Trouble → Status
-settled (Ok status) = status
-settled (Err Write) = Status.WriteFault
-settled (Err Memory) = Status.Memory
+abbrev pub status_of_end : Result Status Trouble → Status
+status_of_end (Ok status) = status
+status_of_end (Err Write) = Status.WriteFault
+status_of_end (Err Memory) = Status.Memory

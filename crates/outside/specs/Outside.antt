@@ -61,13 +61,13 @@ pub record MayWrite (sink : SinkState) : Type 0 where
   pub is_open : IsTrue sink.is_open
   pub count : sink.faults < 2 ^ 64 - 1
 
-abbrev pub appended : Option (List ℕ) → List ℕ → Option (List ℕ)
-appended None bytes = None
-appended (Some taken) bytes = Some (taken ++ bytes)
+abbrev pub append_bytes : Option (List ℕ) → List ℕ → Option (List ℕ)
+append_bytes None bytes = None
+append_bytes (Some taken) bytes = Some (taken ++ bytes)
 
 -- the sink when it has taken these bytes more
 abbrev pub after_taking : SinkState → List ℕ → SinkState
-after_taking sink bytes = record sink { taken = appended sink.taken bytes }
+after_taking sink bytes = record sink { taken = append_bytes sink.taken bytes }
 
 -- a write failed, and took nothing
 pub record WriteFails (old new : SinkState) : Type 0 where
@@ -79,7 +79,7 @@ pub record TookPrefix (old new : SinkState) (bytes : List ℕ) : Type 0 where
   pub written : List ℕ
   pub left : List ℕ
   pub whole : written ++ left ≡ bytes
-  pub taken : new.taken ≡ appended old.taken written
+  pub taken : new.taken ≡ append_bytes old.taken written
 
 -- a write failed before the sink had taken all of these bytes
 pub record BreaksOff (old new : SinkState) (bytes : List ℕ) : Type 0 where

@@ -1,7 +1,7 @@
 // What may end an answer early.
 
 ghost use Rattle.std.specs.Prelude.{◌≡◌};
-ghost use Rattle.outside.specs.Endings.{settled};
+ghost use Rattle.outside.specs.Endings.{status_of_end};
 ghost use Rattle.outside.specs.declared.trouble.Trouble.TheVariants.{Write, Memory};
 
 use crate::SaveFailed;
@@ -43,7 +43,7 @@ impl From<AllocError> for Trouble {
 
 /// The status that an answer ends with.
 pub fn settled(answer: Result<Status, Trouble>) -> Status
-    ensures { result ≡ settled answer }
+    ensures { result ≡ status_of_end answer }
 {
     match answer {
         Ok(status) => status,

@@ -35,9 +35,9 @@ pub struct Side {
 }
 
 impl Model for Side {
-    ghost use Rattle.sv_types.specs.declared.view.View.{View as Seen};
+    ghost use Rattle.sv_types.specs.declared.view.View.{View as Root};
 
-    ghost Value = { Seen };
+    ghost Value = { Root };
 
     ghost use Rattle.std.specs.Prelude.{◌≡◌};
     ghost use Rattle.page_guard.specs.Sides.{registers_of};

@@ -6,7 +6,7 @@ use Rattle.std.specs.List.{list_any}
 use Rattle.std.specs.Cmp.Derive.{both_true}
 use Rattle.toml.specs.Data.{Data, Items, no_items, item}
 use Rattle.sv_types.specs.Policies.{each_within, entry_within, entries_within, bound_fits, all_bound}
-use Rattle.policy.specs.Values.{limited, address_of, entry_of, items_in, items_length}
+use Rattle.policy.specs.Values.{if_within_limit, address_of, entry_of, items_in, items_length}
 use Rattle.policy.specs.Bindings.{binding, entries_in, bound_in, is_bound, unrepeated_entry, binding_of_two, binding_of_items, binding_of, each_binding}
 use Rattle.policy.specs.declared.binding.Binding.{Binding}
 use Rattle.policy.proofs.Judging.{bind_ok, after, ok_same, limited_ok}
@@ -21,7 +21,7 @@ binding_within ram_pages before b = entry_within b.va && bound_fits ram_pages b.
 
 pub entry_read : (d : Data) (a : ℕ) → entry_of d ≡ Ok a → entry_within a ≡ true
 entry_read d a read =
-    let address = bind_ok (address_of d) (λ address. limited (entry_within address) address) a read in
+    let address = bind_ok (address_of d) (λ address. if_within_limit (entry_within address) address) a read in
     let fit = limited_ok (entry_within address.0) address.0 a address.2 in
     sym (ap entry_within fit.1) ∙ fit.0
 
@@ -36,7 +36,7 @@ unfolding binding_of_two
 two_read ram_pages before va gpa b read =
     after (entry_of va) _ b read λ v va_is read.
     after (address_of gpa) _ b read λ g gpa_is read.
-    after (limited (bound_fits ram_pages v g) (binding v g)) _ b read λ pair pair_is read.
+    after (if_within_limit (bound_fits ram_pages v g) (binding v g)) _ b read λ pair pair_is read.
     let fit = limited_ok (bound_fits ram_pages v g) (binding v g) pair pair_is in
     let fresh = unrepeated_read before pair b read in
     subst (λ (x : Binding). binding_within ram_pages before x ≡ true) (fit.1 ∙ fresh.1)

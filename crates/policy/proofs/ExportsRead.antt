@@ -10,12 +10,12 @@ use Rattle.toml.specs.Data.{Data}
 use Rattle.sv_types.specs.Policies.{is_exported}
 use Rattle.sv_types.specs.declared.policy.Export.{Export}
 use Rattle.policy.specs.Values.{name_of, address_of}
-use Rattle.policy.specs.Text.{export_of_two, unrepeated}
+use Rattle.policy.specs.Text.{export_of_two, unless_repeated}
 use Rattle.policy.specs.ExportNames.{HasNames}
 
 -- an export whose values are good
 pub export_judged : (before : List Export) (name addr : Data) (n : List ℕ) (a : ℕ) (met : Bool) → name_of name ≡ Ok n → address_of addr ≡ Ok a → is_exported n before ≡ met →
-    export_of_two before name addr ≡ unrepeated met (record { name = n; addr = a })
+    export_of_two before name addr ≡ unless_repeated met (record { name = n; addr = a })
 unfolding export_of_two
 export_judged before name addr n a met name_is addr_is met_is = rw (name_is, addr_is, met_is) refl
 

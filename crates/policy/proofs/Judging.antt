@@ -4,8 +4,8 @@ use Rattle.policy_limits.specs.declared.policy_fault.PolicyFault.{PolicyFault}
 use Rattle.policy.specs.declared.refusal.PolicyRefusal.{PolicyRefusal}
 use Rattle.policy.specs.declared.refusal.PolicyRefusal.TheVariants.{Fault}
 use Rattle.sv_types.specs.Steps.{◌>>=◌}
-use Rattle.policy.specs.Refusals.{Judged, answered}
-use Rattle.policy.specs.Values.{limited}
+use Rattle.policy.specs.Refusals.{Judged, as_answer}
+use Rattle.policy.specs.Values.{if_within_limit}
 
 pub then_ok : {A B : Type 0} (r : Judged A) (f : A → Judged B) (a : A) (b : Judged B) → r ≡ Ok a → f a ≡ b → (r >>= f) ≡ b
 then_ok r f a b first second = rw first second
@@ -20,7 +20,7 @@ after (Ok a) f b h next = next a refl h
 after (Err e) f b h next = cc h
 
 -- why the first step refused is why the two do
-pub refused_on : {A B : Type 0} (judged : Judged A) (f : A → Judged B) (e : PolicyRefusal) → answered judged ≡ Err e → answered (judged >>= f) ≡ Err e
+pub refused_on : {A B : Type 0} (judged : Judged A) (f : A → Judged B) (e : PolicyRefusal) → as_answer judged ≡ Err e → as_answer (judged >>= f) ≡ Err e
 refused_on (Ok a) f e is = cc is
 refused_on (Err fault) f e is =
     let same : Fault fault ≡ e = cc is in ap (λ (x : PolicyRefusal). Err x) same
@@ -28,10 +28,10 @@ refused_on (Err fault) f e is =
 pub ok_same : {A : Type 0} (a b : A) → ◌≡◌ {A = Judged A} (Ok a) (Ok b) → a ≡ b
 ok_same a b h = cc h
 
-pub limited_true : {A : Type 0} (fits : Bool) (a : A) → fits ≡ true → limited fits a ≡ Ok a
+pub limited_true : {A : Type 0} (fits : Bool) (a : A) → fits ≡ true → if_within_limit fits a ≡ Ok a
 limited_true fits a h = rw h
 
-pub limited_ok : {A : Type 0} (fits : Bool) (a b : A) → limited fits a ≡ Ok b → (fits ≡ true) × (a ≡ b)
+pub limited_ok : {A : Type 0} (fits : Bool) (a b : A) → if_within_limit fits a ≡ Ok b → (fits ≡ true) × (a ≡ b)
 limited_ok true a b h = (refl, ok_same a b h)
 limited_ok false a b h = cc h
 

@@ -6,7 +6,7 @@ use Rattle.toml.specs.Data.{Data, Items, no_items, item}
 use Rattle.sv_types.specs.Policies.{each_within}
 use Rattle.sv_types.specs.Steps.{◌>>=◌}
 use Rattle.policy.specs.Refusals.{Judged}
-use Rattle.policy.specs.Values.{limited, each_item, items_in, items_length}
+use Rattle.policy.specs.Values.{if_within_limit, each_item, items_in, items_length}
 use Rattle.policy.proofs.Judging.{bind_ok, ok_same, limited_ok}
 
 module _ {A : Type 0} (judged : List A → Data → Judged A) (fits : List A → A → Bool)
@@ -29,11 +29,11 @@ module _ {A : Type 0} (judged : List A → Data → Judged A) (fits : List A →
       (sym (ap length all.1) ∙ all.2, sym (ap (each_within fits []) all.1) ∙ all.3)
 
   -- a list whose length is limited, and each of whose items is judged
-  pub limited_read : (count : ℕ → Bool) (d : Data) (xs : List A) → (items_in d >>= λ items. limited (count (items_length items)) items >>= each_item judged []) ≡ Ok xs →
+  pub limited_read : (count : ℕ → Bool) (d : Data) (xs : List A) → (items_in d >>= λ items. if_within_limit (count (items_length items)) items >>= each_item judged []) ≡ Ok xs →
       (count (length xs) ≡ true) × (each_within fits [] xs ≡ true)
   limited_read count d xs read =
       let items = bind_ok (items_in d) _ xs read in
-      let few = bind_ok (limited (count (items_length items.0)) items.0) (each_item judged []) xs items.2 in
+      let few = bind_ok (if_within_limit (count (items_length items.0)) items.0) (each_item judged []) xs items.2 in
       let fit = limited_ok (count (items_length items.0)) items.0 few.0 few.1 in
       let all = each_within_read few.0 xs few.2 in
       (ap count (all.0 ∙ ap items_length (sym fit.1)) ∙ fit.0, all.1)

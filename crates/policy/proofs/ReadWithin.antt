@@ -10,8 +10,8 @@ use Rattle.sv_types.specs.declared.module.Site.{Site}
 use Rattle.sv_types.specs.declared.relocation_kind.RelocationKind.{RelocationKind}
 use Rattle.sv_types.specs.declared.policy.Export.{Export}
 use Rattle.sv_types.specs.Steps.{◌>>=◌}
-use Rattle.policy.specs.Values.{required, integer_of, members_in, with_known, limited, number_of, natural_of, items_in, items_length, address_of, entry_of, name_of}
-use Rattle.policy.specs.Text.{kernel_of, key_name, key_pages, key_measure, key_harts, key_ram_pages, key_entries, known_keys, module_keys, module_pages_of, module_rule_of, format_number, format_of, each_entry, plain_entries, bound_entries, entries_by, entries_of, export_of_two, export_of, export_of_items, exports_of, unrepeated, page_span, page_address_of, page_count_of, init_of_two, init_of_items, init_of, kernel_rule, fitting, offset_of, kind_of, base_of, anchor_of, site_of_five, site_of_items, site_of, sites_in, module_of_members, module_of, modules_of, rules_behind, rules_of_members}
+use Rattle.policy.specs.Values.{required_member, integer_of, members_in, with_known, if_within_limit, number_of, natural_of, items_in, items_length, address_of, entry_of, name_of}
+use Rattle.policy.specs.Text.{kernel_of, key_name, key_pages, key_measure, key_harts, key_ram_pages, key_entries, known_keys, module_keys, module_pages_of, module_rule_of, format_number, format_of, each_entry, plain_entries, bound_entries, entries_by, entries_of, export_of_two, export_of, export_of_items, exports_of, unless_repeated, page_span, page_address_of, page_count_of, init_of_two, init_of_items, init_of, kernel_rule, fitting_kind, offset_of, kind_of, base_of, anchor_of, site_of_five, site_of_items, site_of, sites_in, module_of_members, module_of, modules_of, rules_behind, rules_of_members}
 use Rattle.policy.specs.Bindings.{each_binding, entries_in, bound_in}
 use Rattle.policy.proofs.ReadLists.{each_within_read, limited_read}
 use Rattle.policy.proofs.BindingsRead.{entry_read, bindings_read}
@@ -22,11 +22,11 @@ use Rattle.policy_limits.specs.declared.policy_fault.PolicyFault.{PolicyFault}
 
 number_within : (fits : ℕ → Bool) (d : Data) (n : ℕ) → number_of fits d ≡ Ok n → fits n ≡ true
 number_within fits d n read =
-    let number = bind_ok (natural_of d) (λ n. limited (fits n) n) n read in
+    let number = bind_ok (natural_of d) (λ n. if_within_limit (fits n) n) n read in
     let fit = limited_ok (fits number.0) number.0 n number.2 in
     sym (ap fits fit.1) ∙ fit.0
 
-unrepeated_ok : {A : Type 0} (b : Bool) (a c : A) → unrepeated b a ≡ Ok c → (not b ≡ true) × (a ≡ c)
+unrepeated_ok : {A : Type 0} (b : Bool) (a c : A) → unless_repeated b a ≡ Ok c → (not b ≡ true) × (a ≡ c)
 unrepeated_ok true a c h = cc h
 unrepeated_ok false a c h = (refl, ok_same a c h)
 
@@ -57,7 +57,7 @@ entries_read : (format ram_pages : ℕ) (d : Data) (r : List ℕ × List ℕ) �
     (entries_count_within (length r.0) ≡ true) × (entries_within r.0 ≡ true) × ((if format == 1 then length r.1 == 0 else all_bound ram_pages [] r.0 r.1) ≡ true)
 entries_read format ram_pages d r read =
     let items = bind_ok (items_in d) _ r read in
-    let few = bind_ok (limited (entries_count_within (items_length items.0)) items.0) (entries_by format ram_pages) r items.2 in
+    let few = bind_ok (if_within_limit (entries_count_within (items_length items.0)) items.0) (entries_by format ram_pages) r items.2 in
     let fit = limited_ok (entries_count_within (items_length items.0)) items.0 few.0 few.1 in
     let all = by_format_read (format == 1) ram_pages few.0 r few.2 in
     (ap entries_count_within (all.0 ∙ ap items_length (sym fit.1)) ∙ fit.0, all.1, all.2)
@@ -130,7 +130,7 @@ unfolding site_of_five
 five_read pages exports before offset kind base addend anchor s read =
     after (offset_of pages offset) _ s read λ at at_is read.
     after (kind_of kind) _ s read λ any any_is read.
-    after (fitting any at) _ s read λ fit fit_is read.
+    after (fitting_kind any at) _ s read λ fit fit_is read.
     after (base_of exports base) _ s read λ from from_is read.
     after (integer_of addend) _ s read λ plus plus_is read.
     after (anchor_of pages fit at anchor) _ s read λ to to_is read.
@@ -170,9 +170,9 @@ members_read exports before ms m read =
     after (key_name ms) _ m read λ name name_is read.
     after (key_pages ms) _ m read λ pages pages_is read.
     after (key_measure ms) _ m read λ measure measure_is read.
-    after (required (codes "sites") ms >>= sites_in pages exports (sites_of before)) _ m read λ sites sites_is read.
-    let sites_data = bind_ok (required (codes "sites") ms) _ sites sites_is in
-    let pages_data = bind_ok (required (codes "pages") ms) module_pages_of pages pages_is in
+    after (required_member (codes "sites") ms >>= sites_in pages exports (sites_of before)) _ m read λ sites sites_is read.
+    let sites_data = bind_ok (required_member (codes "sites") ms) _ sites sites_is in
+    let pages_data = bind_ok (required_member (codes "pages") ms) module_pages_of pages pages_is in
     let within = sites_read pages exports (sites_of before) sites_data.0 sites sites_data.2 in
     let apart = unrepeated_ok (is_module name before) (module_rule_of name pages measure sites) m read in
     subst (λ (x : ModuleRule). module_within exports before x ≡ true) apart.1
@@ -192,7 +192,7 @@ modules_read exports (Some d) modules read = limited_read (module_of exports) (m
 
 format_read : (ms : Members) (n : ℕ) → format_of ms ≡ Ok n → format_within n ≡ true
 format_read ms n read =
-    let z = bind_ok (required (codes "format") ms >>= integer_of) format_number n read in
+    let z = bind_ok (required_member (codes "format") ms >>= integer_of) format_number n read in
     number_read z.0 n z.2
 
 rules_true : (r : Rules) → format_within r.format ≡ true → harts_within r.harts ≡ true → ram_pages_within r.ram_pages ≡ true →
@@ -214,9 +214,9 @@ rules_read ms r read =
     after (exports_of (get_member (codes "exports") known)) _ r read λ exports exports_is read.
     after (kernel_rule ram_pages known) _ r read λ kernel kernel_is read.
     after (modules_of (length exports) (get_member (codes "module") known)) _ r read λ modules modules_is read.
-    let harts_data = bind_ok (required (codes "harts") known) (number_of harts_within) harts harts_is in
-    let pages_data = bind_ok (required (codes "ram_pages") known) (number_of ram_pages_within) ram_pages ram_pages_is in
-    let entries_data = bind_ok (required (codes "entries") known) (entries_of format ram_pages) entries entries_is in
+    let harts_data = bind_ok (required_member (codes "harts") known) (number_of harts_within) harts harts_is in
+    let pages_data = bind_ok (required_member (codes "ram_pages") known) (number_of ram_pages_within) ram_pages ram_pages_is in
+    let entries_data = bind_ok (required_member (codes "entries") known) (entries_of format ram_pages) entries entries_is in
     let listed = entries_read format ram_pages entries_data.0 entries entries_data.2 in
     let rules : Rules = record {
       format = format;

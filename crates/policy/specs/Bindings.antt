@@ -5,7 +5,7 @@ use Rattle.toml.specs.Data.{Data, Items, no_items, item}
 use Rattle.sv_types.specs.Policies.{bound_fits}
 use Rattle.sv_types.specs.Steps.{◌>>=◌}
 use Rattle.policy.specs.Refusals.{Judged}
-use Rattle.policy.specs.Values.{items_in, limited, address_of, entry_of, each_item}
+use Rattle.policy.specs.Values.{items_in, if_within_limit, address_of, entry_of, each_item}
 use Rattle.policy.specs.declared.binding.Binding.{Binding}
 use Rattle.policy_limits.specs.declared.policy_fault.PolicyFault.{PolicyFault}
 
@@ -37,7 +37,7 @@ unfoldable pub binding_of_two : ℕ → List Binding → Data → Data → Judge
 binding_of_two ram_pages before va gpa = do
   va_read ← entry_of va
   gpa_read ← address_of gpa
-  fitting ← limited (bound_fits ram_pages va_read gpa_read) (binding va_read gpa_read)
+  fitting ← if_within_limit (bound_fits ram_pages va_read gpa_read) (binding va_read gpa_read)
   unrepeated_entry before fitting
 
 abbrev pub binding_of_items : ℕ → List Binding → Items → Judged Binding

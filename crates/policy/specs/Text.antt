@@ -15,7 +15,7 @@ use Rattle.sv_types.specs.declared.policy.Export.{Export}
 use Rattle.sv_types.specs.declared.relocation_kind.RelocationKind.{RelocationKind}
 use Rattle.sv_types.specs.Steps.{◌>>=◌}
 use Rattle.policy.specs.Refusals.{Judged}
-use Rattle.policy.specs.Values.{required, integer_of, natural_of, members_in, items_in, limited, number_of, name_of, address_of, entry_of, measure_of, with_known, items_length, each_item}
+use Rattle.policy.specs.Values.{required_member, integer_of, natural_of, members_in, items_in, if_within_limit, number_of, name_of, address_of, entry_of, measure_of, with_known, items_length, each_item}
 use Rattle.policy.specs.Bindings.{each_binding, entries_in, bound_in}
 use Rattle.policy_limits.specs.declared.policy_fault.PolicyFault.{PolicyFault}
 
@@ -25,7 +25,7 @@ abbrev pub format_number : ℤ → Judged ℕ
 format_number z = elim z [ pos n ↦ (if format_within n then Ok n else Err PolicyFault.OtherFormat) | negsuc n ↦ Err PolicyFault.OtherFormat ]
 
 abbrev pub format_of : Members → Judged ℕ
-format_of members = required (codes "format") members >>= integer_of >>= format_number
+format_of members = required_member (codes "format") members >>= integer_of >>= format_number
 
 -- ---- entries and exports
 
@@ -46,17 +46,17 @@ entries_by format ram_pages items = if format == plain_format then plain_entries
 -- the entries, and the addresses that they are bound to
 abbrev pub entries_of : (format ram_pages : ℕ) → Data → Judged (List ℕ × List ℕ)
 entries_of format ram_pages d =
-    items_in d >>= λ items. limited (entries_count_within (items_length items)) items >>= entries_by format ram_pages
+    items_in d >>= λ items. if_within_limit (entries_count_within (items_length items)) items >>= entries_by format ram_pages
 
-abbrev pub unrepeated : {A : Type 0} → Bool → A → Judged A
-unrepeated true a = Err PolicyFault.RepeatedName
-unrepeated false a = Ok a
+abbrev pub unless_repeated : {A : Type 0} → Bool → A → Judged A
+unless_repeated true a = Err PolicyFault.RepeatedName
+unless_repeated false a = Ok a
 
 unfoldable pub export_of_two : List Export → Data → Data → Judged Export
 export_of_two before name addr = do
   name_read ← name_of name
   addr_read ← address_of addr
-  unrepeated (is_exported name_read before) (record { name = name_read; addr = addr_read })
+  unless_repeated (is_exported name_read before) (record { name = name_read; addr = addr_read })
 
 abbrev pub export_of_items : List Export → Items → Judged Export
 export_of_items before (item name (item addr no_items)) = export_of_two before name addr
@@ -69,7 +69,7 @@ abbrev pub each_export : List Export → Items → Judged (List Export)
 each_export = each_item export_of
 
 abbrev pub some_exports_of : Data → Judged (List Export)
-some_exports_of d = items_in d >>= λ items. limited (exports_count_within (items_length items)) items >>= each_export []
+some_exports_of d = items_in d >>= λ items. if_within_limit (exports_count_within (items_length items)) items >>= each_export []
 
 -- none where the key is missing
 abbrev pub exports_of : Option Data → Judged (List Export)
@@ -82,7 +82,7 @@ abbrev pub page_span : ℕ → ℕ → Span
 page_span address count = record { first = page_of address; count = count }
 
 abbrev pub page_address_of : Data → Judged ℕ
-page_address_of d = address_of d >>= λ address. limited (address % page_size == 0) address
+page_address_of d = address_of d >>= λ address. if_within_limit (address % page_size == 0) address
 
 abbrev pub page_count_of : Data → Judged ℕ
 page_count_of = number_of (nat_le 1)
@@ -90,7 +90,7 @@ page_count_of = number_of (nat_le 1)
 -- every page is in RAM
 abbrev pub span_at : ℕ → ℕ → ℕ → Judged Span
 span_at ram_pages address count =
-    limited (nat_le ram_base address && span_within ram_pages (page_span address count)) (page_span address count)
+    if_within_limit (nat_le ram_base address && span_within ram_pages (page_span address count)) (page_span address count)
 
 unfoldable pub init_of_two : ℕ → Data → Data → Judged Span
 init_of_two ram_pages address count = do
@@ -114,7 +114,7 @@ kernel_keys = codes "measure" ∷ codes "init" ∷ []
 
 -- the table of the kernel
 abbrev pub kernel_of : Members → Judged Members
-kernel_of members = required (codes "kernel") members >>= members_in >>= with_known kernel_keys
+kernel_of members = required_member (codes "kernel") members >>= members_in >>= with_known kernel_keys
 
 -- ---- modules
 
@@ -129,8 +129,8 @@ abbrev pub kind_of : Data → Judged RelocationKind
 kind_of d = natural_of d >>= λ number. ok_or (kinds.kind_of number) PolicyFault.BeyondLimit
 
 -- the kind, if its field may stand at the offset
-abbrev pub fitting : RelocationKind → ℕ → Judged RelocationKind
-fitting kind offset = limited (is_aligned kind offset) kind
+abbrev pub fitting_kind : RelocationKind → ℕ → Judged RelocationKind
+fitting_kind kind offset = if_within_limit (is_aligned kind offset) kind
 
 abbrev pub base_of : ℕ → Data → Judged ℕ
 base_of exports = number_of (base_within exports)
@@ -142,7 +142,7 @@ unfoldable pub site_of_five : ℕ → ℕ → List Site → Data → Data → Da
 site_of_five pages exports before offset kind base addend anchor = do
   offset_read ← offset_of pages offset
   kind_read ← kind_of kind
-  kind_fitting ← fitting kind_read offset_read
+  kind_fitting ← fitting_kind kind_read offset_read
   base_read ← base_of exports base
   addend_read ← integer_of addend
   anchor_read ← anchor_of pages kind_fitting offset_read anchor
@@ -161,25 +161,25 @@ each_site pages exports = each_item (site_of pages exports)
 
 -- the sites of a module of so many pages, beside so many exports and so many sites of the modules before it
 abbrev pub sites_in : ℕ → ℕ → ℕ → Data → Judged (List Site)
-sites_in pages exports before d = items_in d >>= λ items. limited (sites_count_within before (items_length items)) items >>= each_site pages exports []
+sites_in pages exports before d = items_in d >>= λ items. if_within_limit (sites_count_within before (items_length items)) items >>= each_site pages exports []
 
 abbrev pub module_keys : List (List ℕ)
 module_keys = codes "name" ∷ codes "pages" ∷ codes "measure" ∷ codes "sites" ∷ []
 
 abbrev pub key_name : Members → Judged (List ℕ)
-key_name members = required (codes "name") members >>= name_of
+key_name members = required_member (codes "name") members >>= name_of
 
 abbrev pub module_pages_of : Data → Judged ℕ
 module_pages_of = number_of module_pages_within
 
 abbrev pub key_pages : Members → Judged ℕ
-key_pages members = required (codes "pages") members >>= module_pages_of
+key_pages members = required_member (codes "pages") members >>= module_pages_of
 
 abbrev pub key_measure : Members → Judged (List ℕ)
-key_measure members = required (codes "measure") members >>= measure_of
+key_measure members = required_member (codes "measure") members >>= measure_of
 
 abbrev pub unrepeated_module : List ModuleRule → ModuleRule → Judged ModuleRule
-unrepeated_module before m = unrepeated (is_module m.name before) m
+unrepeated_module before m = unless_repeated (is_module m.name before) m
 
 abbrev pub module_rule_of : List ℕ → ℕ → List ℕ → List Site → ModuleRule
 module_rule_of name pages measure sites = record { name = name; pages = pages; measure = measure; sites = sites }
@@ -189,7 +189,7 @@ module_of_members exports before members = do
   name ← key_name members
   pages ← key_pages members
   measure ← key_measure members
-  sites ← required (codes "sites") members >>= sites_in pages exports (sites_of before)
+  sites ← required_member (codes "sites") members >>= sites_in pages exports (sites_of before)
   unrepeated_module before (module_rule_of name pages measure sites)
 
 abbrev pub module_of : ℕ → List ModuleRule → Data → Judged ModuleRule
@@ -199,7 +199,7 @@ abbrev pub each_module : ℕ → List ModuleRule → Items → Judged (List Modu
 each_module exports = each_item (module_of exports)
 
 abbrev pub some_modules_of : ℕ → Data → Judged (List ModuleRule)
-some_modules_of exports d = items_in d >>= λ items. limited (modules_count_within (items_length items)) items >>= each_module exports []
+some_modules_of exports d = items_in d >>= λ items. if_within_limit (modules_count_within (items_length items)) items >>= each_module exports []
 
 -- none where the key is missing
 abbrev pub modules_of : ℕ → Option Data → Judged (List ModuleRule)
@@ -212,13 +212,13 @@ abbrev pub policy_keys : List (List ℕ)
 policy_keys = codes "format" ∷ codes "harts" ∷ codes "ram_pages" ∷ codes "entries" ∷ codes "exports" ∷ codes "kernel" ∷ codes "module" ∷ []
 
 abbrev pub key_harts : Members → Judged ℕ
-key_harts members = required (codes "harts") members >>= number_of harts_within
+key_harts members = required_member (codes "harts") members >>= number_of harts_within
 
 abbrev pub key_ram_pages : Members → Judged ℕ
-key_ram_pages members = required (codes "ram_pages") members >>= number_of ram_pages_within
+key_ram_pages members = required_member (codes "ram_pages") members >>= number_of ram_pages_within
 
 abbrev pub key_entries : (format ram_pages : ℕ) → Members → Judged (List ℕ × List ℕ)
-key_entries format ram_pages members = required (codes "entries") members >>= entries_of format ram_pages
+key_entries format ram_pages members = required_member (codes "entries") members >>= entries_of format ram_pages
 
 abbrev pub known_keys : Members → Judged Members
 known_keys = with_known policy_keys

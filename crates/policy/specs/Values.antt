@@ -12,8 +12,8 @@ use Rattle.sv_types.specs.Steps.{◌>>=◌}
 use Rattle.policy.specs.Refusals.{Judged}
 use Rattle.policy_limits.specs.declared.policy_fault.PolicyFault.{PolicyFault}
 
-abbrev pub required : List ℕ → Members → Judged Data
-required key members = ok_or (get_member key members) PolicyFault.MissingKey
+abbrev pub required_member : List ℕ → Members → Judged Data
+required_member key members = ok_or (get_member key members) PolicyFault.MissingKey
 
 abbrev pub integer_of : Data → Judged ℤ
 integer_of d = ok_or (as_integer d) PolicyFault.WrongKind
@@ -28,9 +28,9 @@ abbrev pub members_in : Data → Judged Members
 members_in d = ok_or (as_table d) PolicyFault.WrongKind
 
 -- the value, if it passes its limit
-abbrev pub limited : {A : Type 0} → Bool → A → Judged A
-limited true a = Ok a
-limited false a = Err PolicyFault.BeyondLimit
+abbrev pub if_within_limit : {A : Type 0} → Bool → A → Judged A
+if_within_limit true a = Ok a
+if_within_limit false a = Err PolicyFault.BeyondLimit
 
 abbrev pub whole : ℤ → Judged ℕ
 whole (pos n) = Ok n
@@ -40,21 +40,21 @@ abbrev pub natural_of : Data → Judged ℕ
 natural_of d = integer_of d >>= whole
 
 abbrev pub number_of : (ℕ → Bool) → Data → Judged ℕ
-number_of fits d = natural_of d >>= λ n. limited (fits n) n
+number_of fits d = natural_of d >>= λ n. if_within_limit (fits n) n
 
 -- 1 to 64 bytes
 abbrev pub name_within : List ℕ → Bool
 name_within name = nat_le 1 (length name) && nat_le (length name) most_name_bytes
 
 abbrev pub name_of : Data → Judged (List ℕ)
-name_of d = text_of d >>= λ text. limited (name_within text) text
+name_of d = text_of d >>= λ text. if_within_limit (name_within text) text
 
 abbrev pub address_of : Data → Judged ℕ
 address_of d = text_of d >>= λ text. ok_or (addresses.address_of text) PolicyFault.BadHexadecimal
 
 -- an instruction's address
 abbrev pub entry_of : Data → Judged ℕ
-entry_of d = address_of d >>= λ address. limited (entry_within address) address
+entry_of d = address_of d >>= λ address. if_within_limit (entry_within address) address
 
 -- a digest's bytes
 abbrev pub measure_of : Data → Judged (List ℕ)

@@ -3,7 +3,7 @@
 ghost use Rattle.std.specs.Prelude.{◌≡◌, [], IfOk, IfErr};
 ghost use Rattle.toml.specs.View.{view, items_view};
 ghost use Rattle.policy.specs.Refusals.{Refuses};
-ghost use Rattle.policy.specs.Values.{limited};
+ghost use Rattle.policy.specs.Values.{if_within_limit};
 ghost use Rattle.sv_types.specs.Policies as limits;
 ghost use Rattle.policy.specs.Bindings as spec;
 
@@ -27,7 +27,7 @@ fn is_bound(va: u64, before: &[Binding]) -> bool
 }
 
 fn fitting(ram_pages: u32, va: u64, gpa: u64) -> Result<Binding, PolicyFault>
-    ensures { result ≡ limited (limits.bound_fits ram_pages va gpa) (spec.binding va gpa) }
+    ensures { result ≡ if_within_limit (limits.bound_fits ram_pages va gpa) (spec.binding va gpa) }
 {
     if !bound_fits(ram_pages, va, gpa) {
         return Err(PolicyFault::BeyondLimit);

@@ -46,7 +46,7 @@ fn kind(value: &Value) -> Result<RelocationKind, PolicyFault>
 }
 
 fn fitting(kind: RelocationKind, offset: u32) -> Result<RelocationKind, PolicyFault>
-    ensures { result ≡ spec.fitting kind offset }
+    ensures { result ≡ spec.fitting_kind kind offset }
 {
     if !is_aligned(kind, offset) {
         return Err(PolicyFault::BeyondLimit);

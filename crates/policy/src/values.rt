@@ -21,7 +21,7 @@ pub fn optional<'a>(table: &'a Table, key: &str) -> Option<&'a Value>
 }
 
 pub fn required<'a>(table: &'a Table, key: &str) -> Result<&'a Value, PolicyFault>
-    ensures { judged_map (λ v. view v.now) result ≡ spec.required key.now (table_view table.now) }
+    ensures { judged_map (λ v. view v.now) result ≡ spec.required_member key.now (table_view table.now) }
 {
     match optional(table, key) {
         Some(value) => Ok(value),

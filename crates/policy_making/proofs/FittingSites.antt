@@ -5,7 +5,7 @@ use Rattle.std.proofs.lemmas.Bool.{and_parts}
 use Rattle.std.proofs.lemmas.Bool.Decides.{nat_tests}
 use Rattle.sv_types.specs.Policies.{module_pages_within, sites_count_within, sites_within, each_within, next_site_within, site_within, is_behind, place_within}
 use Rattle.sv_types.specs.declared.module.Site.{Site}
-use Rattle.relocated_fields.specs.Pieces.{piece_sites, lies_in, moved, IsAligned}
+use Rattle.relocated_fields.specs.Pieces.{piece_sites, lies_in, site_from, IsAligned}
 use Rattle.elf64_reloc.specs.Modules.{Module, module_fits, pages_of}
 use Rattle.relocated_fields.proofs.RulesWithin.{sites_aligned, site_parts}
 
@@ -21,7 +21,7 @@ lies text site at =
     let before : site.offset < length text = grind (arith, nat_tests) in
     grind (arith, nat_tests)
 
-moved_by_none : (site : Site) → moved 0 site ≡ site
+moved_by_none : (site : Site) → site_from 0 site ≡ site
 moved_by_none site =
     let same : site.offset - 0 ≡ site.offset = omega arith in
     ap (λ (n : ℕ). let one : Site = record site { offset = n } in one) same
@@ -33,7 +33,7 @@ unfolding piece_sites
 all_lie_in text exports before [] within = refl
 all_lie_in text exports before (site ∷ sites) within =
     let parts = and_parts (next_site_within (pages_of text) exports before site) (each_within (next_site_within (pages_of text) exports) (before ++ site ∷ []) sites) within in
-    ap (λ (b : Bool). if b then moved 0 site ∷ piece_sites 0 (length text) sites else piece_sites 0 (length text) sites) (lies text site (inside (pages_of text) exports before site parts.0))
+    ap (λ (b : Bool). if b then site_from 0 site ∷ piece_sites 0 (length text) sites else piece_sites 0 (length text) sites) (lies text site (inside (pages_of text) exports before site parts.0))
     ∙ ap (λ (one : Site). one ∷ piece_sites 0 (length text) sites) (moved_by_none site)
     ∙ ap (λ (rest : List Site). site ∷ rest) (all_lie_in text exports (before ++ site ∷ []) sites parts.1)
 

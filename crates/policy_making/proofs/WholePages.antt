@@ -3,7 +3,7 @@ use Rattle.std.proofs.Common.{◌≡◌, ℕ, ◌+◌, ◌-◌, ◌*◌, ◌%◌
 use Rattle.std.specs.Prelude.{flat_map, find, ◌==◌, if◌then◌else◌}
 use Rattle.std.specs.List.{list_all}
 use Rattle.std.proofs.lemmas.List.{length-replicate}
-use Rattle.processor.specs.Bytes.{padded, page_of}
+use Rattle.processor.specs.Bytes.{with_padding, page_of}
 use Rattle.sv_types.specs.Kernel as kernels
 use Rattle.sv_types.specs.Kernel.{LoadedSegment, is_text_of, text_page, text_page_in}
 use Rattle.sv_types.specs.ApprovedPages.{numbers_from}
@@ -23,7 +23,7 @@ IsWhole bytes = length bytes % 4096 ≡ 0
 
 -- ---- a kernel
 
-full : (bytes : List ℕ) → length bytes ≤ 4096 → length (padded bytes 4096) ≡ 4096
+full : (bytes : List ℕ) → length bytes ≤ 4096 → length (with_padding bytes 4096) ≡ 4096
 full bytes short =
     let behind : length {A = ℕ} (replicate (4096 - length bytes) 0) ≡ 4096 - length bytes = length-replicate (4096 - length bytes) 0 in
     length-append bytes (replicate (4096 - length bytes) 0) ∙ ap (λ (n : ℕ). length bytes + n) behind ∙ omega arith

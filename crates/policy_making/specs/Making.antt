@@ -12,7 +12,7 @@ use Rattle.sv_types.specs.Policies.{Rules, ModuleRule, sites_of}
 use Rattle.sv_types.specs.declared.image_fault.ImageFault.{ImageFault}
 use Rattle.sv_types.specs.declared.module.Span.{Span}
 use Rattle.sv_types.specs.declared.policy.Export.{Export}
-use Rattle.reference.specs.Relocations.{masked}
+use Rattle.reference.specs.Relocations.{masked_text}
 use Rattle.sv_types.specs.Steps.{◌>>=◌}
 use Rattle.elf64_sections.specs.Judged.{each}
 use Rattle.elf64_load.specs.Exports.{exports_judged}
@@ -85,7 +85,7 @@ abbrev pub rule_of : List ℕ → Module → ModuleRule
 rule_of name m = record {
   name = name;
   pages = pages_of m.text;
-  measure = measure (masked m.text m.sites);
+  measure = measure (masked_text m.text m.sites);
   sites = m.sites;
 }
 

@@ -5,7 +5,7 @@ ghost use Rattle.processor.specs.Bytes.{page_size};
 ghost use Rattle.sv_types.specs.Limits.{most_exports};
 ghost use Rattle.sv_types.specs.Measure as measures;
 ghost use Rattle.sv_types.specs.Policies.{module_pages_within, module_rule};
-ghost use Rattle.reference.specs.Relocations.{masked};
+ghost use Rattle.reference.specs.Relocations.{masked_text};
 ghost use Rattle.elf64_reloc.specs.Modules.{pages_of};
 ghost use Rattle.elf64_reloc.specs.ModuleViews.{module_view};
 ghost use Rattle.relocated_fields.specs.Pieces.{piece_sites, IsAligned};
@@ -32,7 +32,7 @@ fn masked_digest<R: Threads + Sync>(
     requires whole { length text.old % page_size ≡ 0 }
     requires inside { piece_sites 0 (length text.old) sites.now ≡ sites.now }
     requires aligned { All IsAligned sites.now }
-    ensures { IfOk result (λ digest. digest ≡ measures.measure (masked text.old sites.now)) }
+    ensures { IfOk result (λ digest. digest ≡ measures.measure (masked_text text.old sites.now)) }
 {
     mask(text, 0, sites);
     measure(rt, alloc, text, &Silent)

@@ -15,7 +15,7 @@ use Rattle.sv_types.specs.declared.module.Site.{Site}
 use Rattle.sv_types.specs.declared.policy.Export.{Export}
 use Rattle.sv_types.specs.declared.relocation_kind.RelocationKind.{RelocationKind}
 use Rattle.sv_types.specs.declared.relocation_kind.RelocationKind.TheVariants.{Word64, Branch, Jal, PcrelHi20, PcrelLo12I, PcrelLo12S, Hi20, Lo12I, Lo12S}
-use Rattle.policy.specs.Values.{limited, entry_of, items_length}
+use Rattle.policy.specs.Values.{if_within_limit, entry_of, items_length}
 use Rattle.policy.specs.Bindings.{bindings_of, entries_in, bound_in}
 use Rattle.policy.specs.Text.{format_number, plain_entries, bound_entries, entries_of, export_of_two, export_of, some_exports_of, span_at, init_of_two, init_of, kernel_rule, site_of_five, site_of, sites_in, module_of_members, module_of, some_modules_of, rules_behind, rules_of_members, rules_of_text, table_of_text}
 use Rattle.policy_printing.specs.Printed.{address_data, binding_data, entries_data, export_data, exports_data, span_data, site_data, sites_data, module_data, modules_data, kernel_data, rules_members}
@@ -28,7 +28,7 @@ use Rattle.policy_printing.proofs.BindingsBack.{bindings_back, bound_length, ent
 -- ---- entries and exports
 
 entry_back : (before : List ℕ) (a : ℕ) → IsAddress a → entry_within a ≡ true → entry_of (address_data a) ≡ Ok a
-entry_back before a small within = then_ok _ (λ address. limited (entry_within address) address) a _ (address_back a small) (limited_true _ a within)
+entry_back before a small within = then_ok _ (λ address. if_within_limit (entry_within address) address) a _ (address_back a small) (limited_true _ a within)
 
 -- the items that are printed for entries of either format
 abbrev entry_items : (is_plain : Bool) (entries bound : List ℕ) → Items

@@ -30,8 +30,8 @@ abbrev pub write_word : List ℕ → ℕ → ℕ → ℕ → List ℕ
 write_word list at n value = overwrite list at (low_bytes n value)
 
 -- bytes, and zeros behind them up to a size
-abbrev pub padded : List ℕ → ℕ → List ℕ
-padded bytes size = bytes ++ replicate (size - length bytes) 0
+abbrev pub with_padding : List ℕ → ℕ → List ℕ
+with_padding bytes size = bytes ++ replicate (size - length bytes) 0
 
 -- the bytes of an instruction
 abbrev pub instruction_size : ℕ

@@ -54,8 +54,8 @@ abbrev pub immediate : ℤ → ℕ
 immediate imm = machine_word imm
 
 -- a machine word, and its low 32 bits, read as signed
-abbrev pub signed : ℕ → ℤ
-signed a = cast_signed w64 a
+abbrev pub signed_word : ℕ → ℤ
+signed_word a = cast_signed w64 a
 
 abbrev pub low_word : ℕ → ℕ
 low_word a = a % 2 ^ 32
@@ -64,8 +64,8 @@ abbrev pub signed_low : ℕ → ℤ
 signed_low a = cast_signed w32 (low_word a)
 
 -- the low 32 bits, sign-extended
-abbrev pub extended : ℕ → ℕ
-extended a = machine_word (signed_low a)
+abbrev pub sign_extend : ℕ → ℕ
+sign_extend a = machine_word (signed_low a)
 
 -- a number with bit 0 cleared
 abbrev pub even : ℕ → ℕ
@@ -80,13 +80,13 @@ abbrev pub shift_right : ℕ → ℕ → ℕ
 shift_right a count = a / 2 ^ count
 
 abbrev pub shift_right_signed : ℕ → ℕ → ℕ
-shift_right_signed a count = machine_word (int_shr (signed a) count)
+shift_right_signed a count = machine_word (int_shr (signed_word a) count)
 
 abbrev pub shift_left_low : ℕ → ℕ → ℕ
-shift_left_low a count = extended (shift_left a count)
+shift_left_low a count = sign_extend (shift_left a count)
 
 abbrev pub shift_right_low : ℕ → ℕ → ℕ
-shift_right_low a count = extended (low_word a / 2 ^ count)
+shift_right_low a count = sign_extend (low_word a / 2 ^ count)
 
 abbrev pub shift_right_signed_low : ℕ → ℕ → ℕ
 shift_right_signed_low a count = machine_word (int_shr (signed_low a) count)
@@ -103,28 +103,28 @@ abbrev pub all_ones : ℕ
 all_ones = 2 ^ 64 - 1
 
 abbrev pub quotient : ℕ → ℕ → ℕ
-quotient a b = if b == 0 then all_ones else machine_word (int_div (signed a) (signed b))
+quotient a b = if b == 0 then all_ones else machine_word (int_div (signed_word a) (signed_word b))
 
 abbrev pub quotient_unsigned : ℕ → ℕ → ℕ
 quotient_unsigned a b = if b == 0 then all_ones else a / b
 
 abbrev pub remainder : ℕ → ℕ → ℕ
-remainder a b = if b == 0 then a else machine_word (int_rem (signed a) (signed b))
+remainder a b = if b == 0 then a else machine_word (int_rem (signed_word a) (signed_word b))
 
 abbrev pub remainder_unsigned : ℕ → ℕ → ℕ
 remainder_unsigned a b = if b == 0 then a else a % b
 
 abbrev pub quotient_low : ℕ → ℕ → ℕ
-quotient_low a b = if low_word b == 0 then all_ones else extended (machine_word (int_div (signed_low a) (signed_low b)))
+quotient_low a b = if low_word b == 0 then all_ones else sign_extend (machine_word (int_div (signed_low a) (signed_low b)))
 
 abbrev pub quotient_unsigned_low : ℕ → ℕ → ℕ
-quotient_unsigned_low a b = if low_word b == 0 then all_ones else extended (low_word a / low_word b)
+quotient_unsigned_low a b = if low_word b == 0 then all_ones else sign_extend (low_word a / low_word b)
 
 abbrev pub remainder_low : ℕ → ℕ → ℕ
-remainder_low a b = if low_word b == 0 then extended a else machine_word (int_rem (signed_low a) (signed_low b))
+remainder_low a b = if low_word b == 0 then sign_extend a else machine_word (int_rem (signed_low a) (signed_low b))
 
 abbrev pub remainder_unsigned_low : ℕ → ℕ → ℕ
-remainder_unsigned_low a b = if low_word b == 0 then extended a else extended (low_word a % low_word b)
+remainder_unsigned_low a b = if low_word b == 0 then sign_extend a else sign_extend (low_word a % low_word b)
 
 -- ---- computations. a and b are the values of rs1 and rs2, i is the immediate's machine word
 
@@ -132,7 +132,7 @@ unfoldable pub op_value : OpOp → ℕ → ℕ → ℕ
 op_value Add a b = plus a b
 op_value Sub a b = minus a b
 op_value Sll a b = shift_left a (b % 64)
-op_value Slt a b = flag (int_lt (signed a) (signed b))
+op_value Slt a b = flag (int_lt (signed_word a) (signed_word b))
 op_value Sltu a b = flag (nat_lt a b)
 op_value Xor a b = bit_xor a b
 op_value Srl a b = shift_right a (b % 64)
@@ -140,8 +140,8 @@ op_value Sra a b = shift_right_signed a (b % 64)
 op_value Or a b = bit_or a b
 op_value And a b = bit_and a b
 op_value Mul a b = times a b
-op_value Mulh a b = upper (signed a *ℤ signed b)
-op_value Mulhsu a b = upper (signed a *ℤ pos b)
+op_value Mulh a b = upper (signed_word a *ℤ signed_word b)
+op_value Mulhsu a b = upper (signed_word a *ℤ pos b)
 op_value Mulhu a b = a * b / 2 ^ 64
 op_value Div a b = quotient a b
 op_value Divu a b = quotient_unsigned a b
@@ -149,12 +149,12 @@ op_value Rem a b = remainder a b
 op_value Remu a b = remainder_unsigned a b
 
 unfoldable pub op_32_value : Op32Op → ℕ → ℕ → ℕ
-op_32_value Addw a b = extended (plus a b)
-op_32_value Subw a b = extended (minus a b)
+op_32_value Addw a b = sign_extend (plus a b)
+op_32_value Subw a b = sign_extend (minus a b)
 op_32_value Sllw a b = shift_left_low a (b % 32)
 op_32_value Srlw a b = shift_right_low a (b % 32)
 op_32_value Sraw a b = shift_right_signed_low a (b % 32)
-op_32_value Mulw a b = extended (times a b)
+op_32_value Mulw a b = sign_extend (times a b)
 op_32_value Divw a b = quotient_low a b
 op_32_value Divuw a b = quotient_unsigned_low a b
 op_32_value Remw a b = remainder_low a b
@@ -162,7 +162,7 @@ op_32_value Remuw a b = remainder_unsigned_low a b
 
 unfoldable pub op_imm_value : OpImmOp → ℕ → ℕ → ℕ → ℕ
 op_imm_value Addi a i shamt = plus a i
-op_imm_value Slti a i shamt = flag (int_lt (signed a) (signed i))
+op_imm_value Slti a i shamt = flag (int_lt (signed_word a) (signed_word i))
 op_imm_value Sltiu a i shamt = flag (nat_lt a i)
 op_imm_value Xori a i shamt = bit_xor a i
 op_imm_value Ori a i shamt = bit_or a i
@@ -172,7 +172,7 @@ op_imm_value Srli a i shamt = shift_right a shamt
 op_imm_value Srai a i shamt = shift_right_signed a shamt
 
 unfoldable pub op_imm_32_value : OpImm32Op → ℕ → ℕ → ℕ → ℕ
-op_imm_32_value Addiw a i shamt = extended (plus a i)
+op_imm_32_value Addiw a i shamt = sign_extend (plus a i)
 op_imm_32_value Slliw a i shamt = shift_left_low a shamt
 op_imm_32_value Srliw a i shamt = shift_right_low a shamt
 op_imm_32_value Sraiw a i shamt = shift_right_signed_low a shamt
@@ -180,8 +180,8 @@ op_imm_32_value Sraiw a i shamt = shift_right_signed_low a shamt
 unfoldable pub branch_taken : BranchOp → ℕ → ℕ → Bool
 branch_taken Beq a b = a == b
 branch_taken Bne a b = not (a == b)
-branch_taken Blt a b = int_lt (signed a) (signed b)
-branch_taken Bge a b = not (int_lt (signed a) (signed b))
+branch_taken Blt a b = int_lt (signed_word a) (signed_word b)
+branch_taken Bge a b = not (int_lt (signed_word a) (signed_word b))
 branch_taken Bltu a b = nat_lt a b
 branch_taken Bgeu a b = not (nat_lt a b)
 

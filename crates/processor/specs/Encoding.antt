@@ -335,8 +335,8 @@ hyper_number HfenceGvma = 0
 abbrev pub width_funct3 : ℕ → ℕ
 width_funct3 width = if width == 4 then 2 else 3
 
-abbrev pub ordered : ℕ → Bool → Bool → ℕ
-ordered funct5 aq rl = 2 ^ 2 * funct5 + 2 * from_bool aq + from_bool rl
+abbrev pub amo_funct7 : ℕ → Bool → Bool → ℕ
+amo_funct7 funct5 aq rl = 2 ^ 2 * funct5 + 2 * from_bool aq + from_bool rl
 
 -- ---- the word of an instruction. Bits that it doesn't keep are 0
 
@@ -361,7 +361,7 @@ word_of Instr.Sret = sret_word
 word_of Instr.Wfi = wfi_word
 word_of (Instr.SfenceVma rs1 rs2) = r_word 0x73 0x09 0 0 rs1 rs2
 word_of (Instr.Csr op rd rs1 csr) = i_word 0x73 (csr_funct3 op) rd rs1 csr
-word_of (Instr.Lr rd rs1 width aq rl) = r_word 0x2F (ordered 0x02 aq rl) (width_funct3 width) rd rs1 0
-word_of (Instr.Sc rd rs1 rs2 width aq rl) = r_word 0x2F (ordered 0x03 aq rl) (width_funct3 width) rd rs1 rs2
-word_of (Instr.Amo op rd rs1 rs2 width aq rl) = r_word 0x2F (ordered (amo_funct5 op) aq rl) (width_funct3 width) rd rs1 rs2
+word_of (Instr.Lr rd rs1 width aq rl) = r_word 0x2F (amo_funct7 0x02 aq rl) (width_funct3 width) rd rs1 0
+word_of (Instr.Sc rd rs1 rs2 width aq rl) = r_word 0x2F (amo_funct7 0x03 aq rl) (width_funct3 width) rd rs1 rs2
+word_of (Instr.Amo op rd rs1 rs2 width aq rl) = r_word 0x2F (amo_funct7 (amo_funct5 op) aq rl) (width_funct3 width) rd rs1 rs2
 word_of (Instr.Hyper op rd rs1 rs2) = r_word 0x73 (hyper_funct7 op) (hyper_funct3 op) rd rs1 (rs2 + hyper_number op)

@@ -10,7 +10,7 @@ use Rattle.processor.specs.Requests.{csr_value}
 use Rattle.processor.specs.Traps.{mode_at_return}
 use Rattle.processor.specs.HypervisorRegisters.{csr_access, read_virtual, write_virtual, registers_at_return, pending}
 use Rattle.processor.specs.Hardware.{Core, Step, Attempted, with_region, plain_exception, raise, after_interrupt}
-use Rattle.processor.specs.HardwareMemory.{translated, reached, load_htinst, store_htinst, atomic_htinst, retire, retire_with, after_load, after_load_reserved, after_store, after_store_conditional, after_amo}
+use Rattle.processor.specs.HardwareMemory.{translation_result, aligned_translation, load_htinst, store_htinst, atomic_htinst, retire, retire_with, after_load, after_load_reserved, after_store, after_store_conditional, after_amo}
 use Rattle.processor.specs.declared.cause.Cause.{Cause}
 use Rattle.processor.specs.declared.csr.Csr.{Csr}
 use Rattle.processor.specs.declared.csr.CsrFault.{CsrFault}
@@ -99,15 +99,15 @@ unfoldable pub after_effect : Region → Core → Lines → ℕ → Effect → A
 after_effect r core lines w (Effect.Set rd value next) = with_region r (after_set core rd value next)
 after_effect r core lines w (Effect.MisalignedJump target) = with_region r (raise core (plain_exception Cause.InstrMisaligned target))
 after_effect r core lines w (Effect.Load rd address width signed) =
-    with_region r (after_load r core rd width signed (reached r core Access.Load address width (load_htinst w)))
+    with_region r (after_load r core rd width signed (aligned_translation r core Access.Load address width (load_htinst w)))
 after_effect r core lines w (Effect.Store address width value) =
-    after_store r core width value (reached r core Access.Store address width (store_htinst w))
+    after_store r core width value (aligned_translation r core Access.Store address width (store_htinst w))
 after_effect r core lines w (Effect.LoadReserved rd address width) =
-    with_region r (after_load_reserved r core rd width (reached r core Access.Load address width (atomic_htinst w)))
+    with_region r (after_load_reserved r core rd width (aligned_translation r core Access.Load address width (atomic_htinst w)))
 after_effect r core lines w (Effect.StoreConditional rd address width value) =
-    after_store_conditional r core rd width value (reached r core Access.Store address width (atomic_htinst w))
+    after_store_conditional r core rd width value (aligned_translation r core Access.Store address width (atomic_htinst w))
 after_effect r core lines w (Effect.Amo rd address width op value) =
-    after_amo r core rd width op value (reached r core Access.Store address width (atomic_htinst w))
+    after_amo r core rd width op value (aligned_translation r core Access.Store address width (atomic_htinst w))
 after_effect r core lines w (Effect.Csr rd number op operand writes) =
     with_region r (after_csr core lines rd op operand writes (csr_reached core w number writes))
 after_effect r core lines w Effect.Ecall = with_region r (raise core (plain_exception (call_cause core.hregs.mode) 0))
@@ -134,7 +134,7 @@ after_fetch r core lines (Err e) = with_region r (raise core e)
 
 unfoldable pub after_pending : Region → Core → Lines → Option Interrupt → Attempted
 after_pending r core lines (Some interrupt) = with_region r (after_interrupt core interrupt)
-after_pending r core lines None = after_fetch r core lines (translated r core Access.Fetch core.pc 0)
+after_pending r core lines None = after_fetch r core lines (translation_result r core Access.Fetch core.pc 0)
 
 unfoldable pub attempt : Region → Core → Lines → Attempted
 attempt r core lines = after_pending r core lines (pending core.hregs core.csrs lines)

@@ -22,10 +22,10 @@ use Rattle.processor.specs.declared.access.Access.TheVariants.{Fetch, Load, Stor
 
 -- ---- exceptions of an access
 
-abbrev pub misaligned : Access → Cause
-misaligned Fetch = Cause.InstrMisaligned
-misaligned Load = Cause.LoadMisaligned
-misaligned Store = Cause.StoreMisaligned
+abbrev pub misaligned_cause : Access → Cause
+misaligned_cause Fetch = Cause.InstrMisaligned
+misaligned_cause Load = Cause.LoadMisaligned
+misaligned_cause Store = Cause.StoreMisaligned
 
 abbrev pub page_fault : Access → Cause
 page_fault Fetch = Cause.InstrPage
@@ -83,14 +83,14 @@ abbrev pub place_or_exception : Access → (va htinst : ℕ) → Result Place Fa
 place_or_exception access va htinst (Ok place) = Ok place.hpa
 place_or_exception access va htinst (Err fault) = Err (fault_exception access va htinst fault)
 
-unfoldable pub translated : Region → Core → Access → (va htinst : ℕ) → Result ℕ Exception
-translated r core access va htinst =
+unfoldable pub translation_result : Region → Core → Access → (va htinst : ℕ) → Result ℕ Exception
+translation_result r core access va htinst =
     place_or_exception access va htinst (two_stages r core.hregs.hgatp (settings_at core) core.hregs.mode va access)
 
 -- an address that is no multiple of the width isn't translated
-unfoldable pub reached : Region → Core → Access → (address width htinst : ℕ) → Result ℕ Exception
-reached r core access address width htinst =
-    if address % width == 0 then translated r core access address htinst else Err (plain_exception (misaligned access) address)
+unfoldable pub aligned_translation : Region → Core → Access → (address width htinst : ℕ) → Result ℕ Exception
+aligned_translation r core access address width htinst =
+    if address % width == 0 then translation_result r core access address htinst else Err (plain_exception (misaligned_cause access) address)
 
 -- ---- going on
 
@@ -109,8 +109,8 @@ with_reservation core reservation = record core { reservation = reservation }
 abbrev pub behind_write : Core → (hpa width : ℕ) → Core
 behind_write core hpa width = with_reservation core (after_write hpa width core.reservation)
 
-abbrev pub wrote : (hpa width : ℕ) → Option Wrote
-wrote hpa width = Some (record { hpa = hpa; width = width })
+abbrev pub write_at : (hpa width : ℕ) → Option Wrote
+write_at hpa width = Some (record { hpa = hpa; width = width })
 
 -- ---- requests, by the place that they reached
 
@@ -125,14 +125,14 @@ after_load_reserved r core rd width (Err e) = raise core e
 
 unfoldable pub after_store : Region → Core → (width value : ℕ) → Result ℕ Exception → Attempted
 after_store r core width value (Ok hpa) =
-    with_region (write_host r hpa width value) (retire (behind_write core hpa width) (wrote hpa width))
+    with_region (write_host r hpa width value) (retire (behind_write core hpa width) (write_at hpa width))
 after_store r core width value (Err e) = with_region r (raise core e)
 
 -- the reservation goes in both cases; rd is 0 where the bytes were written, and else 1
 unfoldable pub after_store_conditional : Region → Core → (rd width value : ℕ) → Result ℕ Exception → Attempted
 after_store_conditional r core rd width value (Ok hpa) =
     if covers core.reservation hpa width
-    then with_region (write_host r hpa width value) (retire_with (with_reservation core None) rd 0 (wrote hpa width))
+    then with_region (write_host r hpa width value) (retire_with (with_reservation core None) rd 0 (write_at hpa width))
     else with_region r (retire_with (with_reservation core None) rd 1 None)
 after_store_conditional r core rd width value (Err e) = with_region r (raise core e)
 
@@ -140,5 +140,5 @@ after_store_conditional r core rd width value (Err e) = with_region r (raise cor
 unfoldable pub after_amo : Region → Core → (rd width : ℕ) → AmoOp → ℕ → Result ℕ Exception → Attempted
 after_amo r core rd width op value (Ok hpa) =
     with_region (write_host r hpa width (amo_value op width (host_word r hpa width) value))
-    (retire_with (behind_write core hpa width) rd (loaded_value true width (host_word r hpa width)) (wrote hpa width))
+    (retire_with (behind_write core hpa width) rd (loaded_value true width (host_word r hpa width)) (write_at hpa width))
 after_amo r core rd width op value (Err e) = with_region r (raise core e)

@@ -82,8 +82,8 @@ unfoldable pub hip_value : ℕ → Lines → ℕ
 hip_value hvip lines = bit_or hvip (line_bits lines)
 
 -- those of some bits that hideleg delegates to the guest
-abbrev pub delegated : ℕ → ℕ → ℕ
-delegated hideleg bits = bit_and hideleg bits
+abbrev pub delegated_bits : ℕ → ℕ → ℕ
+delegated_bits hideleg bits = bit_and hideleg bits
 
 -- interrupts 2, 6 and 10 at the guest's places 1, 5 and 9, and back
 abbrev pub at_guest_places : ℕ → ℕ
@@ -93,13 +93,13 @@ abbrev pub at_hypervisor_places : ℕ → ℕ
 at_hypervisor_places bits = 2 * bits
 
 -- the guest's sie and sip are the delegated bits of hie and hip, at the guest's places
-unfoldable pub aliased : ℕ → ℕ → ℕ
-aliased hideleg register = at_guest_places (bit_and register (delegated hideleg virtual_interrupt_bits))
+unfoldable pub guest_alias : ℕ → ℕ → ℕ
+guest_alias hideleg register = at_guest_places (bit_and register (delegated_bits hideleg virtual_interrupt_bits))
 
 -- a write of sie or sip sets the delegated bits of hie or hvip as the value has them, and leaves the others
 unfoldable pub with_alias : ℕ → ℕ → ℕ → ℕ → ℕ
 with_alias hideleg register_bits register value =
-    bit_or (without register (delegated hideleg register_bits)) (bit_and (at_hypervisor_places (legal_interrupts value)) (delegated hideleg register_bits))
+    bit_or (without register (delegated_bits hideleg register_bits)) (bit_and (at_hypervisor_places (legal_interrupts value)) (delegated_bits hideleg register_bits))
 
 -- each register holds only bits that may stand
 pub record IsLegal (c : HypervisorRegisters) : Type 0 where
@@ -151,14 +151,14 @@ csr_access mode c number writes = reached_csr mode c.scounteren writes number (c
 
 unfoldable pub read_virtual : ℕ → HypervisorRegisters → Lines → Csr → ℕ
 read_virtual hideleg c lines Csr.Sstatus = c.vsstatus + uxl
-read_virtual hideleg c lines Csr.Sie = aliased hideleg c.hie
+read_virtual hideleg c lines Csr.Sie = guest_alias hideleg c.hie
 read_virtual hideleg c lines Csr.Stvec = c.vstvec
 read_virtual hideleg c lines Csr.Scounteren = c.scounteren
 read_virtual hideleg c lines Csr.Sscratch = c.vsscratch
 read_virtual hideleg c lines Csr.Sepc = c.vsepc
 read_virtual hideleg c lines Csr.Scause = c.vscause
 read_virtual hideleg c lines Csr.Stval = c.vstval
-read_virtual hideleg c lines Csr.Sip = aliased hideleg (hip_value c.hvip lines)
+read_virtual hideleg c lines Csr.Sip = guest_alias hideleg (hip_value c.hvip lines)
 read_virtual hideleg c lines Csr.Satp = c.vsatp
 read_virtual hideleg c lines Csr.Time = lines.time
 

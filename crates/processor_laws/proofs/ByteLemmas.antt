@@ -5,7 +5,7 @@ use Rattle.std.proofs.Math.Arith.{mod-mul}
 use Rattle.std.proofs.Math.Seq.{take-append_seam, drop-append-add, take-append-add}
 use Rattle.std.proofs.lemmas.List.{take-append-le, drop-append-le, drop-take, take-take, drop-drop, length-replicate, drop_at}
 use borrow.Author.Tests.{ltb-true, ltb-false}
-use Rattle.processor.specs.Bytes.{word, overwrite, write_word, low_bytes, little_endian, padded, part, page_bytes, page_size}
+use Rattle.processor.specs.Bytes.{word, overwrite, write_word, low_bytes, little_endian, with_padding, part, page_bytes, page_size}
 
 pub lt_or_le : (a b : ℕ) → (a < b) ⊎ (b ≤ a)
 lt_or_le a b = elim (ltb a b) as (λ t. ltb a b ≡ t → (a < b) ⊎ (b ≤ a)) [ true ↦ λ e. inl (ltb-true a b e) | false ↦ λ e. inr (ltb-false a b e) ] refl
@@ -24,7 +24,7 @@ pub length_write_word : (list : List ℕ) (at n value : ℕ) → at + n ≤ leng
 length_write_word list at n value fits =
     let len = length_low_bytes n value in length_overwrite list (low_bytes n value) at (omega arith)
 
-pub length_padded : (bytes : List ℕ) (n : ℕ) → length bytes ≤ n → length (padded bytes n) ≡ n
+pub length_padded : (bytes : List ℕ) (n : ℕ) → length bytes ≤ n → length (with_padding bytes n) ≡ n
 length_padded bytes n short = simp (length-append, length-replicate) (omega arith)
 
 pub length_part : (list : List ℕ) (at n : ℕ) → at + n ≤ length list → length (part list at n) ≡ n

@@ -10,7 +10,7 @@ use Rattle.processor_laws.proofs.RegisterBits.{and_twice, boot_is_legal, write_i
 use Rattle.processor.specs.Bits.{bit, flag, without}
 use Rattle.processor.specs.Registers.{Supervisor, IsLegalSupervisor, legal_interrupts, interrupt_bits, csr_named, guest_access, allowed_csr, sip_value, read_csr, write_csr}
 use Rattle.processor.specs.Traps.{supervisor_at_trap, supervisor_at_return, deliverable, is_pending, takes_interrupts, first_interrupt, interrupt_number}
-use Rattle.processor.specs.HypervisorRegisters.{HypervisorRegisters, IsLegal, registers_at_boot, csr_access, reached_csr, unless_refused, read_virtual, write_virtual, hip_value, aliased, with_alias, registers_at_trap, registers_at_return, is_taken, pending, virtual_interrupt_bits, virtual_software_bit, virtual_number}
+use Rattle.processor.specs.HypervisorRegisters.{HypervisorRegisters, IsLegal, registers_at_boot, csr_access, reached_csr, unless_refused, read_virtual, write_virtual, hip_value, guest_alias, with_alias, registers_at_trap, registers_at_return, is_taken, pending, virtual_interrupt_bits, virtual_software_bit, virtual_number}
 use Rattle.processor.specs.GuestView.{with_guest, hideleg_in}
 use Rattle.processor.specs.declared.csr.Csr.{Csr}
 use Rattle.processor.specs.declared.csr.CsrFault.TheVariants as CsrFault
@@ -39,8 +39,8 @@ bit_doubled n Timer = let e : 2 * n / 2 ^ 6 ≡ n / 2 ^ 5 = omega arith in ap (�
 
 -- ---- sie
 
-sie_read : (sie : ℕ) → legal_interrupts sie ≡ sie → aliased virtual_interrupt_bits (2 * sie) ≡ sie
-unfolding aliased
+sie_read : (sie : ℕ) → legal_interrupts sie ≡ sie → guest_alias virtual_interrupt_bits (2 * sie) ≡ sie
+unfolding guest_alias
 sie_read sie e = rw (doubled_kept sie e) (omega arith)
 
 sie_others : (sie : ℕ) → legal_interrupts sie ≡ sie → without (2 * sie) virtual_interrupt_bits ≡ 0
@@ -80,10 +80,10 @@ sip_legal true true false = refl
 sip_legal true true true = refl
 
 sip_read : (software timer external : Bool)
-    → aliased virtual_interrupt_bits (bit_or (2 ^ 2 * flag software) (2 ^ 6 * flag timer + 2 ^ 10 * flag external))
+    → guest_alias virtual_interrupt_bits (bit_or (2 ^ 2 * flag software) (2 ^ 6 * flag timer + 2 ^ 10 * flag external))
     ≡ 2 ^ 1 * flag software + 2 ^ 5 * flag timer + 2 ^ 9 * flag external
 sip_read software timer external =
-    ap (aliased virtual_interrupt_bits) (hip_doubles software timer external)
+    ap (guest_alias virtual_interrupt_bits) (hip_doubles software timer external)
     ∙ sie_read (2 ^ 1 * flag software + 2 ^ 5 * flag timer + 2 ^ 9 * flag external) (sip_legal software timer external)
 
 software_taken : (software : Bool) → without (2 ^ 2 * flag software) virtual_software_bit ≡ 0

@@ -10,7 +10,7 @@ use Rattle.processor.specs.Effects.{effect_of, amo_value}
 use Rattle.processor.specs.Requests.{covers}
 use Rattle.processor.specs.HypervisorRegisters.{virtual_number}
 use Rattle.processor.specs.Hardware.{Core, Step, Attempted, with_region, guest_trap, leave, exit_of, raise, interrupt_exit, after_interrupt, plain_exception}
-use Rattle.processor.specs.HardwareMemory.{reached, load_htinst, store_htinst, atomic_htinst, after_load, after_load_reserved, after_store, after_store_conditional, after_amo}
+use Rattle.processor.specs.HardwareMemory.{aligned_translation, load_htinst, store_htinst, atomic_htinst, after_load, after_load_reserved, after_store, after_store_conditional, after_amo}
 use Rattle.processor.specs.HardwareAttempt.{illegal, virtual_instruction, csr_reached, after_csr, after_supervisor_only, return_from_trap, after_sret, call_cause, after_effect, after_instruction, after_word, after_fetch, OnlyWrites}
 use Rattle.processor.specs.declared.cause.Cause.{Cause}
 use Rattle.processor.specs.declared.csr.Csr.{Csr}
@@ -101,15 +101,15 @@ unfolding after_effect
 effect_writes r core lines w (Effect.Set rd value next) = refl
 effect_writes r core lines w (Effect.MisalignedJump target) = raise_writes r core (plain_exception Cause.InstrMisaligned target)
 effect_writes r core lines w (Effect.Load rd address width signed) =
-    load_writes r core rd width signed (reached r core Access.Load address width (load_htinst w))
+    load_writes r core rd width signed (aligned_translation r core Access.Load address width (load_htinst w))
 effect_writes r core lines w (Effect.Store address width value) =
-    store_writes r core width value (reached r core Access.Store address width (store_htinst w))
+    store_writes r core width value (aligned_translation r core Access.Store address width (store_htinst w))
 effect_writes r core lines w (Effect.LoadReserved rd address width) =
-    load_reserved_writes r core rd width (reached r core Access.Load address width (atomic_htinst w))
+    load_reserved_writes r core rd width (aligned_translation r core Access.Load address width (atomic_htinst w))
 effect_writes r core lines w (Effect.StoreConditional rd address width value) =
-    store_conditional_writes r core rd width value (reached r core Access.Store address width (atomic_htinst w))
+    store_conditional_writes r core rd width value (aligned_translation r core Access.Store address width (atomic_htinst w))
 effect_writes r core lines w (Effect.Amo rd address width op value) =
-    amo_writes r core rd width op value (reached r core Access.Store address width (atomic_htinst w))
+    amo_writes r core rd width op value (aligned_translation r core Access.Store address width (atomic_htinst w))
 effect_writes r core lines w (Effect.Csr rd number op operand writes) =
     csr_writes r core lines rd op operand writes (csr_reached core w number writes)
 effect_writes r core lines w Effect.Ecall = raise_writes r core (plain_exception (call_cause core.hregs.mode) 0)

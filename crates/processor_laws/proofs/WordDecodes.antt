@@ -25,7 +25,7 @@ use Rattle.processor.specs.declared.instruction.AmoOp.TheVariants.{Amoswap, Amoa
 use Rattle.processor.specs.declared.instruction.HyperOp.{HyperOp}
 use Rattle.processor.specs.declared.instruction.HyperOp.TheVariants.{HlvB, HlvBu, HlvH, HlvHu, HlvxHu, HlvW, HlvWu, HlvxWu, HlvD, HsvB, HsvH, HsvW, HsvD, HfenceVvma, HfenceGvma}
 use Rattle.processor.specs.Instructions.{bits, lui, auipc, jal, jalr, branch, load, store, op_imm, shift, op_imm_32, shift_32, op_op, op_32, plain, sfence, csr, lr, sc, amo, hyper_load, hyper_store, rows, instruction_of}
-use Rattle.processor.specs.Encoding.{fits, is_register, is_immediate, is_operand, is_shift, is_shift_32, is_hyper_load, is_width, is_zero, imm_bits, r_word, i_word, s_word, b_word, u_word, j_word, branch_funct3, load_funct3, store_funct3, op_imm_funct3, op_imm_32_funct3, arithmetic_bit, arithmetic_bit_32, op_funct7, op_funct3, op_32_funct7, op_32_funct3, csr_funct3, amo_funct5, hyper_funct7, hyper_funct3, hyper_number, ordered, word_of}
+use Rattle.processor.specs.Encoding.{fits, is_register, is_immediate, is_operand, is_shift, is_shift_32, is_hyper_load, is_width, is_zero, imm_bits, r_word, i_word, s_word, b_word, u_word, j_word, branch_funct3, load_funct3, store_funct3, op_imm_funct3, op_imm_32_funct3, arithmetic_bit, arithmetic_bit_32, op_funct7, op_funct3, op_32_funct7, op_32_funct3, csr_funct3, amo_funct5, hyper_funct7, hyper_funct3, hyper_number, amo_funct7, word_of}
 use Rattle.processor_laws.proofs.Decoding.{IsOnlyRow, found, mask_opcode, mask_funct3, mask_funct7, mask_funct6, mask_funct5, mask_funct5_rs2, mask_funct7_rs2, mask_funct7_no_rd}
 use Rattle.processor_laws.proofs.WordFields.{r_opcode, r_rd, r_funct3, r_rs1, r_rs2, r_funct7, r_rd_low, r_rd_high, r_funct7_low, r_funct7_high, r_funct5, r_aq, r_rl, i_opcode, i_rd, i_funct3, i_rs1, i_field, i_count, i_count_low, i_funct6, i_funct7, u_opcode, u_rd, u_field, j_opcode, j_rd, j_12_20, j_20, j_21_31, j_31, signed_12, signed_13, signed_21, signed_32, step_13, step_21, step_32}
 use Rattle.processor_laws.proofs.EffectRequests.{four_or_eight}
@@ -677,25 +677,25 @@ csr-decodes op d a v h =
 
 -- ---- atomic operations
 
-ordered-below : (n : ℕ) (q r : Bool) → n < 32 → ordered n q r < 128
+ordered-below : (n : ℕ) (q r : Bool) → n < 32 → amo_funct7 n q r < 128
 ordered-below n true true h = omega arith
 ordered-below n true false h = omega arith
 ordered-below n false true h = omega arith
 ordered-below n false false h = omega arith
 
-ordered-code : (n : ℕ) (q r : Bool) → ordered n q r / 4 ≡ n
+ordered-code : (n : ℕ) (q r : Bool) → amo_funct7 n q r / 4 ≡ n
 ordered-code n true true = omega arith
 ordered-code n true false = omega arith
 ordered-code n false true = omega arith
 ordered-code n false false = omega arith
 
-ordered-aq : (n : ℕ) (q r : Bool) → ordered n q r / 2 % 2 ≡ from_bool q
+ordered-aq : (n : ℕ) (q r : Bool) → amo_funct7 n q r / 2 % 2 ≡ from_bool q
 ordered-aq n true true = omega arith
 ordered-aq n true false = omega arith
 ordered-aq n false true = omega arith
 ordered-aq n false false = omega arith
 
-ordered-rl : (n : ℕ) (q r : Bool) → ordered n q r % 2 ≡ from_bool r
+ordered-rl : (n : ℕ) (q r : Bool) → amo_funct7 n q r % 2 ≡ from_bool r
 ordered-rl n true true = omega arith
 ordered-rl n true false = omega arith
 ordered-rl n false true = omega arith
@@ -712,7 +712,7 @@ lr-decodes-4 d a q r h =
     let in_o : 0x2F < 128 = omega arith in
     let in_f : 2 < 8 = omega arith in
     let n : ℕ = 0x02 in
-    let g = ordered n q r in
+    let g = amo_funct7 n q r in
     let in_g = ordered-below n q r (omega arith) in
     let in_d = below_32 d p.0 in
     let in_a = below_32 a p.1 in
@@ -728,7 +728,7 @@ sc-decodes-4 d a b q r h =
     let in_o : 0x2F < 128 = omega arith in
     let in_f : 2 < 8 = omega arith in
     let n : ℕ = 0x03 in
-    let g = ordered n q r in
+    let g = amo_funct7 n q r in
     let in_g = ordered-below n q r (omega arith) in
     let in_d = below_32 d p.0 in
     let in_a = below_32 a p.1 in
@@ -744,7 +744,7 @@ amo-decodes-4 op d a b q r h =
     let in_o : 0x2F < 128 = omega arith in
     let in_f : 2 < 8 = omega arith in
     let n : ℕ = amo_funct5 op in
-    let g = ordered n q r in
+    let g = amo_funct7 n q r in
     let in_g = ordered-below n q r (amo_funct5-below op) in
     let in_d = below_32 d p.0 in
     let in_a = below_32 a p.1 in
@@ -760,7 +760,7 @@ lr-decodes-8 d a q r h =
     let in_o : 0x2F < 128 = omega arith in
     let in_f : 3 < 8 = omega arith in
     let n : ℕ = 0x02 in
-    let g = ordered n q r in
+    let g = amo_funct7 n q r in
     let in_g = ordered-below n q r (omega arith) in
     let in_d = below_32 d p.0 in
     let in_a = below_32 a p.1 in
@@ -776,7 +776,7 @@ sc-decodes-8 d a b q r h =
     let in_o : 0x2F < 128 = omega arith in
     let in_f : 3 < 8 = omega arith in
     let n : ℕ = 0x03 in
-    let g = ordered n q r in
+    let g = amo_funct7 n q r in
     let in_g = ordered-below n q r (omega arith) in
     let in_d = below_32 d p.0 in
     let in_a = below_32 a p.1 in
@@ -792,7 +792,7 @@ amo-decodes-8 op d a b q r h =
     let in_o : 0x2F < 128 = omega arith in
     let in_f : 3 < 8 = omega arith in
     let n : ℕ = amo_funct5 op in
-    let g = ordered n q r in
+    let g = amo_funct7 n q r in
     let in_g = ordered-below n q r (amo_funct5-below op) in
     let in_d = below_32 d p.0 in
     let in_a = below_32 a p.1 in

@@ -2,7 +2,7 @@
 use Rattle.std.proofs.Common.{◌≡◌, ℕ, ◌%◌, ◌^◌, ◌<◌, ◌≤◌, length, refl, sym, ◌∙◌, ap, subst}
 use Rattle.std.specs.Prelude.{Option, Some, None, IfSome, Result, Ok, Err}
 use Rattle.processor.specs.Hardware.{Core}
-use Rattle.processor.specs.HardwareMemory.{settings_at, place_or_exception, translated}
+use Rattle.processor.specs.HardwareMemory.{settings_at, place_or_exception, translation_result}
 use Rattle.processor.specs.Regions.{Region, IsRegion, IsWidth, IsHostPlace}
 use Rattle.processor.specs.SecondStage.{two_stages, WalksApart}
 use Rattle.processor.specs.Translation.{Settings}
@@ -26,8 +26,8 @@ host_place (Ok place) hpa e = (place, (refl, cc))
 host_place (Err fault) hpa e = absurd (cc)
 
 pub leads_translated : (r : Region) (core : Core) (regime : Regime) (access : Access) (va hpa htinst : ℕ) → regime.hgatp ≡ core.hregs.hgatp
-    → regime.mode ≡ core.hregs.mode → settings_of regime ≡ settings_at core → leads_under r regime access va ≡ Some hpa → translated r core access va htinst ≡ Ok hpa
-unfolding translated
+    → regime.mode ≡ core.hregs.mode → settings_of regime ≡ settings_at core → leads_under r regime access va ≡ Some hpa → translation_result r core access va htinst ≡ Ok hpa
+unfolding translation_result
 leads_translated r core regime access va hpa htinst hgatp mode settings leads =
     let found = host_place (two_stages r regime.hgatp (settings_of regime) regime.mode va access) hpa leads in
     ap (λ (h : ℕ). place_or_exception access va htinst (two_stages r h (settings_at core) core.hregs.mode va access)) (sym hgatp)

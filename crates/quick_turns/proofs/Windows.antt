@@ -4,7 +4,7 @@ use Rattle.std.specs.Prelude.{Option, Some, Result, Ok, Err, if◌then◌else◌
 use Rattle.processor.specs.Hardware.{Core}
 use Rattle.processor.specs.Bits.{bit}
 use Rattle.processor.specs.declared.hregs.HRegs.{HRegs}
-use Rattle.processor.specs.HardwareMemory.{settings_at, place_or_exception, translated}
+use Rattle.processor.specs.HardwareMemory.{settings_at, place_or_exception, translation_result}
 use Rattle.processor.specs.Regions.{Region, IsRegion, IsHostPlace}
 use Rattle.processor.specs.Translation.{walk, root_of, is_canonical, sv39_indices, permits_access, first_stage, Settings, Destination, At, PageFault, Unreadable}
 use Rattle.processor.specs.SecondStage.{walk_guest, address_at, entry_in_region, entry_through, guest_destination, place_through, after_first_stage, two_stages, WalksApart}
@@ -14,7 +14,7 @@ use Rattle.processor.specs.declared.access.Access.TheVariants.{Fetch}
 use Rattle.processor.specs.declared.mode.Mode.{Mode}
 use Rattle.processor.specs.declared.translation.Fault.{Fault}
 use Rattle.processor.specs.declared.translation.Place.{Place}
-use Rattle.gstage_cache.proofs.Walks.{moved, page_moves, answer_near, answer_is, choose_moves, walk_moves}
+use Rattle.gstage_cache.proofs.Walks.{destination_at, page_moves, answer_near, answer_is, choose_moves, walk_moves}
 use Rattle.quick_turns.specs.Quick.{Leads, SameCourse, no_page}
 use Rattle.quick_turns.proofs.Kept.{walks_kept}
 use Rattle.hart.proofs.Places.{second_leads}
@@ -37,11 +37,11 @@ bare_moves : (a b : ℕ) → a / 4096 ≡ b / 4096 → b ≡ a - a % 4096 + b % 
 bare_moves a b same = omega arith
 
 stage_moves : (read : ℕ → Option ℕ) (s : Settings) (mode : Mode) (a b : ℕ) (access : Access) → a / 4096 ≡ b / 4096
-    → first_stage read s mode b access ≡ moved (b % 4096) (first_stage read s mode a access)
+    → first_stage read s mode b access ≡ destination_at (b % 4096) (first_stage read s mode a access)
 unfolding first_stage
 stage_moves read s mode a b access same =
     let grants : ℕ → Bool = permits_access s mode access in
-    let walked : walk read grants (sv39_indices b) (root_of s.satp) b ≡ moved (b % 4096) (walk read grants (sv39_indices a) (root_of s.satp) a) =
+    let walked : walk read grants (sv39_indices b) (root_of s.satp) b ≡ destination_at (b % 4096) (walk read grants (sv39_indices a) (root_of s.satp) a) =
     ap (λ (indices : List ℕ). walk read grants indices (root_of s.satp) b) (same_indices a b same)
     ∙ walk_moves read grants (sv39_indices a) (root_of s.satp) a b (lit≤ tt) same in
     choose_moves (s.satp / 2 ^ 60 == 0) (b % 4096) (At a) (if is_canonical a then walk read grants (sv39_indices a) (root_of s.satp) a else PageFault)
@@ -72,7 +72,7 @@ same_place : (x b : ℕ) → (x - x % 4096 + b % 4096) % 4096 ≡ b % 4096
 same_place x b = omega arith
 
 behind_moves : (r : Region) (hgatp b : ℕ) (access : Access) (d : Destination) (place : Place) → after_first_stage r hgatp access d ≡ Ok place
-    → (there : Place) × ((after_first_stage r hgatp access (moved (b % 4096) d) ≡ Ok there) × (there.hpa ≡ place.hpa - place.hpa % 4096 + b % 4096))
+    → (there : Place) × ((after_first_stage r hgatp access (destination_at (b % 4096) d) ≡ Ok there) × (there.hpa ≡ place.hpa - place.hpa % 4096 + b % 4096))
 unfolding after_first_stage
 behind_moves r hgatp b access (At gpa) place e =
     let to : ℕ = gpa - gpa % 4096 + b % 4096 in
@@ -97,9 +97,9 @@ ok_place access va htinst hpa (Ok place) e = (place, (refl, cc))
 ok_place access va htinst hpa (Err fault) e = absurd (cc)
 
 -- another address of the page leads to the same page
-pub translated_moves : (r : Region) (core : Core) (access : Access) (a b hpa htinst : ℕ) → a / 4096 ≡ b / 4096 → translated r core access a htinst ≡ Ok hpa
-    → translated r core access b htinst ≡ Ok (hpa - hpa % 4096 + b % 4096)
-unfolding translated
+pub translated_moves : (r : Region) (core : Core) (access : Access) (a b hpa htinst : ℕ) → a / 4096 ≡ b / 4096 → translation_result r core access a htinst ≡ Ok hpa
+    → translation_result r core access b htinst ≡ Ok (hpa - hpa % 4096 + b % 4096)
+unfolding translation_result
 translated_moves r core access a b hpa htinst same e =
     let from = ok_place access a htinst hpa (two_stages r core.hregs.hgatp (settings_at core) core.hregs.mode a access) e in
     let to = stages_move r core.hregs.hgatp a b (settings_at core) core.hregs.mode access from.0 same from.1.0 in
@@ -114,7 +114,7 @@ word_inside : (hpa va tables ram : ℕ) → tables % 4096 ≡ 0 → ram % 4096 �
 word_inside hpa va tables ram t r inside aligned = omega arith
 
 -- the page of an address that an instruction is fetched at
-pub leads_from : (r : Region) (core : Core) (pc hpa : ℕ) → IsRegion r → IsHostPlace r hpa 1 → translated r core Fetch pc 0 ≡ Ok hpa
+pub leads_from : (r : Region) (core : Core) (pc hpa : ℕ) → IsRegion r → IsHostPlace r hpa 1 → translation_result r core Fetch pc 0 ≡ Ok hpa
     → Leads r core (pc / 4096) (hpa - hpa % 4096)
 leads_from r core pc hpa region place e = record {
   fetches = λ va small page. translated_moves r core Fetch pc va hpa 0 (sym page) e;
@@ -131,8 +131,8 @@ unfolding two_stages first_stage after_first_stage
 bare_kept r after hgatp va s mode access bare same apart = rw bare (ap (place_through va) (walks_kept r after hgatp va access same apart))
 
 bare_translated : (r after : Region) (core : Core) (va : ℕ) → IsBare core.csrs.vsatp → after.tables ≡ r.tables → WalksApart r core.hregs.hgatp
-    → translated after core Fetch va 0 ≡ translated r core Fetch va 0
-unfolding translated
+    → translation_result after core Fetch va 0 ≡ translation_result r core Fetch va 0
+unfolding translation_result
 bare_translated r after core va bare same apart =
     ap (place_or_exception Fetch va 0) (bare_kept r after core.hregs.hgatp va (settings_at core) core.hregs.mode Fetch bare same apart)
 
@@ -156,8 +156,8 @@ no_window r core host = record {
 }
 
 core_translated : (r : Region) (core next : Core) (va : ℕ) → SameCourse core.csrs next.csrs → next.hregs ≡ core.hregs
-    → translated r next Fetch va 0 ≡ translated r core Fetch va 0
-unfolding translated
+    → translation_result r next Fetch va 0 ≡ translation_result r core Fetch va 0
+unfolding translation_result
 core_translated r core next va course hregs =
     ap (λ (n : ℕ). place_or_exception Fetch va 0 (two_stages r next.hregs.hgatp (settings_by n next.csrs.vsstatus) next.hregs.mode va Fetch)) course.first
     ∙ ap (λ (n : ℕ). place_or_exception Fetch va 0 (two_stages r next.hregs.hgatp (settings_by core.csrs.vsatp n) next.hregs.mode va Fetch)) course.status
@@ -166,5 +166,5 @@ core_translated r core next va course hregs =
 -- a window goes by the registers of translation alone
 pub leads_core : (r : Region) (core next : Core) (page host : ℕ) → SameCourse core.csrs next.csrs → next.hregs ≡ core.hregs → Leads r core page host → Leads r next page host
 leads_core r core next page host course hregs leads =
-    let same : (va : ℕ) → translated r next Fetch va 0 ≡ translated r core Fetch va 0 = λ va. core_translated r core next va course hregs in
+    let same : (va : ℕ) → translation_result r next Fetch va 0 ≡ translation_result r core Fetch va 0 = λ va. core_translated r core next va course hregs in
     record { fetches = λ va small at. same va ∙ leads.fetches va small at; places = leads.places }

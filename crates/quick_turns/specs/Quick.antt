@@ -3,7 +3,7 @@ use Rattle.std.specs.Prelude.{◌≡◌, ℕ, ◌+◌, ◌-◌, ◌<◌, ◌/◌
 use Rattle.processor.specs.Bytes.{page_size, instruction_size}
 use Rattle.processor.specs.CachedWalks.{FilledUnder}
 use Rattle.processor.specs.Hardware.{Core, Attempted}
-use Rattle.processor.specs.HardwareMemory.{translated}
+use Rattle.processor.specs.HardwareMemory.{translation_result}
 use Rattle.processor.specs.HypervisorRegisters.{HypervisorRegisters}
 use Rattle.processor.specs.Regions.{Region, IsHostPlace}
 use Rattle.processor.specs.declared.access.Access.TheVariants.{Fetch}
@@ -38,7 +38,7 @@ no_page = 2 ^ 64 - 1
 
 -- instructions at the addresses of a page are fetched at the same places of a page of host memory
 pub record Leads (r : Region) (core : Core) (page host : ℕ) : Type 0 where
-  pub fetches : (va : ℕ) → va < 2 ^ 64 → va / page_size ≡ page → translated r core Fetch va 0 ≡ Ok (host + va % page_size)
+  pub fetches : (va : ℕ) → va < 2 ^ 64 → va / page_size ≡ page → translation_result r core Fetch va 0 ≡ Ok (host + va % page_size)
   pub places : (va : ℕ) → va < 2 ^ 64 → va / page_size ≡ page → va % instruction_size ≡ 0 → IsHostPlace r (host + va % page_size) instruction_size
 
 -- what became of a turn: it wasn't made and left all as it was, or its attempt carried out the instruction. Only a store

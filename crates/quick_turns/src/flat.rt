@@ -7,6 +7,7 @@ ghost use Rattle.processor.specs.Instructions.{instruction_of};
 ghost use Rattle.processor.specs.Requests.{IsRequest};
 ghost use Rattle.processor.specs.declared.instruction.Instr.TheVariants as Instr;
 ghost use Rattle.quick_turns.specs.Flat.{flat_instr, number, width, word_effect, acquires, releases};
+ghost use Rattle.processor.specs.Bytes.{instruction_size};
 
 use crate::flat_op::FlatOp;
 use processor::Effect;
@@ -77,7 +78,7 @@ impl Flat {
     #[inline(always)]
     pub(crate) fn effect(&self, regs: &Regs, pc: u64) -> Option<Effect>
         ensures effect { IfSome result (λ e. word_effect self.now.word regs.now pc ≡ Some e) }
-        ensures request { pc % 4 ≡ 0 → IfSome result IsRequest }
+        ensures request { pc % instruction_size ≡ 0 → IfSome result IsRequest }
     {
         match self.op {
             FlatOp::Other => None,
@@ -171,7 +172,7 @@ impl Flat {
     fn effect_by(&self, instr: Instr, regs: &Regs, pc: u64) -> Effect
         requires { flat_instr self.now.op self.now.rd self.now.rs1 self.now.rs2 self.now.imm ≡ Some instr }
         ensures effect { word_effect self.now.word regs.now pc ≡ Some result }
-        ensures request { pc % 4 ≡ 0 → IsRequest result }
+        ensures request { pc % instruction_size ≡ 0 → IsRequest result }
     {
         effect(&instr, regs, pc)
     }

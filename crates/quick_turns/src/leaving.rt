@@ -11,6 +11,7 @@ ghost use Rattle.hart.specs.Conditions.{MayStep};
 ghost use Rattle.quick_turns.specs.Ends.{is_left};
 ghost use Rattle.quick_turns.specs.Quick.{Leads};
 ghost use Rattle.quick_turns.specs.Rows.{LeavesBy};
+ghost use Rattle.processor.specs.Bytes.{instruction_size};
 
 use crate::window::Window;
 use hart::Core;
@@ -45,7 +46,7 @@ impl Leaving {
 #[tactic(auto, unfolding(processor::specs::HypervisorRegisters::registers_at_exit, processor::specs::Traps::trap_cause))]
 #[inline(always)]
 fn note_exit(core: &mut Core, cause: Cause, stval: u64)
-    requires aligned { core.old.pc % 4 ≡ 0 }
+    requires aligned { core.old.pc % instruction_size ≡ 0 }
     ensures { core.new ≡ record core.old { csrs = registers_at_exit core.old.csrs (exit_of (plain_exception cause stval) core.old.pc) } }
 {
     core.csrs.sepc = core.pc;

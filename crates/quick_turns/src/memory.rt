@@ -4,7 +4,7 @@ ghost use Rattle.std.specs.Prelude.{◌≡◌, ◌==◌, ◌≤◌, ℕ, ◌%◌
 ghost use Rattle.processor.specs.Regions.{IsWidth, IsHostPlace};
 ghost use Rattle.processor.specs.SecondStage.{WalksApart};
 ghost use Rattle.processor.specs.CachedWalks.{CacheAgrees};
-ghost use Rattle.processor.specs.HardwareMemory.{translated, reached};
+ghost use Rattle.processor.specs.HardwareMemory.{translation_result, aligned_translation};
 ghost use Rattle.hart.specs.Cores.{core_of};
 ghost use Rattle.reach.specs.Kept.{ReachAgrees};
 ghost use Rattle.quick_turns.specs.Quick.{MayTranslate, Translated};
@@ -36,7 +36,7 @@ fn walk_to(
     address: u64,
 ) -> Option<u64>
     requires may { MayTranslate mem.now regs.now.hgatp cache.old reach.old }
-    ensures value { (htinst : ℕ) → IfSome result (λ hpa. translated mem.now (core_of core.now regs.now) access address htinst ≡ Ok hpa) }
+    ensures value { (htinst : ℕ) → IfSome result (λ hpa. translation_result mem.now (core_of core.now regs.now) access address htinst ≡ Ok hpa) }
     ensures place { (width : ℕ) → IsWidth width → address % width ≡ 0 → IfSome result (λ hpa. IsHostPlace mem.now hpa width) }
     ensures ram { IfSome result (λ hpa. length mem.now.tables ≤ hpa) }
     ensures translated { Translated mem.now.tables regs.now.hgatp cache.old cache.new reach.new }
@@ -59,7 +59,7 @@ fn held_place(
     requires apart { WalksApart mem.now regs.now.hgatp }
     requires agrees { CacheAgrees mem.now.tables cache.now }
     requires reach { ReachAgrees mem.now.tables reach.now }
-    ensures value { IfSome result (λ hpa. (htinst : ℕ) → translated mem.now (core_of core.now regs.now) reference.access reference.address htinst ≡ Ok hpa) }
+    ensures value { IfSome result (λ hpa. (htinst : ℕ) → translation_result mem.now (core_of core.now regs.now) reference.access reference.address htinst ≡ Ok hpa) }
     ensures place { IfSome result (λ hpa. (width : ℕ) → IsWidth width → reference.address % width ≡ 0 → IsHostPlace mem.now hpa width) }
     ensures ram { IfSome result (λ hpa. length mem.now.tables ≤ hpa) }
 {
@@ -88,7 +88,7 @@ pub(crate) fn place(
     reference: Reference,
 ) -> Option<u64>
     requires may { MayTranslate mem.now regs.now.hgatp cache.old reach.old }
-    ensures value { (htinst : ℕ) → IfSome result (λ hpa. translated mem.now (core_of core.now regs.now) reference.access reference.address htinst ≡ Ok hpa) }
+    ensures value { (htinst : ℕ) → IfSome result (λ hpa. translation_result mem.now (core_of core.now regs.now) reference.access reference.address htinst ≡ Ok hpa) }
     ensures place { (width : ℕ) → IsWidth width → reference.address % width ≡ 0 → IfSome result (λ hpa. IsHostPlace mem.now hpa width) }
     ensures ram { IfSome result (λ hpa. length mem.now.tables ≤ hpa) }
     ensures translated { Translated mem.now.tables regs.now.hgatp cache.old cache.new reach.new }
@@ -124,7 +124,7 @@ fn is_aligned(address: u64, width: u8) -> bool
 
 /// The host place of an access, none where it is refused: its address is a multiple of its width, and its translation
 /// permits it.
-#[tactic(auto, using(gstage_cache::specs::Fills::nothing_filled), unfolding(processor::specs::HardwareMemory::reached))]
+#[tactic(auto, using(gstage_cache::specs::Fills::nothing_filled), unfolding(processor::specs::HardwareMemory::aligned_translation))]
 #[inline(always)]
 pub(crate) fn aligned_place(
     core: &Core,
@@ -136,7 +136,7 @@ pub(crate) fn aligned_place(
 ) -> Option<u64>
     requires may { MayTranslate mem.now regs.now.hgatp cache.old reach.old }
     requires width { IsWidth reference.width }
-    ensures value { (htinst : ℕ) → IfSome result (λ hpa. reached mem.now (core_of core.now regs.now) reference.access reference.address reference.width htinst ≡ Ok hpa) }
+    ensures value { (htinst : ℕ) → IfSome result (λ hpa. aligned_translation mem.now (core_of core.now regs.now) reference.access reference.address reference.width htinst ≡ Ok hpa) }
     ensures place { IfSome result (λ hpa. IsHostPlace mem.now hpa reference.width) }
     ensures ram { IfSome result (λ hpa. length mem.now.tables ≤ hpa) }
     ensures translated { Translated mem.now.tables regs.now.hgatp cache.old cache.new reach.new }

@@ -11,6 +11,7 @@ ghost use Rattle.processor.specs.declared.lines.Lines.{Lines};
 ghost use Rattle.hart.specs.Cores.{core_of};
 ghost use Rattle.hart.specs.Conditions.{MayStep};
 ghost use Rattle.quick_turns.specs.Quick.{Comes, SameCourse, Steers};
+ghost use Rattle.processor.specs.Bytes.{instruction_size};
 
 use crate::tried::Tried;
 use csr_file::Csrs;
@@ -107,7 +108,7 @@ fn access_to(core: &mut Core, regs: &HRegs, access: CsrAccess, csr: Csr) -> Trie
     requires register { access.rd < register_count }
     requires reaches { csr_access regs.now.mode core.old.csrs access.number access.writes ≡ Ok csr }
     ensures comes { (r : Region) → (lines : Lines) → (word : ℕ) → Comes result (with_region r (after_csr (core_of core.old regs.now) lines access.rd access.op access.operand access.writes (csr_reached (core_of core.old regs.now) word access.number access.writes))) r r (core_of core.old regs.now) (core_of core.new regs.now) }
-    ensures pc { core.new.pc % 4 ≡ 0 }
+    ensures pc { core.new.pc % instruction_size ≡ 0 }
     ensures free { core.new.reservation ≡ None }
     ensures course { Steers result core.old.csrs core.new.csrs }
 {
@@ -132,7 +133,7 @@ pub(crate) fn csr(core: &mut Core, regs: &HRegs, access: CsrAccess) -> Tried
     requires free { core.old.reservation ≡ None }
     requires register { access.rd < register_count }
     ensures comes { (r : Region) → (lines : Lines) → (word : ℕ) → Comes result (with_region r (after_csr (core_of core.old regs.now) lines access.rd access.op access.operand access.writes (csr_reached (core_of core.old regs.now) word access.number access.writes))) r r (core_of core.old regs.now) (core_of core.new regs.now) }
-    ensures pc { core.new.pc % 4 ≡ 0 }
+    ensures pc { core.new.pc % instruction_size ≡ 0 }
     ensures free { core.new.reservation ≡ None }
     ensures course { Steers result core.old.csrs core.new.csrs }
 {

@@ -5,13 +5,14 @@ ghost use Rattle.processor.specs.Regions.{IsWidth, Region};
 ghost use Rattle.processor.specs.Requests.{loaded_value, IsRequest};
 ghost use Rattle.processor.specs.Hardware.{with_region};
 ghost use Rattle.processor.specs.HardwareAttempt.{after_effect, after_supervisor_only, after_word};
-ghost use Rattle.processor.specs.HardwareMemory.{reached, after_amo, after_load, after_store};
+ghost use Rattle.processor.specs.HardwareMemory.{aligned_translation, after_amo, after_load, after_store};
 ghost use Rattle.processor.specs.IntegerRegisters.{register_count};
 ghost use Rattle.processor.specs.declared.access.Access.TheVariants as Access;
 ghost use Rattle.processor.specs.declared.lines.Lines.{Lines};
 ghost use Rattle.hart.specs.Cores.{core_of};
 ghost use Rattle.hart.specs.Conditions.{MayStep};
 ghost use Rattle.quick_turns.specs.Quick.{Comes, MayTurn, Steers, Turned};
+ghost use Rattle.processor.specs.Bytes.{instruction_size};
 
 use crate::flat::Flat;
 use crate::memory::{Reference, aligned_place};
@@ -47,7 +48,7 @@ fn load(
     requires may { MayTurn mem.now core.old regs.now cache.old reach.old }
     requires register { load.rd < register_count }
     requires width { IsWidth load.width }
-    ensures comes { (htinst : ℕ) → Comes result (with_region mem.now (after_load mem.now (core_of core.old regs.now) load.rd load.width load.signed (reached mem.now (core_of core.old regs.now) Access.Load load.address load.width htinst))) mem.now mem.now (core_of core.old regs.now) (core_of core.new regs.now) }
+    ensures comes { (htinst : ℕ) → Comes result (with_region mem.now (after_load mem.now (core_of core.old regs.now) load.rd load.width load.signed (aligned_translation mem.now (core_of core.old regs.now) Access.Load load.address load.width htinst))) mem.now mem.now (core_of core.old regs.now) (core_of core.new regs.now) }
     ensures turned { Turned result mem.now mem.now core.old core.new regs.now cache.old cache.new reach.new }
 {
     let reference = Reference {
@@ -88,7 +89,7 @@ fn store(
 ) -> Tried
     requires may { MayTurn mem.old core.old regs.now cache.old reach.old }
     requires width { IsWidth store.width }
-    ensures comes { (htinst : ℕ) → Comes result (after_store mem.old (core_of core.old regs.now) store.width store.value (reached mem.old (core_of core.old regs.now) Access.Store store.address store.width htinst)) mem.old mem.new (core_of core.old regs.now) (core_of core.new regs.now) }
+    ensures comes { (htinst : ℕ) → Comes result (after_store mem.old (core_of core.old regs.now) store.width store.value (aligned_translation mem.old (core_of core.old regs.now) Access.Store store.address store.width htinst)) mem.old mem.new (core_of core.old regs.now) (core_of core.new regs.now) }
     ensures turned { Turned result mem.old mem.new core.old core.new regs.now cache.old cache.new reach.new }
 {
     let reference = Reference {
@@ -131,7 +132,7 @@ fn atomic(
     requires register { operation.rd < register_count }
     requires width { IsWidth operation.width }
     requires word { (operation.width ≡ 4) ⊎ (operation.width ≡ 8) }
-    ensures comes { (htinst : ℕ) → Comes result (after_amo mem.old (core_of core.old regs.now) operation.rd operation.width operation.op operation.value (reached mem.old (core_of core.old regs.now) Access.Store operation.address operation.width htinst)) mem.old mem.new (core_of core.old regs.now) (core_of core.new regs.now) }
+    ensures comes { (htinst : ℕ) → Comes result (after_amo mem.old (core_of core.old regs.now) operation.rd operation.width operation.op operation.value (aligned_translation mem.old (core_of core.old regs.now) Access.Store operation.address operation.width htinst)) mem.old mem.new (core_of core.old regs.now) (core_of core.new regs.now) }
     ensures turned { Turned result mem.old mem.new core.old core.new regs.now cache.old cache.new reach.new }
 {
     // Its word is read where stores may go, and never where loads alone may.
@@ -163,7 +164,7 @@ fn supervisor_only(core: &mut Core, regs: &HRegs) -> Tried
     requires ready { MayStep core.old regs.now }
     requires free { core.old.reservation ≡ None }
     ensures comes { (r : Region) → (word : ℕ) → Comes result (with_region r (after_supervisor_only (core_of core.old regs.now) word regs.now.mode)) r r (core_of core.old regs.now) (core_of core.new regs.now) }
-    ensures pc { core.new.pc % 4 ≡ 0 }
+    ensures pc { core.new.pc % instruction_size ≡ 0 }
     ensures free { core.new.reservation ≡ None }
     ensures course { Steers result core.old.csrs core.new.csrs }
 {

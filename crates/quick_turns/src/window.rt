@@ -1,7 +1,7 @@
 // The page that instructions are fetched from.
 
 ghost use Rattle.std.specs.Prelude.{◌≡◌, ◌/◌, ◌%◌, ◌+◌, IfSome};
-ghost use Rattle.processor.specs.Bytes.{page_size};
+ghost use Rattle.processor.specs.Bytes.{page_size, instruction_size};
 ghost use Rattle.processor.specs.Regions.{host_word};
 ghost use Rattle.processor.specs.Roots.{IsBare};
 ghost use Rattle.hart.specs.Cores.{core_of};
@@ -55,7 +55,7 @@ impl Window {
     #[inline(always)]
     pub(crate) fn word(self, core: &Core, regs: &HRegs, mem: &HostMem) -> u32
         requires page { core.now.pc / page_size ≡ self.page }
-        requires aligned { core.now.pc % 4 ≡ 0 }
+        requires aligned { core.now.pc % instruction_size ≡ 0 }
         requires leads { Leads mem.now (core_of core.now regs.now) self.page self.host }
         ensures { result ≡ host_word mem.now (self.host + core.now.pc % page_size) 4 }
     {

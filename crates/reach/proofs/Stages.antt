@@ -11,7 +11,7 @@ use Rattle.processor_laws.proofs.Walks.{walk_guest_fits}
 use Rattle.sv39_walk.specs.Levels.{indices_of}
 use Rattle.sv39_walk.specs.Regimes.{settings_of}
 use Rattle.sv39_walk.specs.declared.first_stage.Regime.{Regime}
-use Rattle.gstage_cache.proofs.Walks.{IsReadable, moved, leads_in_region, region_readable, page_moves, answer_near, answer_is}
+use Rattle.gstage_cache.proofs.Walks.{IsReadable, destination_at, leads_in_region, region_readable, page_moves, answer_near, answer_is}
 use Rattle.reach.specs.declared.entries.Entries.{Entries}
 use Rattle.reach.specs.declared.line.Line.{Line}
 use Rattle.reach.specs.Kept.{AreThere, ArePlaces, EndsAt, LineAgrees, host_of, leads_under}
@@ -19,7 +19,7 @@ use Rattle.sv39_walk.proofs.Steps.{mapped_test}
 
 -- ---- the second stage
 
-pub moved_address : (place x : ℕ) (d : Destination) → address_at d ≡ Some x → address_at (moved place d) ≡ Some (x - x % 4096 + place)
+pub moved_address : (place x : ℕ) (d : Destination) → address_at d ≡ Some x → address_at (destination_at place d) ≡ Some (x - x % 4096 + place)
 moved_address place x (At found) e = let same : found ≡ x = cc in rw same refl
 moved_address place x PageFault e = absurd (cc)
 moved_address place x (Unreadable entry) e = absurd (cc)
@@ -36,7 +36,7 @@ second_moves r other hgatp gpa b x access tables apart walked same =
     let readable : IsReadable (guest_destination (entry_in_tables other.tables) hgatp gpa access) =
     subst (λ (d : Destination). IsReadable d) (sym leads) (region_readable r hgatp gpa access) in
     answer_is other hgatp b access near_too
-    ∙ ap address_at (page_moves (entry_in_region other) hgatp gpa b access (sym same) ∙ ap (moved (b % 4096)) (leads_in_region other hgatp gpa access readable ∙ leads))
+    ∙ ap address_at (page_moves (entry_in_region other) hgatp gpa b access (sym same) ∙ ap (destination_at (b % 4096)) (leads_in_region other hgatp gpa access readable ∙ leads))
     ∙ moved_address (b % 4096) x (guest_destination (entry_in_region r) hgatp gpa access) answer
 
 back_together : (x gpa : ℕ) → x % 4096 ≡ gpa % 4096 → x - x % 4096 + gpa % 4096 ≡ x

@@ -13,8 +13,8 @@ use Rattle.processor.specs.IntegerRegisters as abi
 use Rattle.sv_types.specs.declared.sbi.SbiCode.{SbiCode}
 use Rattle.sv_types.specs.declared.sbi.SbiCode.TheVariants.{Success, RefusedByMeasure}
 use Rattle.reference.specs.States.{State, Hart, Devices, Journal, has_number, module_pages, with_module, without_module, without_pages, without_reservation}
-use Rattle.reference.specs.Counting.{counted, noted, printed_low, machine_ended, count_load, count_unload, count_refused}
-use Rattle.reference.specs.Calls.{facts_of, asked_by, started_hart, interrupted, mask_names}
+use Rattle.reference.specs.Counting.{with_count, with_note, printed_low, machine_ended, count_load, count_unload, count_refused}
+use Rattle.reference.specs.Calls.{facts_of, asked_by, started_hart, interrupt_harts, mask_names}
 use Rattle.reference.specs.ModuleCalls.{answer_of}
 use Rattle.reference.specs.declared.answers.Answer.{Answer}
 use Rattle.reference.specs.declared.answers.Beside.{Beside}
@@ -34,11 +34,11 @@ with_answer hart a0 a1 = record hart {
   reservation = None;
 }
 
-unfoldable pub replied : Reply → Hart → Hart
-replied (Gives a0) hart = with_a0 hart a0
-replied (Replies a0 a1) hart = with_answer hart a0 a1
-replied Stays hart = without_reservation hart
-replied Stops hart = record hart { started = false; reservation = None; entry = None }
+unfoldable pub with_reply : Reply → Hart → Hart
+with_reply (Gives a0) hart = with_a0 hart a0
+with_reply (Replies a0 a1) hart = with_answer hart a0 a1
+with_reply Stays hart = without_reservation hart
+with_reply Stops hart = record hart { started = false; reservation = None; entry = None }
 
 -- ---- to devices and journal
 
@@ -57,13 +57,13 @@ count_answer _ c = count_refused c
 unfoldable pub journal_beside : Beside → ℕ → Journal → Journal
 journal_beside (Prints byte) h j = printed_low byte j
 journal_beside ShutsDown h j = machine_ended Shutdown j
-journal_beside (RefusesLoad id how) h j = noted (Load h j.counts.turns id how) (counted (count_answer how) j)
-journal_beside (ApprovesModule m) h j = noted (Load h j.counts.turns m.id Success) (counted count_load j)
-journal_beside (ReleasesModule m) h j = noted (Load h j.counts.turns m.id RefusedByMeasure) (counted count_refused j)
-journal_beside (UnloadsModule m) h j = noted (Unload h j.counts.turns m.id Success) (counted count_unload j)
-journal_beside (RefusesUnload id how) h j = noted (Unload h j.counts.turns id how) (counted (count_answer how) j)
-journal_beside (RetiresInit span) h j = noted (Retire h j.counts.turns Success) j
-journal_beside (RefusesRetire how) h j = noted (Retire h j.counts.turns how) (counted (count_answer how) j)
+journal_beside (RefusesLoad id how) h j = with_note (Load h j.counts.turns id how) (with_count (count_answer how) j)
+journal_beside (ApprovesModule m) h j = with_note (Load h j.counts.turns m.id Success) (with_count count_load j)
+journal_beside (ReleasesModule m) h j = with_note (Load h j.counts.turns m.id RefusedByMeasure) (with_count count_refused j)
+journal_beside (UnloadsModule m) h j = with_note (Unload h j.counts.turns m.id Success) (with_count count_unload j)
+journal_beside (RefusesUnload id how) h j = with_note (Unload h j.counts.turns id how) (with_count (count_answer how) j)
+journal_beside (RetiresInit span) h j = with_note (Retire h j.counts.turns Success) j
+journal_beside (RefusesRetire how) h j = with_note (Retire h j.counts.turns how) (with_count (count_answer how) j)
 journal_beside _ h j = j
 
 -- ---- to pages and modules
@@ -98,18 +98,18 @@ pages_beside _ h r = r
 
 -- interrupts are sent after the reply, since the mask may name the calling hart
 unfoldable pub harts_beside : Beside → List Hart → List Hart
-harts_beside (SendsInterrupts mask base) harts = interrupted (mask_names mask base) 0 harts
+harts_beside (SendsInterrupts mask base) harts = interrupt_harts (mask_names mask base) 0 harts
 harts_beside (StartsHart other pc opaque) harts = slice_set harts other (started_hart other pc opaque)
 harts_beside _ harts = harts
 
 -- ---- the whole
 
-unfoldable pub answered : State → ℕ → Hart → Answer → State
-answered r h hart a = record (pages_beside a.beside h r) {
-  harts = harts_beside a.beside (slice_set r.harts h (replied a.reply hart));
+unfoldable pub state_after_answer : State → ℕ → Hart → Answer → State
+state_after_answer r h hart a = record (pages_beside a.beside h r) {
+  harts = harts_beside a.beside (slice_set r.harts h (with_reply a.reply hart));
   devices = devices_beside a.beside h r.devices;
   journal = journal_beside a.beside h r.journal;
 }
 
 abbrev pub call : State → ℕ → Hart → State
-call r h hart = answered r h hart (answer_of (facts_of r) (asked_by hart.registers))
+call r h hart = state_after_answer r h hart (answer_of (facts_of r) (asked_by hart.registers))

@@ -78,8 +78,8 @@ code how = Replies (code_word how) 0
 abbrev pub value : ℕ → Reply
 value number = Replies 0 number
 
-abbrev pub refused : Reply
-refused = code NotSupported
+abbrev pub not_supported : Reply
+not_supported = code NotSupported
 
 abbrev pub plain : Reply → Answer
 plain reply = record { reply = reply; beside = Nothing }
@@ -132,10 +132,10 @@ base_call ask =
     else if ask.function == get_version then value implementation_version
     else if ask.function == probe then value (if is_some (extension_of ask.a0) then 1 else 0)
     else if nat_le ask.function get_machine then value 0
-    else refused
+    else not_supported
 
 unfoldable pub timer_call : Asked → Answer
-timer_call ask = if ask.function == set_the_timer then record { reply = code Success; beside = SetsTimer ask.a0 } else plain refused
+timer_call ask = if ask.function == set_the_timer then record { reply = code Success; beside = SetsTimer ask.a0 } else plain not_supported
 
 abbrev pub all_harts : ℕ
 all_harts = 2 ^ 64 - 1
@@ -146,13 +146,13 @@ mask_exists harts mask base = base == all_harts || list_all (λ i. not (bit mask
 
 unfoldable pub ipi_call : Facts → Asked → Answer
 ipi_call f ask =
-    if not (ask.function == send_ipi) then plain refused
+    if not (ask.function == send_ipi) then plain not_supported
     else if mask_exists (length f.started) ask.a0 ask.a1 then record { reply = code Success; beside = SendsInterrupts ask.a0 ask.a1 }
     else plain (code InvalidParameter)
 
 unfoldable pub fence_call : Facts → Asked → Reply
 fence_call f ask =
-    if not (nat_le ask.function last_fence) then refused
+    if not (nat_le ask.function last_fence) then not_supported
     else if mask_exists (length f.started) ask.a0 ask.a1 then code Success
     else code InvalidParameter
 
@@ -174,13 +174,13 @@ hart_call f ask =
     if ask.function == hart_start then start_other f ask (slice_get f.started ask.a0)
     else if ask.function == hart_stop then plain Stops
     else if ask.function == hart_status then plain (status_of_hart (slice_get f.started ask.a0))
-    else plain refused
+    else plain not_supported
 
 unfoldable pub reset_call : Asked → Answer
 reset_call ask =
-    if not (ask.function == system_reset) then plain refused
+    if not (ask.function == system_reset) then plain not_supported
     else if ask.a0 == shutdown_type then shut_down
-    else if nat_le ask.a0 last_reset_type then plain refused
+    else if nat_le ask.a0 last_reset_type then plain not_supported
     else plain (code InvalidParameter)
 
 -- ---- harts that begin
@@ -220,6 +220,6 @@ abbrev pub with_software : Hart → Hart
 with_software hart = record hart { supervisor = record hart.supervisor { software = true } }
 
 -- of harts that are numbered from `first` on, those that a test names get their software interrupt
-unfoldable pub interrupted : (ℕ → Bool) → ℕ → List Hart → List Hart
-interrupted named first [] = []
-interrupted named first (hart ∷ harts) = (if named first then with_software hart else hart) ∷ interrupted named (first + 1) harts
+unfoldable pub interrupt_harts : (ℕ → Bool) → ℕ → List Hart → List Hart
+interrupt_harts named first [] = []
+interrupt_harts named first (hart ∷ harts) = (if named first then with_software hart else hart) ∷ interrupt_harts named (first + 1) harts

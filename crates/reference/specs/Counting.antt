@@ -91,12 +91,12 @@ pub record MayCount (c : Counts) : Type 0 where
 
 -- ---- the journal
 
-abbrev pub counted : (Counts → Counts) → Journal → Journal
-counted count j = record j { counts = count j.counts }
+abbrev pub with_count : (Counts → Counts) → Journal → Journal
+with_count count j = record j { counts = count j.counts }
 
 -- one more note, which is kept if it is one of the first
-abbrev pub noted : Note → Journal → Journal
-noted note j = record j { notes = take most_notes (j.notes ++ note ∷ []); counts = record j.counts { notes = j.counts.notes + 1 } }
+abbrev pub with_note : Note → Journal → Journal
+with_note note j = record j { notes = take most_notes (j.notes ++ note ∷ []); counts = record j.counts { notes = j.counts.notes + 1 } }
 
 -- the low byte of a value
 abbrev pub printed_low : ℕ → Journal → Journal
@@ -108,10 +108,10 @@ machine_ended verdict j = record j { verdict = verdict }
 -- ---- the state with its journal changed
 
 abbrev pub count : State → (Counts → Counts) → State
-count r raise = with_journal r (counted raise r.journal)
+count r raise = with_journal r (with_count raise r.journal)
 
 abbrev pub note : State → Note → State
-note r line = with_journal r (noted line r.journal)
+note r line = with_journal r (with_note line r.journal)
 
 -- a stop names the rule, the hart and the count of turns, and changes nothing else
 abbrev pub stopped_by : State → ℕ → Rule → State

@@ -4,12 +4,12 @@ use Rattle.std.specs.Prelude.{ℕ, ◌+◌, ◌-◌, Bool, not, ◌&&◌, ◌||�
 use Rattle.processor.specs.Bytes.{overwrite, ram_place}
 use Rattle.sv_types.specs.Clock.{after_tick, is_due}
 use Rattle.sv_types.specs.DevicePlaces.{device_size, console_base, disk_base}
-use Rattle.sv_types.specs.Console.{after_key, has_room, console_line, loaded, after_load, stored}
+use Rattle.sv_types.specs.Console.{after_key, has_room, console_line, console_load, after_load, stored_byte}
 use Rattle.processor.specs.Requests.{after_write}
 use Rattle.processor.specs.declared.lines.Lines.{Lines}
 use Rattle.sv_types.specs.declared.event.Note.TheVariants.{Denied}
 use Rattle.reference.specs.States.{State, Hart, Devices, Disk, Journal, is_protected}
-use Rattle.reference.specs.Counting.{counted, noted, printed_low, count_denied, count_dropped}
+use Rattle.reference.specs.Counting.{with_count, with_note, printed_low, count_denied, count_dropped}
 use Rattle.reference.specs.Move.{Move, Idle, FromRam, IntoRam, DeniedAt, OutsideRam}
 use Rattle.reference.specs.Disk.{disk_load, disk_store, disk_line, disk_beat, Beaten}
 
@@ -38,7 +38,7 @@ device_load_of devices value = record { value = value; devices = devices }
 
 unfoldable pub port_load : Devices → Port → ℕ → Option DeviceLoad
 port_load d (ConsoleAt offset) width =
-    option_map (device_load_of (record d { console = after_load d.console offset width })) (loaded d.console offset width)
+    option_map (device_load_of (record d { console = after_load d.console offset width })) (console_load d.console offset width)
 port_load d (DiskAt offset) width = option_map (device_load_of d) (disk_load d.disk offset width)
 port_load d Nowhere width = None
 
@@ -53,7 +53,7 @@ pub record DeviceStore : Type 0 where
 
 unfoldable pub port_store : Devices → Journal → Port → (width value : ℕ) → Option DeviceStore
 port_store d j (ConsoleAt offset) width value =
-    option_map (λ byte. record { devices = d; journal = printed_low byte j }) (stored offset width value)
+    option_map (λ byte. record { devices = d; journal = printed_low byte j }) (stored_byte offset width value)
 port_store d j (DiskAt offset) width value =
     option_map (λ (disk : Disk). record { devices = record d { disk = disk }; journal = j }) (disk_store d.disk offset width value)
 port_store d j Nowhere width value = None
@@ -92,7 +92,7 @@ unfoldable pub after_move : State → Move → State
 after_move r Idle = r
 after_move r (FromRam gpa) = r
 after_move r (IntoRam gpa bytes) = with_bytes r (ram_place gpa) bytes
-after_move r (DeniedAt gpa) = record r { journal = noted (Denied gpa) (counted count_denied r.journal) }
+after_move r (DeniedAt gpa) = record r { journal = with_note (Denied gpa) (with_count count_denied r.journal) }
 after_move r OutsideRam = r
 
 abbrev pub after_beaten : State → Beaten → State
@@ -105,7 +105,7 @@ beat r = after_beaten r (disk_beat r.devices.disk r.ram (λ page. not (is_protec
 unfoldable pub key : State → ℕ → State
 key r byte = record r {
   devices = record r.devices { console = after_key r.devices.console byte };
-  journal = if has_room r.devices.console then r.journal else counted count_dropped r.journal;
+  journal = if has_room r.devices.console then r.journal else with_count count_dropped r.journal;
 }
 
 unfoldable pub tick : State → ℕ → State

@@ -8,9 +8,9 @@ use Rattle.sv_types.specs.Policies.{Rules, ModuleRule}
 use Rattle.sv_types.specs.declared.module.Bases.{Bases}
 use Rattle.sv_types.specs.declared.saved.SavedModule.{SavedModule}
 use Rattle.reference.specs.States.{State, Hart, Loading}
-use Rattle.reference.specs.Answers.{answered}
+use Rattle.reference.specs.Answers.{state_after_answer}
 use Rattle.reference.specs.ModuleCalls.{load_decision}
-use Rattle.reference.specs.Relocations.{masked, fields_right}
+use Rattle.reference.specs.Relocations.{masked_text, fields_right}
 
 -- the module's text, as RAM has it now
 abbrev pub module_text : List ℕ → SavedModule → ℕ → List ℕ
@@ -21,7 +21,7 @@ module_bases m = record { va = m.va; data_va = m.data_va }
 
 -- the masked text measures to the policy's digest
 unfoldable pub is_as_measured : ModuleRule → List ℕ → Bool
-is_as_measured rule text = bytes_eq (measure (masked text rule.sites)) rule.measure
+is_as_measured rule text = bytes_eq (measure (masked_text text rule.sites)) rule.measure
 
 -- the text in RAM is as measured, and each field is right for the bases. A module that the policy doesn't have isn't good
 unfoldable pub is_good : Rules → List ℕ → SavedModule → Option ModuleRule → Bool
@@ -32,7 +32,7 @@ is_good rules ram m (Some rule) =
 
 -- the decision, on the bytes of this moment
 unfoldable pub decide : State → ℕ → Hart → SavedModule → State
-decide r h hart m = answered r h hart (load_decision (is_good r.rules r.ram m (slice_get r.rules.modules m.id)) m)
+decide r h hart m = state_after_answer r h hart (load_decision (is_good r.rules r.ram m (slice_get r.rules.modules m.id)) m)
 
 -- the next step: a page turn, or the decision where none is left
 unfoldable pub load_step_of : State → ℕ → Hart → Loading → ℕ → State

@@ -11,7 +11,7 @@ use Rattle.sv_types.specs.declared.sbi.SbiCode.{SbiCode}
 use Rattle.sv_types.specs.declared.sbi.SbiCode.TheVariants.{Success, InvalidParameter, RefusedByMeasure, InvalidAddress, Already, UnderWay}
 use Rattle.reference.specs.SbiFunctions.{module_load, module_unload, init_retire}
 use Rattle.reference.specs.States.{find_module}
-use Rattle.reference.specs.Calls.{Asked, Facts, code, plain, refused, extension_of, set_timer, put_char, get_char, shut_down, base_call, timer_call, ipi_call, fence_call, hart_call, reset_call}
+use Rattle.reference.specs.Calls.{Asked, Facts, code, plain, not_supported, extension_of, set_timer, put_char, get_char, shut_down, base_call, timer_call, ipi_call, fence_call, hart_call, reset_call}
 use Rattle.reference.specs.declared.answers.Answer.{Answer}
 use Rattle.reference.specs.declared.answers.Beside.TheVariants.{BeginsLoad, RefusesLoad, ApprovesModule, ReleasesModule, UnloadsModule, RefusesUnload, RetiresInit, RefusesRetire}
 use Rattle.reference.specs.declared.answers.Extension.{Extension}
@@ -68,12 +68,12 @@ module_call f ask =
     if ask.function == module_load then load_call f ask (slice_get f.rules.modules ask.a0)
     else if ask.function == module_unload then unload_call f ask.a0 (find_module f.loaded ask.a0)
     else if ask.function == init_retire then retire_call f f.rules.init
-    else plain refused
+    else plain not_supported
 
 -- ---- one line for each extension
 
 unfoldable pub answer_by : Facts → Asked → Option Extension → Answer
-answer_by f ask None = plain refused
+answer_by f ask None = plain not_supported
 answer_by f ask (Some Extension.SetTimer) = set_timer ask.a0
 answer_by f ask (Some Extension.PutChar) = put_char ask.a0
 answer_by f ask (Some Extension.GetChar) = get_char f

@@ -5,7 +5,7 @@ use Rattle.std.specs.List.{list_all}
 use Rattle.std.specs.Int.{w64, cast_unsigned}
 use Rattle.processor.specs.Bits.{without}
 use Rattle.processor.specs.Bytes.{word, write_word}
-use Rattle.processor.specs.Effects.{plus, minus, signed}
+use Rattle.processor.specs.Effects.{plus, minus, signed_word}
 use Rattle.processor.specs.Instructions.{bits}
 use Rattle.sv_types.specs.Limits.{text_base, data_base, no_base, first_export_base}
 use Rattle.sv_types.specs.declared.module.Site.{Site}
@@ -57,7 +57,7 @@ in_field SField v = 2 ^ 7 * bits v 0 5 + 2 ^ 25 * bits v 5 12
 
 -- v, read as a signed number, is from low to high
 abbrev pub from_to : ℤ → ℤ → ℕ → Bool
-from_to low high v = int_le low (signed v) && int_le (signed v) high
+from_to low high v = int_le low (signed_word v) && int_le (signed_word v) high
 
 -- 32 signed bits, less what the upper part of two is rounded by: from -2^31 - 2^11 to 2^31 - 2^11 - 1. `negsuc n` is -n - 1
 abbrev pub fits_in_parts : ℕ → Bool
@@ -82,8 +82,8 @@ clear_field text site =
     write_word text site.offset (field_width (field_of site.kind)) (without (field_word text site) (field_bits (field_of site.kind)))
 
 -- a module's text with each field cleared
-unfoldable pub masked : List ℕ → List Site → List ℕ
-masked text sites = fold clear_field text sites
+unfoldable pub masked_text : List ℕ → List Site → List ℕ
+masked_text text sites = fold clear_field text sites
 
 -- ---- the value
 

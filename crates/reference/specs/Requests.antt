@@ -23,11 +23,11 @@ use Rattle.reference.specs.Trapping.{exception}
 -- ---- going on
 
 -- the hart at its next instruction
-abbrev pub stepped : Hart → Hart
-stepped hart = record hart { pc = next_pc hart.pc }
+abbrev pub at_next_instruction : Hart → Hart
+at_next_instruction hart = record hart { pc = next_pc hart.pc }
 
 abbrev pub stepped_with : Hart → (rd value : ℕ) → Hart
-stepped_with hart rd value = stepped (record hart { registers = set_register hart.registers rd value })
+stepped_with hart rd value = at_next_instruction (record hart { registers = set_register hart.registers rd value })
 
 -- the hart's instruction is carried out
 abbrev pub carried_out : State → ℕ → Hart → State
@@ -113,12 +113,12 @@ write_stopped r h hart gpa = stopped_by r h (Write hart.pc gpa)
 unfoldable pub carry_out_device_store : State → ℕ → Hart → (address : ℕ) → Option DeviceStore → State
 carry_out_device_store r h hart address None = exception r h hart Cause.StoreAccess address
 carry_out_device_store r h hart address (Some s) =
-    carried_out (record r { devices = s.devices; journal = s.journal }) h (stepped (without_reservation hart))
+    carried_out (record r { devices = s.devices; journal = s.journal }) h (at_next_instruction (without_reservation hart))
 
 unfoldable pub carry_out_store : State → ℕ → Hart → (address width value : ℕ) → Target → State
 carry_out_store r h hart address width value (NoTarget cause) = exception r h hart cause address
 carry_out_store r h hart address width value (Guarded gpa) = write_stopped r h hart gpa
-carry_out_store r h hart address width value (ToRam gpa) = carried_out_writing r h (stepped hart) (ram_place gpa) (low_bytes width value)
+carry_out_store r h hart address width value (ToRam gpa) = carried_out_writing r h (at_next_instruction hart) (ram_place gpa) (low_bytes width value)
 carry_out_store r h hart address width value (ToDevice gpa) = carry_out_device_store r h hart address (device_store r.devices r.journal gpa width value)
 
 -- the reservation goes in both cases; rd is 0 where the bytes were written, and else 1

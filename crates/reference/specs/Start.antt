@@ -1,7 +1,7 @@
 -- The state in which a machine starts. This project's own.
 use Rattle.std.specs.Prelude.{◌≡◌, ℕ, ◌+◌, ◌-◌, ◌*◌, ◌/◌, ◌^◌, ◌<◌, ◌≤◌, ◌⊎◌, List, [], ◌∷◌, length, replicate, None, true, false, IsTrue}
 use Rattle.sv_types.specs.Boot.{no_counts, flat_ram_pages, flat_trap_place}
-use Rattle.processor.specs.Bytes.{padded, page_size, ram_base}
+use Rattle.processor.specs.Bytes.{with_padding, page_size, ram_base}
 use Rattle.sv_types.specs.Clock.{clock_at_boot}
 use Rattle.sv_types.specs.Kernel.{header_entry, kernel_refusal, kernel_segments, segments_ram, text_pages}
 use Rattle.sv_types.specs.Limits.{plain_format}
@@ -63,7 +63,7 @@ flat_rules digest = record {
 -- pages at the start of RAM, all of them approved, where the hart begins; no disk
 unfoldable pub flat_start : (pages digest : List ℕ) → State
 flat_start pages digest =
-    start (flat_rules digest) (padded pages (page_size * flat_ram_pages)) (numbers_from 0 (length pages / page_size)) ram_base (block_disk [])
+    start (flat_rules digest) (with_padding pages (page_size * flat_ram_pages)) (numbers_from 0 (length pages / page_size)) ram_base (block_disk [])
 
 -- ---- a machine of a kernel's image
 

@@ -21,7 +21,7 @@ use Rattle.reference.specs.States.{State, Hart, Loading, Binding, binding_at, is
 use Rattle.reference.specs.Counting.{count, note, count_demote}
 use Rattle.reference.specs.Devices.{lines_at}
 use Rattle.reference.specs.Trapping.{exception, take_interrupt, returned_from_trap}
-use Rattle.reference.specs.Requests.{stepped, carried_out, source_of, target_of, settings_of, csr_asked, carry_out_load, carry_out_store, carry_out_load_reserved, carry_out_store_conditional, carry_out_amo, carry_out_csr}
+use Rattle.reference.specs.Requests.{at_next_instruction, carried_out, source_of, target_of, settings_of, csr_asked, carry_out_load, carry_out_store, carry_out_load_reserved, carry_out_store_conditional, carry_out_amo, carry_out_csr}
 use Rattle.reference.specs.Answers.{call}
 use Rattle.reference.specs.Loads.{load_step}
 
@@ -32,7 +32,7 @@ illegal_instruction r h hart w = exception r h hart Cause.Illegal w
 
 -- in kernel mode the pc moves on, in user mode the instruction is illegal
 unfoldable pub carry_out_kernel_only : State → ℕ → Hart → ℕ → Mode → State
-carry_out_kernel_only r h hart w Kernel = carried_out r h (stepped hart)
+carry_out_kernel_only r h hart w Kernel = carried_out r h (at_next_instruction hart)
 carry_out_kernel_only r h hart w User = illegal_instruction r h hart w
 
 unfoldable pub carry_out_ecall : State → ℕ → Hart → Mode → State
@@ -67,7 +67,7 @@ carry_out_effect r h hart w Effect.Ebreak = exception r h hart Cause.Breakpoint 
 carry_out_effect r h hart w Effect.Sret = carry_out_sret r h hart w hart.mode
 carry_out_effect r h hart w Effect.Wfi = carry_out_kernel_only r h hart w hart.mode
 carry_out_effect r h hart w Effect.SfenceVma = carry_out_kernel_only r h hart w hart.mode
-carry_out_effect r h hart w Effect.Fence = carried_out r h (stepped hart)
+carry_out_effect r h hart w Effect.Fence = carried_out r h (at_next_instruction hart)
 carry_out_effect r h hart w Effect.Hyper = illegal_instruction r h hart w
 
 unfoldable pub carry_out_instruction : State → ℕ → Hart → ℕ → Option Instr → State
@@ -109,11 +109,11 @@ abbrev pub fetch_of : State → Hart → Fetched
 fetch_of r hart = fetch r.ram r.approved (settings_of hart.supervisor) hart.mode hart.pc
 
 -- the mode becomes user, the pc stays, and nothing executes
-abbrev pub demoted : Hart → Hart
-demoted hart = record hart { mode = User; reservation = None; entry = None }
+abbrev pub in_user_mode : Hart → Hart
+in_user_mode hart = record hart { mode = User; reservation = None; entry = None }
 
 abbrev pub demote : State → ℕ → Hart → ℕ → State
-demote r h hart gpa = note (count (with_hart r h (demoted hart)) count_demote) (Demote h r.journal.counts.turns hart.pc gpa)
+demote r h hart gpa = note (count (with_hart r h (in_user_mode hart)) count_demote) (Demote h r.journal.counts.turns hart.pc gpa)
 
 unfoldable pub act_on_fetch : State → ℕ → Hart → Fetched → State
 act_on_fetch r h hart (NoWord cause) = exception r h hart cause hart.pc
@@ -149,9 +149,9 @@ abbrev pub leave_entry : State → ℕ → Hart → State
 leave_entry r h hart = with_hart r h (outside hart)
 
 -- a hart that goes on, and the machine then, by whether the hart left its entry
-abbrev pub going : (left : Bool) → Hart → Hart
-going false hart = hart
-going true hart = outside hart
+abbrev pub going_hart : (left : Bool) → Hart → Hart
+going_hart false hart = hart
+going_hart true hart = outside hart
 
 abbrev pub after_going : (left : Bool) → State → ℕ → Hart → State
 after_going false r h hart = r

@@ -6,7 +6,7 @@ use Rattle.processor.specs.Bytes.{part, overwrite, low_bytes, in_ram, ram_place,
 use Rattle.reference.specs.Move.{Move, Idle, FromRam, IntoRam, DeniedAt, OutsideRam}
 use Rattle.reference.specs.VirtioDevice.{VirtioDevice, Request, driver_ok, is_broken, index_values, request_done, state_changed}
 use Rattle.reference.specs.VirtioStores.{needs_reset}
-use Rattle.reference.specs.VirtioQueue.{rings_in_ram, available_index, next_head, waiting}
+use Rattle.reference.specs.VirtioQueue.{rings_in_ram, available_index, next_head, waiting_count}
 use Rattle.reference.specs.VirtioChain.{chain, most_parts, is_good, data_of, result_of}
 use Rattle.reference.specs.VirtioRequests.{type_of, sector_of, result_by, moves_by, last_moves}
 use Rattle.sv_types.specs.declared.virtio.VirtioMove.{VirtioMove}
@@ -23,8 +23,8 @@ abbrev pub nothing : VirtioDevice → VirtioBeat
 nothing d = record { device = d; move = Idle }
 
 -- the device is broken until its reset, which the driver is told by an interrupt; no request is under way any more
-abbrev pub broken : VirtioDevice → Move → VirtioBeat
-broken d move = record {
+abbrev pub broken_beat : VirtioDevice → Move → VirtioBeat
+broken_beat d move = record {
   device = record d { status = bit_or d.status needs_reset; interrupt = bit_or d.interrupt state_changed; request = None };
   move = move;
 }
@@ -40,8 +40,8 @@ is_last (VirtioMove.ToDisk gpa place size) = false
 is_last _ = true
 
 -- a request whose data may not be written makes its last moves alone
-abbrev pub refused : Request → Request
-refused q = record q { moves = filter is_last q.moves; result = VirtioResult.Failed }
+abbrev pub last_moves_alone : Request → Request
+last_moves_alone q = record q { moves = filter is_last q.moves; result = VirtioResult.Failed }
 
 abbrev pub with_written : Request → ℕ → Request
 with_written q size = record q { written = (q.written + size) % 2 ^ 32 }
@@ -49,15 +49,15 @@ with_written q size = record q { written = (q.written + size) % 2 ^ 32 }
 -- bytes of the disk into memory
 unfoldable pub to_memory : VirtioDevice → Request → (gpa place size : ℕ) → List ℕ → (ℕ → Bool) → VirtioBeat
 to_memory d q gpa place size ram may_write =
-    if not (in_ram ram gpa size) then broken d OutsideRam
+    if not (in_ram ram gpa size) then broken_beat d OutsideRam
     else if may_write (page_of gpa)
     then record { device = with_request d (with_written q size); move = IntoRam gpa (part d.bytes place size) }
-    else record { device = with_request d (refused q); move = DeniedAt gpa }
+    else record { device = with_request d (last_moves_alone q); move = DeniedAt gpa }
 
 -- bytes of memory onto the disk
 unfoldable pub to_disk : VirtioDevice → Request → (gpa place size : ℕ) → List ℕ → VirtioBeat
 to_disk d q gpa place size ram =
-    if not (in_ram ram gpa size) then broken d OutsideRam
+    if not (in_ram ram gpa size) then broken_beat d OutsideRam
     else record {
       device = record d { request = Some q; bytes = overwrite d.bytes place (part ram (ram_place gpa) size) };
       move = FromRam gpa;
@@ -66,13 +66,13 @@ to_disk d q gpa place size ram =
 -- one of the last moves writes bytes, or breaks the device
 unfoldable pub put_last : VirtioDevice → VirtioDevice → ℕ → List ℕ → List ℕ → (ℕ → Bool) → VirtioBeat
 put_last d next gpa bytes ram may_write =
-    if not (in_ram ram gpa (length bytes)) then broken d OutsideRam
+    if not (in_ram ram gpa (length bytes)) then broken_beat d OutsideRam
     else if may_write (page_of gpa) then record { device = next; move = IntoRam gpa bytes }
-    else broken d (DeniedAt gpa)
+    else broken_beat d (DeniedAt gpa)
 
 -- the request is done, which the driver is told by an interrupt
-abbrev pub finished : VirtioDevice → VirtioDevice
-finished d = record d { request = None; interrupt = bit_or d.interrupt request_done }
+abbrev pub finish_request : VirtioDevice → VirtioDevice
+finish_request d = record d { request = None; interrupt = bit_or d.interrupt request_done }
 
 -- a move, where the request has the moves behind it
 unfoldable pub make : VirtioDevice → Request → VirtioMove → List ℕ → (ℕ → Bool) → VirtioBeat
@@ -81,7 +81,7 @@ make d q (VirtioMove.ToDisk gpa place size) ram may_write = to_disk d q gpa plac
 make d q (VirtioMove.PutResult gpa) ram may_write = put_last d (with_request d q) gpa (low_bytes 1 (result_number q.result)) ram may_write
 make d q (VirtioMove.PutHead gpa head) ram may_write = put_last d (with_request d q) gpa (low_bytes 4 head) ram may_write
 make d q (VirtioMove.PutLength gpa) ram may_write = put_last d (with_request d q) gpa (low_bytes 4 (q.written + 1)) ram may_write
-make d q (VirtioMove.PutIndex gpa index) ram may_write = put_last d (finished d) gpa (low_bytes 2 index) ram may_write
+make d q (VirtioMove.PutIndex gpa index) ram may_write = put_last d (finish_request d) gpa (low_bytes 2 index) ram may_write
 
 -- the first of the moves that are left
 abbrev pub make_first : VirtioDevice → Request → List VirtioMove → List ℕ → (ℕ → Bool) → VirtioBeat
@@ -104,23 +104,23 @@ next_count d = (d.accepted + 1) % index_values
 abbrev pub result_in : VirtioDevice → List ℕ → List VirtioPart → VirtioResult
 result_in d ram parts = result_by ram (length d.bytes) (type_of ram parts) (sector_of ram parts) (data_of parts)
 
-unfoldable pub accepted : VirtioDevice → List ℕ → (head : ℕ) → List VirtioPart → VirtioDevice
-accepted d ram head parts = record d {
+unfoldable pub accept_request : VirtioDevice → List ℕ → (head : ℕ) → List VirtioPart → VirtioDevice
+accept_request d ram head parts = record d {
   accepted = next_count d;
   request = Some (request_by (result_in d ram parts) (sector_of ram parts) d head (next_count d) parts);
 }
 
 unfoldable pub accept : VirtioDevice → List ℕ → (head : ℕ) → Option (List VirtioPart) → VirtioBeat
-accept d ram head None = broken d OutsideRam
+accept d ram head None = broken_beat d OutsideRam
 accept d ram head (Some parts) =
-    if is_good ram parts then record { device = accepted d ram head parts; move = Idle } else broken d OutsideRam
+    if is_good ram parts then record { device = accept_request d ram head parts; move = Idle } else broken_beat d OutsideRam
 
 -- a head that isn't in the table has no chain
 unfoldable pub look : VirtioDevice → List ℕ → VirtioBeat
 look d ram =
-    if not (rings_in_ram d ram) then broken d OutsideRam
+    if not (rings_in_ram d ram) then broken_beat d OutsideRam
     else if available_index d ram == d.accepted then nothing d
-    else if nat_lt d.size (waiting d ram) then broken d OutsideRam
+    else if nat_lt d.size (waiting_count d ram) then broken_beat d OutsideRam
     else accept d ram (next_head d ram) (chain most_parts ram (ram_place d.descriptors) d.size (next_head d ram))
 
 -- ---- beats

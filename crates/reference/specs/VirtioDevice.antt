@@ -49,8 +49,8 @@ pub record VirtioDevice : Type 0 where
 -- ---- bits of registers, "Device Status Field" and "MMIO Device Register Layout" (InterruptStatus)
 
 -- a register of 32 bits without the bits of a mask
-abbrev pub cleared : ℕ → ℕ → ℕ
-cleared register mask = bit_and register (2 ^ 32 - 1 - mask)
+abbrev pub clear_bits : ℕ → ℕ → ℕ
+clear_bits register mask = bit_and register (2 ^ 32 - 1 - mask)
 
 abbrev pub driver_ok_place : ℕ
 driver_ok_place = 2

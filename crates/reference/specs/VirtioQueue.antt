@@ -39,8 +39,8 @@ abbrev pub next_head : VirtioDevice → List ℕ → ℕ
 next_head d ram = word ram (ram_place d.available + ring_header_size + available_entry_size * (d.accepted % d.size)) 2
 
 -- how many requests wait by the index, which counts modulo `index_values`
-abbrev pub waiting : VirtioDevice → List ℕ → ℕ
-waiting d ram = (available_index d ram + index_values - d.accepted) % index_values
+abbrev pub waiting_count : VirtioDevice → List ℕ → ℕ
+waiting_count d ram = (available_index d ram + index_values - d.accepted) % index_values
 
 -- ---- the used ring: flags, index, and for each place a head and a length
 

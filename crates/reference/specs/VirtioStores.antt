@@ -1,7 +1,7 @@
 -- What stores into the registers do. VIRTIO 1.2, "MMIO Device Register Layout", "Device Status Field", "Feature Bits".
 -- A store to a register that is only read has no effect.
 use Rattle.std.specs.Prelude.{ℕ, ◌+◌, ◌*◌, ◌/◌, ◌%◌, ◌^◌, Bool, false, not, ◌&&◌, ◌||◌, bit_or, List, ◌==◌, if◌then◌else◌, Option, None, option_map}
-use Rattle.reference.specs.VirtioDevice.{VirtioDevice, cleared, is_broken, is_selected, most_places, needs_reset_place}
+use Rattle.reference.specs.VirtioDevice.{VirtioDevice, clear_bits, is_broken, is_selected, most_places, needs_reset_place}
 use Rattle.reference.specs.VirtioRegisters.{register_at}
 use Rattle.sv_types.specs.declared.virtio.VirtioRegister.{VirtioRegister}
 
@@ -49,11 +49,11 @@ needs_reset = 2 ^ needs_reset_place
 
 -- FEATURES_OK stays where the features fit
 abbrev pub judged_status : VirtioDevice → ℕ → ℕ
-judged_status d value = if takes_features d then value else cleared value features_ok
+judged_status d value = if takes_features d then value else clear_bits value features_ok
 
 -- a store leaves DEVICE_NEEDS_RESET as it is
 unfoldable pub kept_status : VirtioDevice → ℕ → ℕ
-kept_status d value = if is_broken d then bit_or (judged_status d value) needs_reset else cleared (judged_status d value) needs_reset
+kept_status d value = if is_broken d then bit_or (judged_status d value) needs_reset else clear_bits (judged_status d value) needs_reset
 
 -- a store of 0 is a reset
 unfoldable pub with_status : VirtioDevice → ℕ → VirtioDevice
@@ -129,7 +129,7 @@ put d VirtioRegister.QueueSize value = with_size d value
 put d VirtioRegister.QueueReady value = with_ready d value
 put d VirtioRegister.QueueNotify value = d
 put d VirtioRegister.InterruptStatus value = d
-put d VirtioRegister.InterruptAcknowledge value = record d { interrupt = cleared d.interrupt value }
+put d VirtioRegister.InterruptAcknowledge value = record d { interrupt = clear_bits d.interrupt value }
 put d VirtioRegister.Status value = with_status d value
 put d VirtioRegister.DescriptorsLow value = with_descriptors d (with_low d.descriptors value)
 put d VirtioRegister.DescriptorsHigh value = with_descriptors d (with_high d.descriptors value)

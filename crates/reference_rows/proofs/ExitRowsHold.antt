@@ -1,12 +1,12 @@
 -- Exits, computed.
 use Rattle.std.proofs.Common.{refl}
 use Rattle.processor.specs.HypervisorRegisters.{registers_at_boot, registers_at_exit}
-use Rattle.machine_model.specs.Served.{serve_exit, exit_answered, exit_answer, answer_in, plain_answer, entry_answer, exit_ram_gpa, fetch_answer, load_answer, write_answer, store_answer, virtual_answer, transformed, is_sret}
+use Rattle.machine_model.specs.Served.{serve_exit, exit_answered, exit_answer, answer_in, plain_answer, entry_answer, exit_ram_gpa, fetch_answer, load_answer, write_answer, store_answer, virtual_answer, transformed_effect, is_sret}
 use Rattle.reference_rows.specs.ExitRows.{ExitRows}
 use Rattle.reference_rows.proofs.Computing.{computing}
 
 pub exit_rows : ExitRows
-unfolding computing registers_at_boot registers_at_exit serve_exit exit_answered exit_answer answer_in plain_answer entry_answer exit_ram_gpa fetch_answer load_answer write_answer store_answer virtual_answer transformed is_sret
+unfolding computing registers_at_boot registers_at_exit serve_exit exit_answered exit_answer answer_in plain_answer entry_answer exit_ram_gpa fetch_answer load_answer write_answer store_answer virtual_answer transformed_effect is_sret
 exit_rows = record {
   shown_fetch = refl;
   shown_software = refl;

@@ -5,35 +5,35 @@ use Rattle.sv_types.specs.declared.sbi.SbiCode.TheVariants.{Success, InvalidPara
 use Rattle.sha2.specs.Sha256.{sha256, first_words, schedule, rounds, compress, hash_after, digest_bytes}
 use Rattle.sv_types.specs.Measure.{measure}
 use Rattle.reference.specs.Loads.{is_good, is_as_measured, decide, load_step_of}
-use Rattle.reference.specs.Relocations.{masked, fields_right, field_right, clear_field, site_value}
+use Rattle.reference.specs.Relocations.{masked_text, fields_right, field_right, clear_field, site_value}
 use Rattle.machine_model.specs.HostExits.{load_counted, page_counted, page_sites}
 use Rattle.machine_model.specs.Machine.{HostLoad}
-use Rattle.reference_rows.specs.CallRows.{answer, refused}
+use Rattle.reference_rows.specs.CallRows.{answer, error_answer}
 use Rattle.reference_rows.specs.ModuleRows.{ModuleRows, loaded_at, turned_at, cleared_digest, all_calls, beat_after_a_page, beat_before_the_call}
 use Rattle.reference_rows.proofs.Computing.{computing}
 
 its_calls_noted : all_calls.journal.notes ≡ Load 1 2 1 UnderWay ∷ Load 0 6 0 Success ∷ Load 0 7 0 Already ∷ Load 0 8 1 InvalidAddress ∷ Load 0 9 1 InvalidAddress ∷ Load 0 10 2 InvalidParameter ∷ Unload 0 11 1 InvalidParameter ∷ Unload 0 12 0 Success ∷ []
-unfolding computing load_step_of decide is_good is_as_measured masked fields_right field_right clear_field site_value measure sha256 first_words schedule rounds compress hash_after digest_bytes
+unfolding computing load_step_of decide is_good is_as_measured masked_text fields_right field_right clear_field site_value measure sha256 first_words schedule rounds compress hash_after digest_bytes
 its_calls_noted = refl
 
 its_held_pages_are_not_written : beat_after_a_page.journal.notes ≡ Denied 0x80005000 ∷ Load 0 5 0 Success ∷ []
-unfolding computing load_step_of decide is_good is_as_measured masked fields_right field_right clear_field site_value measure sha256 first_words schedule rounds compress hash_after digest_bytes
+unfolding computing load_step_of decide is_good is_as_measured masked_text fields_right field_right clear_field site_value measure sha256 first_words schedule rounds compress hash_after digest_bytes
 its_held_pages_are_not_written = refl
 
 its_bytes_written_before_count : beat_before_the_call.journal.notes ≡ Load 0 5 0 RefusedByMeasure ∷ []
-unfolding computing load_step_of decide is_good is_as_measured masked fields_right field_right clear_field site_value measure sha256 first_words schedule rounds compress hash_after digest_bytes
+unfolding computing load_step_of decide is_good is_as_measured masked_text fields_right field_right clear_field site_value measure sha256 first_words schedule rounds compress hash_after digest_bytes
 its_bytes_written_before_count = refl
 
 its_right_address : (loaded_at 0x80005000).journal.notes ≡ Load 0 3 0 Success ∷ []
-unfolding computing load_step_of decide is_good is_as_measured masked fields_right field_right clear_field site_value measure sha256 first_words schedule rounds compress hash_after digest_bytes
+unfolding computing load_step_of decide is_good is_as_measured masked_text fields_right field_right clear_field site_value measure sha256 first_words schedule rounds compress hash_after digest_bytes
 its_right_address = refl
 
 its_wrong_address : (loaded_at 0x80006000).journal.notes ≡ Load 0 3 0 RefusedByMeasure ∷ []
-unfolding computing load_step_of decide is_good is_as_measured masked fields_right field_right clear_field site_value measure sha256 first_words schedule rounds compress hash_after digest_bytes
+unfolding computing load_step_of decide is_good is_as_measured masked_text fields_right field_right clear_field site_value measure sha256 first_words schedule rounds compress hash_after digest_bytes
 its_wrong_address = refl
 
-its_wrong_answer : answer (loaded_at 0x80006000) ≡ refused 4
-unfolding computing load_step_of decide is_good is_as_measured masked fields_right field_right clear_field site_value measure sha256 first_words schedule rounds compress hash_after digest_bytes
+its_wrong_answer : answer (loaded_at 0x80006000) ≡ error_answer 4
+unfolding computing load_step_of decide is_good is_as_measured masked_text fields_right field_right clear_field site_value measure sha256 first_words schedule rounds compress hash_after digest_bytes
 its_wrong_answer = refl
 
 turned : (gpa : ℕ) (right : Bool) → HostLoad
@@ -41,15 +41,15 @@ turned gpa right =
     record { hart = 0; about = record { id = 0; gpa = gpa; va = 0x80008000; data_va = 0 }; left = 0; digests = cleared_digest ∷ []; right = right }
 
 its_right_page : turned_at 0x80005000 ≡ turned 0x80005000 true
-unfolding computing load_step_of decide is_good is_as_measured masked fields_right field_right clear_field site_value measure sha256 first_words schedule rounds compress hash_after digest_bytes load_counted page_counted page_sites turned
+unfolding computing load_step_of decide is_good is_as_measured masked_text fields_right field_right clear_field site_value measure sha256 first_words schedule rounds compress hash_after digest_bytes load_counted page_counted page_sites turned
 its_right_page = refl
 
 its_wrong_page : turned_at 0x80006000 ≡ turned 0x80006000 false
-unfolding computing load_step_of decide is_good is_as_measured masked fields_right field_right clear_field site_value measure sha256 first_words schedule rounds compress hash_after digest_bytes load_counted page_counted page_sites turned
+unfolding computing load_step_of decide is_good is_as_measured masked_text fields_right field_right clear_field site_value measure sha256 first_words schedule rounds compress hash_after digest_bytes load_counted page_counted page_sites turned
 its_wrong_page = refl
 
 pub module_rows : ModuleRows
-unfolding computing load_step_of decide is_good is_as_measured masked fields_right field_right clear_field site_value measure sha256 first_words schedule rounds compress hash_after digest_bytes turned
+unfolding computing load_step_of decide is_good is_as_measured masked_text fields_right field_right clear_field site_value measure sha256 first_words schedule rounds compress hash_after digest_bytes turned
 module_rows = record {
   right_call = refl;
   wrong_call = refl;

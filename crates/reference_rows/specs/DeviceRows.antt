@@ -44,27 +44,27 @@ block_after None = block_at_boot
 block_after (Some disk) = block_of disk
 
 -- what the device is after a command, and how it stands then
-abbrev pub told : BlockState → (command : ℕ) → BlockState
-told block command = block_after (disk_store (disk_with block) 0x14 4 command)
+abbrev pub block_after_command : BlockState → (command : ℕ) → BlockState
+block_after_command block command = block_after (disk_store (disk_with block) 0x14 4 command)
 
 abbrev pub status_after : BlockState → (command : ℕ) → ℕ
-status_after block command = status_number (told block command).status
+status_after block command = status_number (block_after_command block command).status
 
 abbrev pub busy_with : (command : BlockCommand) → (gpa done : ℕ) → BlockState
 busy_with command gpa done = record (set_up 0 gpa 1) { status = BlockStatus.Busy command done }
 
-abbrev pub denied : BlockState → BlockState
-denied block = record block { status = BlockStatus.Denied }
+abbrev pub with_denied : BlockState → BlockState
+with_denied block = record block { status = BlockStatus.Denied }
 
 abbrev pub machine_with : BlockState → State
 machine_with block = record (small 0 0x01020304) { devices = devices_with [] block }
 
-abbrev pub beaten : BlockState → State
-beaten block = step (machine_with block) Beat
+abbrev pub state_after_beat : BlockState → State
+state_after_beat block = step (machine_with block) Beat
 
 -- the status after a beat
 abbrev pub status_beaten : (command : BlockCommand) → (gpa done : ℕ) → ℕ
-status_beaten command gpa done = status_number (block_of (beaten (busy_with command gpa done)).devices.disk).status
+status_beaten command gpa done = status_number (block_of (state_after_beat (busy_with command gpa done)).devices.disk).status
 
 abbrev pub input : List ℕ
 input = 65 ∷ 66 ∷ []
@@ -90,29 +90,29 @@ pub record DeviceRows : Type 0 where
   pub sector_stored : (block_after (disk_store (disk_with block_at_boot) 0 8 5)).sector ≡ 5
   pub low_bytes_alone : (block_after (disk_store (disk_with block_at_boot) 0x10 4 (2 ^ 32 * 9 - 1))).count ≡ 2 ^ 32 - 1
   pub store_while_busy : block_after (disk_store (disk_with (busy_with DiskToMemory 0x80001000 0)) 0 8 5) ≡ busy_with DiskToMemory 0x80001000 0
-  pub status_cleared : (block_after (disk_store (disk_with (denied block_at_boot)) 0x18 4 9)).status ≡ BlockStatus.Idle
+  pub status_cleared : (block_after (disk_store (disk_with (with_denied block_at_boot)) 0x18 4 9)).status ≡ BlockStatus.Idle
   -- ---- commands
-  pub reads_the_disk : told (set_up 0 0x80001000 2) 1 ≡ record (set_up 0 0x80001000 2) { status = BlockStatus.Busy DiskToMemory 0 }
-  pub writes_the_disk : told (set_up 0 0x80001000 2) 2 ≡ record (set_up 0 0x80001000 2) { status = BlockStatus.Busy MemoryToDisk 0 }
+  pub reads_the_disk : block_after_command (set_up 0 0x80001000 2) 1 ≡ record (set_up 0 0x80001000 2) { status = BlockStatus.Busy DiskToMemory 0 }
+  pub writes_the_disk : block_after_command (set_up 0 0x80001000 2) 2 ≡ record (set_up 0 0x80001000 2) { status = BlockStatus.Busy MemoryToDisk 0 }
   pub unknown_command : status_after (set_up 0 0x80001000 1) 3 ≡ 0
   pub no_sectors : status_after (set_up 0 0x80001000 0) 1 ≡ 4
   pub past_the_disk : status_after (set_up 1 0x80001000 2) 1 ≡ 4
   pub crooked_address : status_after (set_up 0 0x80001020 1) 1 ≡ 4
-  pub command_after_a_denial : status_after (denied (set_up 0 0x80001000 1)) 1 ≡ 1
+  pub command_after_a_denial : status_after (with_denied (set_up 0 0x80001000 1)) 1 ≡ 1
   -- ---- the lines
   pub line_of_input : external_line (devices_with input block_at_boot) 0 ≡ true
   pub line_of_an_end : external_line (devices_with [] (record block_at_boot { status = BlockStatus.Done })) 0 ≡ true
   pub no_line_while_busy : external_line (devices_with [] (busy_with DiskToMemory 0 0)) 0 ≡ false
   pub line_of_hart_zero_alone : external_line (devices_with input block_at_boot) 1 ≡ false
   -- ---- beats
-  pub idle_beat : (beaten block_at_boot).ram ≡ (machine_with block_at_boot).ram
-  pub idle_beat_counts : (beaten block_at_boot).journal.counts.beats ≡ 1
-  pub beat_writes : part (beaten (busy_with DiskToMemory 0x80002000 1)).ram 0x2040 65 ≡ replicate 64 7 ++ (0 ∷ [])
-  pub beat_goes_on : block_of (beaten (busy_with DiskToMemory 0x80002000 1)).devices.disk ≡ busy_with DiskToMemory 0x80002000 2
+  pub idle_beat : (state_after_beat block_at_boot).ram ≡ (machine_with block_at_boot).ram
+  pub idle_beat_counts : (state_after_beat block_at_boot).journal.counts.beats ≡ 1
+  pub beat_writes : part (state_after_beat (busy_with DiskToMemory 0x80002000 1)).ram 0x2040 65 ≡ replicate 64 7 ++ (0 ∷ [])
+  pub beat_goes_on : block_of (state_after_beat (busy_with DiskToMemory 0x80002000 1)).devices.disk ≡ busy_with DiskToMemory 0x80002000 2
   pub last_beat : status_beaten DiskToMemory 0x80002000 7 ≡ 2
-  pub beat_reads : part (disk_bytes (beaten (busy_with MemoryToDisk 0x80001000 0)).devices.disk) 0 5 ≡ 4 ∷ 3 ∷ 2 ∷ 1 ∷ 0 ∷ []
-  pub beat_into_a_protected_page : (beaten (busy_with DiskToMemory 0x80000000 0)).journal.notes ≡ Denied 0x80000000 ∷ []
-  pub denied_moves_nothing : (beaten (busy_with DiskToMemory 0x80000000 0)).ram ≡ (machine_with block_at_boot).ram
+  pub beat_reads : part (disk_bytes (state_after_beat (busy_with MemoryToDisk 0x80001000 0)).devices.disk) 0 5 ≡ 4 ∷ 3 ∷ 2 ∷ 1 ∷ 0 ∷ []
+  pub beat_into_a_protected_page : (state_after_beat (busy_with DiskToMemory 0x80000000 0)).journal.notes ≡ Denied 0x80000000 ∷ []
+  pub denied_moves_nothing : (state_after_beat (busy_with DiskToMemory 0x80000000 0)).ram ≡ (machine_with block_at_boot).ram
   pub denied_status : status_beaten DiskToMemory 0x80000000 0 ≡ 3
   pub reads_protected_pages : status_beaten MemoryToDisk 0x80000000 0 ≡ 1
   pub beat_outside_ram : status_beaten DiskToMemory 0x90000000 0 ≡ 4

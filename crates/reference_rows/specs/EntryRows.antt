@@ -5,8 +5,8 @@ use Rattle.processor.specs.declared.mode.Mode.{Mode}
 use Rattle.processor.specs.declared.mode.Mode.TheVariants.{Kernel, User}
 use Rattle.reference.specs.States.{State, Hart}
 use Rattle.reference.specs.Start.{start, block_disk}
-use Rattle.reference_rows.specs.Guests.{small_rules, small_ram, hart_in, turn_of_hart, hart_of, trapped, trap_of, at_pc}
-use Rattle.reference_rows.specs.TurnRows.{plain, unmapped}
+use Rattle.reference_rows.specs.Guests.{small_rules, small_ram, hart_in, turn_of_hart, hart_of, trap_facts, trap_of, at_pc}
+use Rattle.reference_rows.specs.TurnRows.{plain, without_mappings}
 
 -- the entry at 0x80000100 is bound to an address; the first two pages are approved
 abbrev pub bound_to : (gpa word : ℕ) → State
@@ -22,8 +22,8 @@ entry_of r = (hart_of r 0).entry
 abbrev pub mode_of : State → Mode
 mode_of r = (hart_of r 0).mode
 
-abbrev pub returning : Hart
-returning = record (inside 0x80000000) { supervisor = record (inside 0).supervisor { sstatus = 0x100; sepc = 0x80000200 } }
+abbrev pub returning_hart : Hart
+returning_hart = record (inside 0x80000000) { supervisor = record (inside 0).supervisor { sstatus = 0x100; sepc = 0x80000200 } }
 
 pub record EntryRows : Type 0 where
   -- ---- ways in
@@ -32,21 +32,21 @@ pub record EntryRows : Type 0 where
   pub trap_of_the_kernel : entry_of (turn_of_hart (bound_to 0x80000100 0x00100073) (hart_in Kernel 0x80000000 plain)) ≡ None
   pub trap_inside : entry_of (turn_of_hart (bound_to 0x80000100 0x00100073) (inside 0x80000000)) ≡ Some 0
   -- ---- at the entry's address
-  pub word_that_is_bound : trapped (turn_of_hart (bound_to 0x80000100 0x13) (inside 0x80000100)) ≡ trap_of 2 0
+  pub word_that_is_bound : trap_facts (turn_of_hart (bound_to 0x80000100 0x13) (inside 0x80000100)) ≡ trap_of 2 0
   pub elsewhere : (turn_of_hart (bound_to 0x80001100 0x13) (inside 0x80000100)).journal.notes ≡ Demote 0 1 0x80000100 0x80000100 ∷ []
   pub elsewhere_demotes : mode_of (turn_of_hart (bound_to 0x80001100 0x13) (inside 0x80000100)) ≡ User
   pub elsewhere_leaves : entry_of (turn_of_hart (bound_to 0x80001100 0x13) (inside 0x80000100)) ≡ None
   pub bound_to_a_free_page : (turn_of_hart (bound_to 0x80002100 0x13) (inside 0x80000100)).journal.notes ≡ Demote 0 1 0x80000100 0x80000100 ∷ []
-  pub page_fault : (turn_of_hart (bound_to 0x80000100 0x13) (unmapped (inside 0x80000100))).journal.notes ≡ Demote 0 1 0x80000100 0 ∷ []
+  pub page_fault : (turn_of_hart (bound_to 0x80000100 0x13) (without_mappings (inside 0x80000100))).journal.notes ≡ Demote 0 1 0x80000100 0 ∷ []
   -- ---- at another address
   pub same_page : at_pc (turn_of_hart (bound_to 0x80000100 0x13) (inside 0x80000000)) ≡ 0x80000004 ∷ 1 ∷ []
   pub same_page_stays : entry_of (turn_of_hart (bound_to 0x80000100 0x13) (inside 0x80000000)) ≡ Some 0
   pub other_page : at_pc (turn_of_hart (bound_to 0x80001100 0x13) (inside 0x80000000)) ≡ 0x80000004 ∷ 1 ∷ []
   pub other_page_leaves : entry_of (turn_of_hart (bound_to 0x80001100 0x13) (inside 0x80000000)) ≡ None
   pub free_page : (turn_of_hart (bound_to 0x80000100 0x13) (inside 0x80002000)).journal.notes ≡ Demote 0 1 0x80002000 0x80002000 ∷ []
-  pub outside_ram : trapped (turn_of_hart (bound_to 0x80000100 0x13) (inside 0x90000000)) ≡ trap_of 1 0x90000000
-  pub other_page_fault : trapped (turn_of_hart (bound_to 0x80000100 0x13) (unmapped (inside 0x80000000))) ≡ trap_of 12 0x80000000
-  pub other_page_fault_leaves : entry_of (turn_of_hart (bound_to 0x80000100 0x13) (unmapped (inside 0x80000000))) ≡ None
+  pub outside_ram : trap_facts (turn_of_hart (bound_to 0x80000100 0x13) (inside 0x90000000)) ≡ trap_of 1 0x90000000
+  pub other_page_fault : trap_facts (turn_of_hart (bound_to 0x80000100 0x13) (without_mappings (inside 0x80000000))) ≡ trap_of 12 0x80000000
+  pub other_page_fault_leaves : entry_of (turn_of_hart (bound_to 0x80000100 0x13) (without_mappings (inside 0x80000000))) ≡ None
   -- ---- ways out
   pub returns_to_the_user : entry_of (turn_of_hart (bound_to 0x80000100 0x10200073) (inside 0x80000000)) ≡ None
-  pub returns_to_the_kernel : entry_of (turn_of_hart (bound_to 0x80000100 0x10200073) returning) ≡ Some 0
+  pub returns_to_the_kernel : entry_of (turn_of_hart (bound_to 0x80000100 0x10200073) returning_hart) ≡ Some 0

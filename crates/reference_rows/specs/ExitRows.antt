@@ -60,15 +60,15 @@ abbrev pub implicit : ℕ
 implicit = 0x3000
 
 -- the cause as the hypervisor's scause shows it
-abbrev pub shown : Exit → ℕ
-shown exit = (registers_at_exit registers_at_boot exit).scause
+abbrev pub shown_cause : Exit → ℕ
+shown_cause exit = (registers_at_exit registers_at_boot exit).scause
 
 pub record ExitRows : Type 0 where
   -- ---- what is shown
-  pub shown_fetch : shown (by_cause Cause.GuestFetch 0 0 0) ≡ 20
-  pub shown_software : shown (by_interrupt Interrupt.Software) ≡ 2 ^ 63 + 2
-  pub shown_timer : shown (by_interrupt Interrupt.Timer) ≡ 2 ^ 63 + 6
-  pub shown_external : shown (by_interrupt Interrupt.External) ≡ 2 ^ 63 + 10
+  pub shown_fetch : shown_cause (by_cause Cause.GuestFetch 0 0 0) ≡ 20
+  pub shown_software : shown_cause (by_interrupt Interrupt.Software) ≡ 2 ^ 63 + 2
+  pub shown_timer : shown_cause (by_interrupt Interrupt.Timer) ≡ 2 ^ 63 + 6
+  pub shown_external : shown_cause (by_interrupt Interrupt.External) ≡ 2 ^ 63 + 10
   -- ---- kernel mode
   pub kernel_call : kernel_makes (by_cause Cause.GuestCall 0 0 0) ≡ call before 0 of_kernel
   pub kernel_fetch : kernel_makes (by_cause Cause.GuestFetch 0x80002000 0x80002000 0) ≡ demote before 0 of_kernel 0x80002000

@@ -1,7 +1,7 @@
 -- Two guests of some length: one that commands the disk into its own text, and one whose page tables the disk rewrites. This
 -- project's own.
 use Rattle.std.specs.Prelude.{◌≡◌, ℕ, zero, suc, ◌+◌, ◌*◌, ◌^◌, ◌%◌, ◌==◌, if◌then◌else◌, List, [], ◌∷◌, ◌++◌, replicate, None, codes}
-use Rattle.processor.specs.Bytes.{padded}
+use Rattle.processor.specs.Bytes.{with_padding}
 use Rattle.sv_types.specs.Policies.{Rules}
 use Rattle.sv_types.specs.declared.block.BlockCommand.TheVariants.{DiskToMemory}
 use Rattle.sv_types.specs.declared.event.Event.{Event}
@@ -15,13 +15,13 @@ use Rattle.reference.specs.Start.{start, block_disk}
 use Rattle.reference.specs.States.{State, BlockDisk, with_hart}
 use Rattle.reference_rows.specs.DeviceRows.{busy_with}
 use Rattle.reference_rows.specs.FlatRows.{nothing_denied}
-use Rattle.reference_rows.specs.Guests.{words, doubles, page, said, hart_in}
+use Rattle.reference_rows.specs.Guests.{words, doubles, page, text_of_lines, hart_in}
 
 -- ---- the first sets its vector, commands two sectors to 512 bytes below its text, and enters user mode n times; its user
 -- calls. Then it prints K and shuts down
 
 abbrev pub guest_text : ℕ → List ℕ
-guest_text n = padded (words (0x00000297 ∷ 0x10028293 ∷ 0x10529073 ∷ 0x00001497 ∷ 0xFF448493 ∷ 0x00000437 ∷ (0x0004041B + n * 2 ^ 20) ∷ 0x100013B7
+guest_text n = with_padding (words (0x00000297 ∷ 0x10028293 ∷ 0x10529073 ∷ 0x00001497 ∷ 0xFF448493 ∷ 0x00000437 ∷ (0x0004041B + n * 2 ^ 20) ∷ 0x100013B7
     ∷ 0xD0028E13 ∷ 0x01C3B423 ∷ 0x00200E93 ∷ 0x01D3A823 ∷ 0x00100E93 ∷ 0x01D3AA23 ∷ 0x14149073 ∷ 0x10200073 ∷ [])) 0x100
     ++ words (0x00001337 ∷ 0x00930333 ∷ 0x00833023 ∷ 0xFFF40413 ∷ 0x00040663 ∷ 0x14149073 ∷ 0x10200073
     ∷ 0x04B00513 ∷ 0x00100893 ∷ 0x00000073 ∷ 0x00800893 ∷ 0x00000073 ∷ [])
@@ -40,7 +40,7 @@ guest_rules = record {
 }
 
 abbrev pub guest_ram : ℕ → List ℕ
-guest_ram n = padded (replicate 4096 0 ++ page (guest_text n) ++ words (0x00000073 ∷ 0xFFDFF06F ∷ [])) 16384
+guest_ram n = with_padding (replicate 4096 0 ++ page (guest_text n) ++ words (0x00000073 ∷ 0xFFDFF06F ∷ [])) 16384
 
 -- event i is a beat where i mod 8 is 7
 abbrev pub turns_and_beats : ℕ → ℕ → List Event
@@ -57,22 +57,22 @@ abbrev pub mapped_rules : Rules
 mapped_rules = record guest_rules { ram_pages = 8; entries = 0x1000 ∷ [] }
 
 abbrev pub mapped_ram : List ℕ
-mapped_ram = padded (replicate 8192 0 ++ page (doubles (0x20000C01 ∷ [])) ++ page (doubles (0x20001001 ∷ []))
+mapped_ram = with_padding (replicate 8192 0 ++ page (doubles (0x20000C01 ∷ [])) ++ page (doubles (0x20001001 ∷ []))
     ++ page (doubles (0 ∷ 0x2000044B ∷ 0 ∷ 0 ∷ 0 ∷ 0x2000145B ∷ [])) ++ words (0x00000073 ∷ [])) 32768
 
 abbrev pub new_entries : List ℕ
-new_entries = padded (doubles (0 ∷ 0x2000184B ∷ 0 ∷ 0 ∷ 0 ∷ 0x2000145B ∷ [])) 512
+new_entries = with_padding (doubles (0 ∷ 0x2000184B ∷ 0 ∷ 0 ∷ 0 ∷ 0x2000145B ∷ [])) 512
 
 abbrev pub mapped_start : State
 mapped_start = start mapped_rules mapped_ram (1 ∷ []) 0x80001000 (block_disk new_entries)
 
-abbrev pub mapped : State
-mapped = with_hart
+abbrev pub mapped_state : State
+mapped_state = with_hart
     (record mapped_start { devices = record mapped_start.devices { disk = BlockDisk (record { block = busy_with DiskToMemory 0x80004000 0; bytes = new_entries }) } })
     0 (record (hart_in User 0x5000 (replicate 32 0)) { supervisor = record supervisor_at_boot { stvec = 0x1000; satp = 0x8000000000080002 } })
 
 pub record GuestRows : Type 0 where
-  pub guest_once : output (guest 1) ≡ said (
+  pub guest_once : output (guest 1) ≡ text_of_lines (
       codes "K"
       ∷ codes "notes 0"
       ∷ codes "turns 27 beats 3 keys 0 ticks 0"
@@ -81,7 +81,7 @@ pub record GuestRows : Type 0 where
       ∷ codes "verdict shutdown"
       ∷ [])
   -- eight beats move, and the ninth comes to the text
-  pub guest_ten_times : output (guest 10) ≡ said (
+  pub guest_ten_times : output (guest 10) ≡ text_of_lines (
       codes "K"
       ∷ codes "denied gpa 0x0000000080001000"
       ∷ codes "notes 1"
@@ -91,6 +91,6 @@ pub record GuestRows : Type 0 where
       ∷ codes "verdict shutdown"
       ∷ [])
   -- a permitted entry whose address is mapped anew: the trap enters, and the next turn demotes
-  pub entry_mapped_anew : (run mapped (Beat ∷ Turn 0 ∷ Turn 0 ∷ [])).journal.notes ≡ Demote 0 2 0x1000 0x80006000 ∷ []
-  pub it_entered : (run mapped (Beat ∷ Turn 0 ∷ Turn 0 ∷ [])).journal.counts.enters ≡ 1
-  pub without_the_beat : (run mapped (Turn 0 ∷ Turn 0 ∷ [])).journal.counts.demotes ≡ 0
+  pub entry_mapped_anew : (run mapped_state (Beat ∷ Turn 0 ∷ Turn 0 ∷ [])).journal.notes ≡ Demote 0 2 0x1000 0x80006000 ∷ []
+  pub it_entered : (run mapped_state (Beat ∷ Turn 0 ∷ Turn 0 ∷ [])).journal.counts.enters ≡ 1
+  pub without_the_beat : (run mapped_state (Turn 0 ∷ Turn 0 ∷ [])).journal.counts.demotes ≡ 0

@@ -1,6 +1,6 @@
 -- Small guests, and what is seen of a state. This project's own.
 use Rattle.std.specs.Prelude.{ℕ, List, [], ◌∷◌, ◌++◌, replicate, Option, Some, None, slice_get, true}
-use Rattle.processor.specs.Bytes.{low_bytes, padded}
+use Rattle.processor.specs.Bytes.{low_bytes, with_padding}
 use Rattle.processor.specs.Effects.{register}
 use Rattle.sv_types.specs.Output.{line_end}
 use Rattle.sv_types.specs.Policies.{Rules}
@@ -25,16 +25,16 @@ doubles (d ∷ ds) = low_bytes 8 d ++ doubles ds
 
 -- one page that begins with these bytes
 abbrev pub page : List ℕ → List ℕ
-page bytes = padded bytes 4096
+page bytes = with_padding bytes 4096
 
 -- so many turns of the one hart of a machine that runs a page
 abbrev pub flat : List ℕ → ℕ → State
 flat bytes n = run (flat_start (page bytes) []) (replicate n (Turn 0))
 
 -- lines, each with its line feed
-abbrev pub said : List (List ℕ) → List ℕ
-said [] = []
-said (line ∷ lines) = line ++ line_end ++ said lines
+abbrev pub text_of_lines : List (List ℕ) → List ℕ
+text_of_lines [] = []
+text_of_lines (line ∷ lines) = line ++ line_end ++ text_of_lines lines
 
 -- ---- a machine of two harts and four pages: the first page is approved, and the others are free
 
@@ -52,7 +52,7 @@ small_rules = record {
 }
 
 abbrev pub small_ram : (kernel user : ℕ) → List ℕ
-small_ram kernel user = padded (page (words (kernel ∷ [])) ++ words (user ∷ [])) 16384
+small_ram kernel user = with_padding (page (words (kernel ∷ [])) ++ words (user ∷ [])) 16384
 
 abbrev pub small : (kernel user : ℕ) → State
 small kernel user = start small_rules (small_ram kernel user) (0 ∷ []) 0x80000000 (block_disk [])
@@ -92,8 +92,8 @@ abbrev pub register_of : State → ℕ → ℕ
 register_of r n = register (hart_of r 0).registers n
 
 -- cause, stval, traps taken, instructions retired
-abbrev pub trapped : State → List ℕ
-trapped r = (hart_of r 0).supervisor.scause ∷ (hart_of r 0).supervisor.stval ∷ r.journal.counts.traps ∷ r.journal.counts.retired ∷ []
+abbrev pub trap_facts : State → List ℕ
+trap_facts r = (hart_of r 0).supervisor.scause ∷ (hart_of r 0).supervisor.stval ∷ r.journal.counts.traps ∷ r.journal.counts.retired ∷ []
 
 -- a trap with a cause and a value, and nothing retired
 abbrev pub trap_of : (cause value : ℕ) → List ℕ

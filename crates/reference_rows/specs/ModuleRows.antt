@@ -1,6 +1,6 @@
 -- Relocated fields, loads, unloads and retired text. RISC-V ELF psABI, "Relocations"; this project's own.
 use Rattle.std.specs.Prelude.{◌≡◌, ℕ, List, [], ◌∷◌, ◌++◌, map, replicate, Option, Some, None, pos, Bool, true, false}
-use Rattle.processor.specs.Bytes.{padded}
+use Rattle.processor.specs.Bytes.{with_padding}
 use Rattle.sv_types.specs.Policies.{Rules, ModuleRule}
 use Rattle.sv_types.specs.ApprovedPages.{ApprovedPage, approved_pages}
 use Rattle.sv_types.specs.declared.block.BlockCommand.TheVariants.{DiskToMemory}
@@ -13,13 +13,13 @@ use Rattle.sv_types.specs.declared.relocation_kind.RelocationKind.{RelocationKin
 use Rattle.sv_types.specs.declared.module.Span.{Span}
 use Rattle.sv_types.specs.declared.policy.Export.{Export}
 use Rattle.processor.specs.declared.mode.Mode.TheVariants.{Kernel}
-use Rattle.reference.specs.Relocations.{masked, fields_right}
+use Rattle.reference.specs.Relocations.{masked_text, fields_right}
 use Rattle.reference.specs.Run.{step, run}
 use Rattle.reference.specs.Start.{start, block_disk}
 use Rattle.reference.specs.States.{State, with_hart}
 use Rattle.machine_model.specs.HostExits.{load_counted}
 use Rattle.machine_model.specs.Machine.{HostLoad}
-use Rattle.reference_rows.specs.CallRows.{asking, answer, refused}
+use Rattle.reference_rows.specs.CallRows.{call_registers, answer, error_answer}
 use Rattle.reference_rows.specs.DeviceRows.{busy_with, disk_with}
 use Rattle.reference_rows.specs.Guests.{words, page, hart_in, hart_of, at_pc}
 
@@ -67,14 +67,14 @@ rules_with init = record {
 
 -- two pages of kernel text, whose words are ECALLs, and the first module's text from page 5 on
 abbrev pub memory : List ℕ
-memory = padded (page (words (0x00000073 ∷ 0x00000073 ∷ [])) ++ one_word_page ++ replicate 12288 0 ++ one_word_page ++ one_word_page ++ one_word_page) 32768
+memory = with_padding (page (words (0x00000073 ∷ 0x00000073 ∷ [])) ++ one_word_page ++ replicate 12288 0 ++ one_word_page ++ one_word_page ++ one_word_page) 32768
 
 abbrev pub begin : Option Span → State
 begin init = start (rules_with init) memory (0 ∷ 1 ∷ []) 0x80000000 (block_disk [])
 
 -- hart h makes a call of the modules' extension
 abbrev pub asks : State → (h function a0 a1 a2 : ℕ) → State
-asks r h function a0 a1 a2 = step (with_hart r h (hart_in Kernel 0x80000000 (asking 0x08534543 function a0 a1 a2 0))) (Turn h)
+asks r h function a0 a1 a2 = step (with_hart r h (hart_in Kernel 0x80000000 (call_registers 0x08534543 function a0 a1 a2 0))) (Turn h)
 
 abbrev pub loads : State → (h id gpa : ℕ) → State
 loads r h id gpa = asks r h 0 id gpa 0x80008000
@@ -86,11 +86,11 @@ first = begin None
 abbrev pub under_way : State
 under_way = loads first 0 0 0x80005000
 
-abbrev pub decided : State
-decided = run (loads under_way 1 1 0x80005000) (replicate 4 (Turn 0))
+abbrev pub decided_state : State
+decided_state = run (loads under_way 1 1 0x80005000) (replicate 4 (Turn 0))
 
 abbrev pub all_calls : State
-all_calls = asks (asks (loads (loads (loads (loads decided 0 0 0x80005000) 0 1 0x80006000) 0 1 0x80008000) 0 2 0x80010000) 0 1 1 0 0) 0 1 0 0 0
+all_calls = asks (asks (loads (loads (loads (loads decided_state 0 0 0x80005000) 0 1 0x80006000) 0 1 0x80008000) 0 2 0x80010000) 0 1 1 0 0) 0 1 0 0 0
 
 -- a transfer of the disk into the module's first page is under way
 abbrev pub with_transfer : State → State
@@ -136,7 +136,7 @@ abbrev pub address_rules : Rules
 address_rules = record (rules_with None) { modules = address_rule ∷ [] }
 
 abbrev pub two_addresses : List ℕ
-two_addresses = padded (page (words (0x00000073 ∷ 0x00000073 ∷ [])) ++ replicate 16384 0
+two_addresses = with_padding (page (words (0x00000073 ∷ 0x00000073 ∷ [])) ++ replicate 16384 0
     ++ page (words (0x80008000 ∷ 0 ∷ 0x00000073 ∷ [])) ++ page (words (0x80008004 ∷ 0 ∷ 0x00000073 ∷ []))) 32768
 
 abbrev pub loaded_at : ℕ → State
@@ -158,18 +158,18 @@ pub record ModuleRows : Type 0 where
   -- ---- relocated fields
   pub right_call : are_right (words (0xFFFFB097 ∷ 0x010080E7 ∷ [])) ≡ true
   pub wrong_call : are_right (words (0xFFFFB097 ∷ 0x014080E7 ∷ [])) ≡ false
-  pub cleared_call : masked (words (0xFFFFB097 ∷ 0x010080E7 ∷ [])) call_sites ≡ words (0x00000097 ∷ 0x000080E7 ∷ [])
-  pub wrong_call_cleared : masked (words (0xFFFFB097 ∷ 0x014080E7 ∷ [])) call_sites ≡ words (0x00000097 ∷ 0x000080E7 ∷ [])
+  pub cleared_call : masked_text (words (0xFFFFB097 ∷ 0x010080E7 ∷ [])) call_sites ≡ words (0x00000097 ∷ 0x000080E7 ∷ [])
+  pub wrong_call_cleared : masked_text (words (0xFFFFB097 ∷ 0x014080E7 ∷ [])) call_sites ≡ words (0x00000097 ∷ 0x000080E7 ∷ [])
   -- ---- a load begins: its pages are held, and the hart stays at its call
   pub held : under_way.held ≡ 5 ∷ 6 ∷ 7 ∷ []
   pub stays_at_its_call : at_pc under_way ≡ 0x80000000 ∷ 0 ∷ []
   pub begun_without_a_note : under_way.journal.notes ≡ []
   pub takes_no_interrupt : (step (interruptible under_way) (Turn 0)).journal.counts.traps ≡ 0
   -- ---- refusals, and the answer
-  pub crooked_place : answer (loads first 0 0 0x80005008) ≡ refused 5
-  pub crooked_address : answer (asks first 0 0 0 0x80005000 0x80008004) ≡ refused 5
-  pub in_kernel_text : answer (loads first 0 1 0x80001000) ≡ refused 5
-  pub outside_ram : answer (loads first 0 0 0x80006000) ≡ refused 5
+  pub crooked_place : answer (loads first 0 0 0x80005008) ≡ error_answer 5
+  pub crooked_address : answer (asks first 0 0 0 0x80005000 0x80008004) ≡ error_answer 5
+  pub in_kernel_text : answer (loads first 0 1 0x80001000) ≡ error_answer 5
+  pub outside_ram : answer (loads first 0 0 0x80006000) ≡ error_answer 5
   pub calls_noted : all_calls.journal.notes ≡
       Load 1 2 1 UnderWay
       ∷ Load 0 6 0 Success
@@ -186,7 +186,7 @@ pub record ModuleRows : Type 0 where
   -- ---- a module with one field
   pub right_address : (loaded_at 0x80005000).journal.notes ≡ Load 0 3 0 Success ∷ []
   pub wrong_address : (loaded_at 0x80006000).journal.notes ≡ Load 0 3 0 RefusedByMeasure ∷ []
-  pub wrong_address_answered : answer (loaded_at 0x80006000) ≡ refused 4
+  pub wrong_address_answered : answer (loaded_at 0x80006000) ≡ error_answer 4
   pub right_page_turned : turned_at 0x80005000 ≡ record {
     hart = 0;
     about = record { id = 0; gpa = 0x80005000; va = 0x80008000; data_va = 0 };
@@ -203,8 +203,8 @@ pub record ModuleRows : Type 0 where
   }
   -- ---- unload and retire
   pub unload_demotes_who_runs_there : (step (asks running_in_it 0 1 1 0 0) (Turn 1)).journal.notes ≡ Unload 0 1 1 Success ∷ Demote 1 2 0x80004000 0x80004000 ∷ []
-  pub unload_while_a_load_is_under_way : answer (asks (record with_second { loading = Some (record { hart = 1; about = record { id = 0; gpa = 0x80005000; va = 0; data_va = 0 }; left = 3 }) }) 0 1 1 0 0) ≡ refused 7
-  pub unload_of_none : answer (asks first 0 1 1 0 0) ≡ refused 3
+  pub unload_while_a_load_is_under_way : answer (asks (record with_second { loading = Some (record { hart = 1; about = record { id = 0; gpa = 0x80005000; va = 0; data_va = 0 }; left = 3 }) }) 0 1 1 0 0) ≡ error_answer 7
+  pub unload_of_none : answer (asks first 0 1 1 0 0) ≡ error_answer 3
   pub retire : pages_of (asks with_init 0 2 0 0 0) ≡ 0 ∷ []
   pub retire_twice : (asks (asks with_init 0 2 0 0 0) 0 2 0 0 0).journal.notes ≡ Retire 0 1 Success ∷ Retire 0 2 Already ∷ []
-  pub nothing_to_retire : answer (asks first 0 2 0 0 0) ≡ refused 3
+  pub nothing_to_retire : answer (asks first 0 2 0 0 0) ≡ error_answer 3

@@ -1,6 +1,6 @@
 -- Registers of the virtio block device, and beats of requests, a row for each line. This project's own.
 use Rattle.std.specs.Prelude.{◌≡◌, ℕ, List, [], ◌∷◌, ◌++◌, replicate, length, Option, None, Some, true, false}
-use Rattle.processor.specs.Bytes.{low_bytes, overwrite, padded, part, word}
+use Rattle.processor.specs.Bytes.{low_bytes, overwrite, with_padding, part, word}
 use Rattle.sv_types.specs.Clock.{clock_at_boot}
 use Rattle.sv_types.specs.declared.event.Event.TheVariants.{Beat}
 use Rattle.sv_types.specs.declared.event.Note.TheVariants.{Denied}
@@ -61,10 +61,10 @@ descriptor gpa len flags next = low_bytes 8 gpa ++ low_bytes 4 len ++ low_bytes 
 -- RAM with a request for the second sector in its second page: the table, the header, the byte of the result, the available
 -- ring; the used ring is empty
 abbrev pub queue_ram : (kind gpa flags : ℕ) → List ℕ
-queue_ram kind gpa flags = replicate 4096 0 ++ padded
-    (padded (descriptor 0x80001100 16 1 1 ++ descriptor gpa 512 flags 2 ++ descriptor 0x80001200 1 2 0) 256
-    ++ padded (low_bytes 8 kind ++ low_bytes 8 1) 256
-    ++ padded (170 ∷ []) 256
+queue_ram kind gpa flags = replicate 4096 0 ++ with_padding
+    (with_padding (descriptor 0x80001100 16 1 1 ++ descriptor gpa 512 flags 2 ++ descriptor 0x80001200 1 2 0) 256
+    ++ with_padding (low_bytes 8 kind ++ low_bytes 8 1) 256
+    ++ with_padding (170 ∷ []) 256
     ++ (0 ∷ 0 ∷ 1 ∷ 0 ∷ [])) 4096 ++ replicate 4096 5 ++ replicate 4096 0
 
 abbrev pub machine_with : (kind gpa flags : ℕ) → State
@@ -77,8 +77,8 @@ abbrev pub after_beats : State → ℕ → State
 after_beats r n = run r (replicate n Beat)
 
 -- data is read into the third page or into the first, which is approved, or is written from the third page
-abbrev pub read : ℕ → State
-read n = after_beats (machine_with 0 0x80002000 3) n
+abbrev pub after_read_beats : ℕ → State
+after_read_beats n = after_beats (machine_with 0 0x80002000 3) n
 
 abbrev pub read_into_text : ℕ → State
 read_into_text n = after_beats (machine_with 0 0x80000000 3) n
@@ -87,8 +87,8 @@ abbrev pub write : ℕ → State
 write n = after_beats (machine_with 1 0x80002000 1) n
 
 -- after the first beat the data's descriptor leads into the fourth page
-abbrev pub changed : ℕ → State
-changed n = after_beats (record (read 1) { ram = overwrite (read 1).ram 0x1010 (low_bytes 8 0x80003000) }) n
+abbrev pub after_change_beats : ℕ → State
+after_change_beats n = after_beats (record (after_read_beats 1) { ram = overwrite (after_read_beats 1).ram 0x1010 (low_bytes 8 0x80003000) }) n
 
 abbrev pub moves_in : Option Request → ℕ
 moves_in None = 0
@@ -113,23 +113,23 @@ pub record VirtioRows : Type 0 where
   pub reset_ends_use : value_at (after_stores at_reset (takes_offered ++ sets_queue 4 ++ record { offset = 0x070; value = 0 } ∷ [])) 0x044 ≡ Some 0
 
 pub record RequestRows : Type 0 where
-  pub accepted : moves_left (read 1).devices.disk ≡ 12
-  pub first_bytes : part (read 2).ram 0x2000 65 ≡ replicate 64 8 ++ (5 ∷ [])
-  pub data_read : part (read 9).ram 0x2000 513 ≡ replicate 512 8 ++ (5 ∷ [])
-  pub no_result_yet : word (read 9).ram 0x1200 1 ≡ 170
-  pub result : word (read 10).ram 0x1200 1 ≡ 0
+  pub accepted : moves_left (after_read_beats 1).devices.disk ≡ 12
+  pub first_bytes : part (after_read_beats 2).ram 0x2000 65 ≡ replicate 64 8 ++ (5 ∷ [])
+  pub data_read : part (after_read_beats 9).ram 0x2000 513 ≡ replicate 512 8 ++ (5 ∷ [])
+  pub no_result_yet : word (after_read_beats 9).ram 0x1200 1 ≡ 170
+  pub result : word (after_read_beats 10).ram 0x1200 1 ≡ 0
 
 pub record LastRows : Type 0 where
-  pub no_index_yet : word (read 12).ram 0x1402 2 ≡ 0
-  pub no_line_yet : external_line (read 12).devices 0 ≡ false
-  pub index : word (read 13).ram 0x1402 2 ≡ 1
-  pub written : word (read 13).ram 0x1408 4 ≡ 513
-  pub line : external_line (read 13).devices 0 ≡ true
+  pub no_index_yet : word (after_read_beats 12).ram 0x1402 2 ≡ 0
+  pub no_line_yet : external_line (after_read_beats 12).devices 0 ≡ false
+  pub index : word (after_read_beats 13).ram 0x1402 2 ≡ 1
+  pub written : word (after_read_beats 13).ram 0x1408 4 ≡ 513
+  pub line : external_line (after_read_beats 13).devices 0 ≡ true
   pub disk_written : part (disk_bytes (write 9).devices.disk) 511 513 ≡ 7 ∷ replicate 512 5
 
 pub record AttackRows : Type 0 where
-  pub changed_chain : part (changed 8).ram 0x2000 512 ≡ replicate 512 8
-  pub not_where_it_leads : part (changed 8).ram 0x3000 1 ≡ 0 ∷ []
+  pub changed_chain : part (after_change_beats 8).ram 0x2000 512 ≡ replicate 512 8
+  pub not_where_it_leads : part (after_change_beats 8).ram 0x3000 1 ≡ 0 ∷ []
   pub into_text : part (read_into_text 6).ram 0 4096 ≡ replicate 4096 0
   pub into_text_is_noted : (read_into_text 2).journal.notes ≡ Denied 0x80000000 ∷ []
   pub into_text_fails : word (read_into_text 3).ram 0x1200 1 ≡ 1

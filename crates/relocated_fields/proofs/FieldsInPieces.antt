@@ -11,9 +11,9 @@ use Rattle.sv_types.specs.declared.module.Bases.{Bases}
 use Rattle.sv_types.specs.declared.module.Site.{Site}
 use Rattle.sv_types.specs.declared.policy.Export.{Export}
 use Rattle.processor_laws.proofs.ByteLemmas.{length_low_bytes, length_write_word, word_in_front, word_behind, overwrite_in_front, overwrite_behind}
-use Rattle.reference.specs.Relocations.{field_of, field_bits, field_word, clear_field, masked, field_right, fields_right, site_value}
+use Rattle.reference.specs.Relocations.{field_of, field_bits, field_word, clear_field, masked_text, field_right, fields_right, site_value}
 use Rattle.relocated_fields.specs.Fields.{field_end, width_of}
-use Rattle.relocated_fields.specs.Pieces.{moved, piece_sites, IsAligned}
+use Rattle.relocated_fields.specs.Pieces.{site_from, piece_sites, IsAligned}
 use Rattle.relocated_fields.proofs.Sites.{ends_inside}
 use Rattle.relocated_fields.specs.Laws.{MaskLaw, RightLaw, cleared_from, right_from}
 use Rattle.sv_types.proofs.TruthValues.{and_swap}
@@ -21,7 +21,7 @@ use Rattle.sv_types.proofs.TruthValues.{and_swap}
 -- the sites from a byte on, their offsets counted from there
 unfoldable behind : ℕ → List Site → List Site
 behind first [] = []
-behind first (site ∷ sites) = if nat_le first site.offset then moved first site ∷ behind first sites else behind first sites
+behind first (site ∷ sites) = if nat_le first site.offset then site_from first site ∷ behind first sites else behind first sites
 
 -- what lies behind a part lies behind its start, and not in it
 past : (first size offset : ℕ) (p q : Bool) → nat_le first offset ≡ p → nat_lt (offset - first) size ≡ q → nat_le (first + size) offset ≡ (p && not q)
@@ -47,12 +47,12 @@ unfolding clear_field
 length_cleared piece site fits = length_write_word piece site.offset (width_of site) (value_cleared piece site) fits
 
 clear_behind : (first size : ℕ) (piece rest : List ℕ) (site : Site) → length piece ≡ size → first + size ≤ site.offset
-    → clear_field (piece ++ rest) (moved first site) ≡ piece ++ clear_field rest (moved (first + size) site)
+    → clear_field (piece ++ rest) (site_from first site) ≡ piece ++ clear_field rest (site_from (first + size) site)
 unfolding clear_field
 clear_behind first size piece rest site len low =
     let at : ℕ = site.offset - (first + size) in
     let place : site.offset - first ≡ length piece + at = omega arith in
-    let bytes : List ℕ = low_bytes (width_of site) (value_cleared rest (moved (first + size) site)) in
+    let bytes : List ℕ = low_bytes (width_of site) (value_cleared rest (site_from (first + size) site)) in
     ap (λ (n : ℕ). clear_field (piece ++ rest) (record site { offset = n })) place
     ∙ ap (λ (w : ℕ). write_word (piece ++ rest) (length piece + at) (width_of site) (without w (field_bits (field_of site.kind)))) (word_behind piece rest at (width_of site))
     ∙ overwrite_behind piece rest bytes at
@@ -63,7 +63,7 @@ unfolding field_right
 right_front exports bases piece rest site fits = rw (word_in_front piece rest site.offset (width_of site) fits) refl
 
 right_behind : (exports : List Export) (bases : Bases) (first size : ℕ) (piece rest : List ℕ) (site : Site) → length piece ≡ size → first + size ≤ site.offset
-    → field_right exports bases (piece ++ rest) (moved first site) ≡ field_right exports bases rest (moved (first + size) site)
+    → field_right exports bases (piece ++ rest) (site_from first site) ≡ field_right exports bases rest (site_from (first + size) site)
 unfolding field_right site_value
 right_behind exports bases first size piece rest site len low =
     let at : ℕ = site.offset - (first + size) in
@@ -80,24 +80,24 @@ record IsPart (first size : ℕ) (sites : List Site) : Type 0 where
 
 one_masked : (first size : ℕ) (piece rest : List ℕ) (site : Site) (sites : List Site) (p q : Bool) → nat_le first site.offset ≡ p → nat_lt (site.offset - first) size ≡ q
     → IsPart first size (site ∷ sites) → length piece ≡ size
-    → ((front : List ℕ) (back : List ℕ) → length front ≡ size → masked (front ++ back) (behind first sites) ≡ masked front (piece_sites first size sites) ++ masked back (behind (first + size) sites))
-    → masked (piece ++ rest) (behind first (site ∷ sites)) ≡ masked piece (piece_sites first size (site ∷ sites)) ++ masked rest (behind (first + size) (site ∷ sites))
-unfolding masked behind piece_sites
+    → ((front : List ℕ) (back : List ℕ) → length front ≡ size → masked_text (front ++ back) (behind first sites) ≡ masked_text front (piece_sites first size sites) ++ masked_text back (behind (first + size) sites))
+    → masked_text (piece ++ rest) (behind first (site ∷ sites)) ≡ masked_text piece (piece_sites first size (site ∷ sites)) ++ masked_text rest (behind (first + size) (site ∷ sites))
+unfolding masked_text behind piece_sites
 one_masked first size piece rest site sites false q e f part len again = rw (e, past first size site.offset false q e f) (again piece rest len)
 one_masked first size piece rest site sites true true e f part len again =
-    let ends : field_end (moved first site) ≤ size = ends_inside first size site (rw (e, f) refl) part.start part.whole (All-head IsAligned site sites part.aligned) in
-    let fits : field_end (moved first site) ≤ length piece = rw len ends in
+    let ends : field_end (site_from first site) ≤ size = ends_inside first size site (rw (e, f) refl) part.start part.whole (All-head IsAligned site sites part.aligned) in
+    let fits : field_end (site_from first site) ≤ length piece = rw len ends in
     rw (e, f, past first size site.offset true true e f)
-    (ap (λ (text : List ℕ). masked text (behind first sites)) (clear_front piece rest (moved first site) fits)
-    ∙ again (clear_field piece (moved first site)) rest (length_cleared piece (moved first site) fits ∙ len))
+    (ap (λ (text : List ℕ). masked_text text (behind first sites)) (clear_front piece rest (site_from first site) fits)
+    ∙ again (clear_field piece (site_from first site)) rest (length_cleared piece (site_from first site) fits ∙ len))
 one_masked first size piece rest site sites true false e f part len again =
     rw (e, f, past first size site.offset true false e f)
-    (ap (λ (text : List ℕ). masked text (behind first sites)) (clear_behind first size piece rest site len (grind (arith, nat_tests)))
-    ∙ again piece (clear_field rest (moved (first + size) site)) len)
+    (ap (λ (text : List ℕ). masked_text text (behind first sites)) (clear_behind first size piece rest site len (grind (arith, nat_tests)))
+    ∙ again piece (clear_field rest (site_from (first + size) site)) len)
 
 masked_parts : (first size : ℕ) (piece rest : List ℕ) (sites : List Site) → IsPart first size sites → length piece ≡ size
-    → masked (piece ++ rest) (behind first sites) ≡ masked piece (piece_sites first size sites) ++ masked rest (behind (first + size) sites)
-unfolding masked behind piece_sites
+    → masked_text (piece ++ rest) (behind first sites) ≡ masked_text piece (piece_sites first size sites) ++ masked_text rest (behind (first + size) sites)
+unfolding masked_text behind piece_sites
 masked_parts first size piece rest [] part len = refl
 masked_parts first size piece rest (site ∷ sites) part len =
     let left : IsPart first size sites = record { start = part.start; whole = part.whole; aligned = All-tail IsAligned site sites part.aligned } in
@@ -111,12 +111,12 @@ one_right : (exports : List Export) (bases : Bases) (first size : ℕ) (piece re
 unfolding fields_right behind piece_sites
 one_right exports bases first size piece rest site sites false q e f part len again = rw (e, past first size site.offset false q e f) again
 one_right exports bases first size piece rest site sites true true e f part len again =
-    let ends : field_end (moved first site) ≤ size = ends_inside first size site (rw (e, f) refl) part.start part.whole (All-head IsAligned site sites part.aligned) in
-    rw (e, f, past first size site.offset true true e f, right_front exports bases piece rest (moved first site) (rw len ends), again)
-    (sym (and_assoc (field_right exports bases piece (moved first site)) _ _))
+    let ends : field_end (site_from first site) ≤ size = ends_inside first size site (rw (e, f) refl) part.start part.whole (All-head IsAligned site sites part.aligned) in
+    rw (e, f, past first size site.offset true true e f, right_front exports bases piece rest (site_from first site) (rw len ends), again)
+    (sym (and_assoc (field_right exports bases piece (site_from first site)) _ _))
 one_right exports bases first size piece rest site sites true false e f part len again =
     rw (e, f, past first size site.offset true false e f, right_behind exports bases first size piece rest site len (grind (arith, nat_tests)), again)
-    (and_swap (field_right exports bases rest (moved (first + size) site)) _ _)
+    (and_swap (field_right exports bases rest (site_from (first + size) site)) _ _)
 
 right_parts : (exports : List Export) (bases : Bases) (first size : ℕ) (piece rest : List ℕ) (sites : List Site) → IsPart first size sites → length piece ≡ size
     → fields_right exports bases (behind first sites) (piece ++ rest) ≡ (fields_right exports bases (piece_sites first size sites) piece && fields_right exports bases (behind (first + size) sites) rest)
@@ -155,18 +155,18 @@ next : (first : ℕ) (piece : List ℕ) (pieces : List (List ℕ)) → first + l
 next first piece pieces = rw length-append (omega arith)
 
 masked_from : (first : ℕ) (pieces : List (List ℕ)) (sites : List Site) → first % 4096 ≡ 0 → All IsWhole pieces → All IsAligned sites → EndsAt (first + length (concat pieces)) sites
-    → concat (cleared_from first pieces sites) ≡ masked (concat pieces) (behind first sites)
-unfolding cleared_from masked
+    → concat (cleared_from first pieces sites) ≡ masked_text (concat pieces) (behind first sites)
+unfolding cleared_from masked_text
 masked_from first [] sites start whole aligned ends = rw (none_behind first sites (subst (λ (n : ℕ). EndsAt n sites) (omega arith) ends)) refl
 masked_from first (piece ∷ pieces) sites start whole aligned ends =
     let size : length piece % 4096 ≡ 0 = All-head IsWhole piece pieces whole in
     let rest = masked_from (first + length piece) pieces sites (omega arith) (All-tail IsWhole piece pieces whole) aligned (subst (λ (n : ℕ). EndsAt n sites) (next first piece pieces) ends) in
-    ap (◌++◌ (masked piece (piece_sites first (length piece) sites))) rest
+    ap (◌++◌ (masked_text piece (piece_sites first (length piece) sites))) rest
     ∙ sym (masked_parts first (length piece) piece (concat pieces) sites (record { start = start; whole = size; aligned = aligned }) refl)
 
 pub mask_law : MaskLaw
 mask_law pieces sites cut =
-    masked_from 0 pieces sites refl cut.pages cut.aligned (subst (λ (n : ℕ). EndsAt n sites) (omega arith) cut.inside) ∙ ap (masked (concat pieces)) (all_behind sites)
+    masked_from 0 pieces sites refl cut.pages cut.aligned (subst (λ (n : ℕ). EndsAt n sites) (omega arith) cut.inside) ∙ ap (masked_text (concat pieces)) (all_behind sites)
 
 rights_from : (exports : List Export) (bases : Bases) (first : ℕ) (pieces : List (List ℕ)) (sites : List Site) → first % 4096 ≡ 0 → All IsWhole pieces → All IsAligned sites → EndsAt (first + length (concat pieces)) sites
     → right_from exports bases first pieces sites ≡ fields_right exports bases (behind first sites) (concat pieces)

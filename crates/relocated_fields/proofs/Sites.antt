@@ -8,9 +8,9 @@ use Rattle.std.proofs.Math.ListN.{drop_of_length-le}
 use Rattle.sv_types.specs.declared.module.Bases.{Bases}
 use Rattle.sv_types.specs.declared.module.Site.{Site}
 use Rattle.sv_types.specs.declared.policy.Export.{Export}
-use Rattle.reference.specs.Relocations.{Field, DoubleWord, BField, JField, UField, IField, SField, field_of, field_width, clear_field, field_right, masked, fields_right}
+use Rattle.reference.specs.Relocations.{Field, DoubleWord, BField, JField, UField, IField, SField, field_of, field_width, clear_field, field_right, masked_text, fields_right}
 use Rattle.relocated_fields.specs.Fields.{field_end, width_of}
-use Rattle.relocated_fields.specs.Pieces.{lies_in, moved, piece_sites, IsAligned}
+use Rattle.relocated_fields.specs.Pieces.{lies_in, site_from, piece_sites, IsAligned}
 use Rattle.relocated_fields.specs.Steps.{cleared_in_piece, right_in_piece}
 
 width_cases : (field : Field) → (field_width field ≡ 8) ⊎ (field_width field ≡ 4)
@@ -34,19 +34,19 @@ ends_by first size offset width (inr four) inside start whole aligned =
     rw four (grind (arith, nat_tests))
 
 pub ends_inside : (first size : ℕ) (site : Site) → lies_in first size site ≡ true → first % 4096 ≡ 0 → size % 4096 ≡ 0 → IsAligned site
-    → field_end (moved first site) ≤ size
+    → field_end (site_from first site) ≤ size
 ends_inside first size site inside start whole aligned =
     ends_by first size site.offset (width_of site) (width_cases (field_of site.kind)) inside start whole aligned
 
 cleared_by : (first size : ℕ) (text : List ℕ) (site : Site) (rest : List Site) (b : Bool) → lies_in first size site ≡ b
-    → masked (if b then clear_field text (moved first site) else text) (piece_sites first size rest) ≡ masked text (piece_sites first size (site ∷ rest))
-unfolding masked piece_sites
+    → masked_text (if b then clear_field text (site_from first site) else text) (piece_sites first size rest) ≡ masked_text text (piece_sites first size (site ∷ rest))
+unfolding masked_text piece_sites
 cleared_by first size text site rest true e = rw e refl
 cleared_by first size text site rest false e = rw e refl
 
 judged_by : (exports : List Export) (bases : Bases) (first size : ℕ) (text : List ℕ) (site : Site) (rest : List Site) (b : Bool) → lies_in first size site ≡ b
     → fields_right exports bases (piece_sites first size (site ∷ rest)) text
-    ≡ ((if b then field_right exports bases text (moved first site) else true) && fields_right exports bases (piece_sites first size rest) text)
+    ≡ ((if b then field_right exports bases text (site_from first site) else true) && fields_right exports bases (piece_sites first size rest) text)
 unfolding fields_right piece_sites
 judged_by exports bases first size text site rest true e = rw e refl
 judged_by exports bases first size text site rest false e = rw e refl
@@ -56,10 +56,10 @@ front sites i d within = drop_more sites i d within
 
 -- the first of the sites that are left is cleared or judged, and then the rest
 pub one_cleared : (first : ℕ) (text : List ℕ) (sites : List Site) (i : ℕ) (d : Site) → i < length sites
-    → masked (cleared_in_piece first text (get_or sites i d)) (piece_sites first (length text) (drop (i + 1) sites)) ≡ masked text (piece_sites first (length text) (drop i sites))
+    → masked_text (cleared_in_piece first text (get_or sites i d)) (piece_sites first (length text) (drop (i + 1) sites)) ≡ masked_text text (piece_sites first (length text) (drop i sites))
 one_cleared first text sites i d within =
     cleared_by first (length text) text (get_or sites i d) (drop (i + 1) sites) (lies_in first (length text) (get_or sites i d)) refl
-    ∙ ap (λ (l : List Site). masked text (piece_sites first (length text) l)) (sym (front sites i d within))
+    ∙ ap (λ (l : List Site). masked_text text (piece_sites first (length text) l)) (sym (front sites i d within))
 
 pub one_judged : (exports : List Export) (bases : Bases) (first : ℕ) (text : List ℕ) (sites : List Site) (i : ℕ) (d : Site) → i < length sites
     → fields_right exports bases (piece_sites first (length text) (drop i sites)) text
@@ -68,8 +68,8 @@ one_judged exports bases first text sites i d within =
     ap (λ (l : List Site). fields_right exports bases (piece_sites first (length text) l) text) (front sites i d within)
     ∙ judged_by exports bases first (length text) text (get_or sites i d) (drop (i + 1) sites) (lies_in first (length text) (get_or sites i d)) refl
 
-pub none_cleared : (first size : ℕ) (text : List ℕ) (sites : List Site) (n : ℕ) → length sites ≤ n → masked text (piece_sites first size (drop n sites)) ≡ text
-unfolding masked piece_sites
+pub none_cleared : (first size : ℕ) (text : List ℕ) (sites : List Site) (n : ℕ) → length sites ≤ n → masked_text text (piece_sites first size (drop n sites)) ≡ text
+unfolding masked_text piece_sites
 none_cleared first size text sites n past = rw (drop_of_length-le sites past) refl
 
 pub none_judged : (exports : List Export) (bases : Bases) (first size : ℕ) (text : List ℕ) (sites : List Site) (n : ℕ) → length sites ≤ n

@@ -4,7 +4,7 @@ use Rattle.std.specs.List.{concat}
 use Rattle.sv_types.specs.declared.module.Bases.{Bases}
 use Rattle.sv_types.specs.declared.module.Site.{Site}
 use Rattle.sv_types.specs.declared.policy.Export.{Export}
-use Rattle.reference.specs.Relocations.{masked, fields_right}
+use Rattle.reference.specs.Relocations.{masked_text, fields_right}
 use Rattle.relocated_fields.specs.Pieces.{piece_sites, IsAligned}
 use Rattle.processor.specs.Bytes.{page_size}
 
@@ -18,7 +18,7 @@ pub record IsCut (pieces : List (List ℕ)) (sites : List Site) : Type 0 where
 unfoldable pub cleared_from : (first : ℕ) → List (List ℕ) → List Site → List (List ℕ)
 cleared_from first [] sites = []
 cleared_from first (piece ∷ pieces) sites =
-    masked piece (piece_sites first (length piece) sites) ∷ cleared_from (first + length piece) pieces sites
+    masked_text piece (piece_sites first (length piece) sites) ∷ cleared_from (first + length piece) pieces sites
 
 -- the fields of each piece from the byte `first` on are right
 unfoldable pub right_from : List Export → Bases → (first : ℕ) → List (List ℕ) → List Site → Bool
@@ -28,7 +28,7 @@ right_from exports bases first (piece ∷ pieces) sites =
 
 -- the cleared pieces, one behind the other, are the cleared text
 abbrev pub MaskLaw : Type 0
-MaskLaw = (pieces : List (List ℕ)) (sites : List Site) → IsCut pieces sites → concat (cleared_from 0 pieces sites) ≡ masked (concat pieces) sites
+MaskLaw = (pieces : List (List ℕ)) (sites : List Site) → IsCut pieces sites → concat (cleared_from 0 pieces sites) ≡ masked_text (concat pieces) sites
 
 -- all fields of the text are right exactly where those of each piece are
 abbrev pub RightLaw : Type 0

@@ -8,13 +8,13 @@ abbrev pub lies_in : (first size : ℕ) → Site → Bool
 lies_in first size site = nat_le first site.offset && nat_lt (site.offset - first) size
 
 -- the site, with its offset counted from there
-abbrev pub moved : ℕ → Site → Site
-moved first site = record site { offset = site.offset - first }
+abbrev pub site_from : ℕ → Site → Site
+site_from first site = record site { offset = site.offset - first }
 
 -- the sites of a piece, in their order
 unfoldable pub piece_sites : (first size : ℕ) → List Site → List Site
 piece_sites first size [] = []
-piece_sites first size (site ∷ sites) = if lies_in first size site then moved first site ∷ piece_sites first size sites else piece_sites first size sites
+piece_sites first size (site ∷ sites) = if lies_in first size site then site_from first site ∷ piece_sites first size sites else piece_sites first size sites
 
 -- the field's place is a multiple of its bytes
 abbrev pub IsAligned : Site → Type 0

@@ -3,7 +3,7 @@
 ghost use Rattle.std.specs.Prelude.{◌≡◌, ◌%◌, ◌≤◌, length, All};
 ghost use Rattle.processor.specs.Bytes.{page_size};
 ghost use Rattle.reference.specs.Relocations as spec;
-ghost use Rattle.relocated_fields.specs.Pieces.{lies_in, moved, piece_sites, IsAligned};
+ghost use Rattle.relocated_fields.specs.Pieces.{lies_in, site_from, piece_sites, IsAligned};
 ghost use Rattle.relocated_fields.specs.Steps.{cleared_in_piece, right_in_piece};
 ghost use Rattle.relocated_fields.specs.Fields.{field_end};
 
@@ -22,7 +22,7 @@ fn lies_in(first: u32, size: usize, site: &Site) -> bool
 // The site as the piece at `first` has it.
 fn moved(first: u32, site: &Site) -> Site
     requires { first ≤ site.now.offset }
-    ensures { result ≡ moved first site.now }
+    ensures { result ≡ site_from first site.now }
 {
     Site {
         offset: site.offset - first,
@@ -85,7 +85,7 @@ pub fn mask(text: &mut [u8], first: u32, sites: &[Site])
     requires pages { length text.old % page_size ≡ 0 }
     requires start { first % page_size ≡ 0 }
     requires aligned { All IsAligned sites.now }
-    ensures { text.new ≡ spec.masked text.old (piece_sites first (length text.old) sites.now) }
+    ensures { text.new ≡ spec.masked_text text.old (piece_sites first (length text.old) sites.now) }
 {
     'sites: for site in sites {
         clear_in_piece(text, first, site);

@@ -13,7 +13,7 @@ use Rattle.resumption.specs.Judgements.{resume_refusal}
 use Rattle.resumption.specs.ResumedStates.{resumed_state}
 use Rattle.resumption.specs.declared.refusal.ResumeRefusal.{ResumeRefusal}
 use Rattle.secvisor_cli.specs.Answers.{Outside, outside, Performs}
-use Rattle.outside.specs.Endings.{settled}
+use Rattle.outside.specs.Endings.{status_of_end}
 use Rattle.secvisor_cli.specs.Plans.{Plan, found_plan, policy_part, status_due}
 use Rattle.secvisor_cli.specs.declared.refusal.Refusal.{Refusal}
 use Rattle.outside.specs.declared.trouble.Trouble.{Trouble}
@@ -66,6 +66,6 @@ plan_faults (Ok words) is = words_faults words
 plan_faults (Err refusal) is = is
 
 pub resume_fault : (words : List (List ℕ)) (old new : Outside) (result : Result Status Trouble) → Performs (resume_plan (resume_judged words)) old new result →
-    settled result ≡ Status.ReadFault → HasFault (resume_plan (resume_judged words)) old.files new.files
+    status_of_end result ≡ Status.ReadFault → HasFault (resume_plan (resume_judged words)) old.files new.files
 resume_fault words old new result p is =
     plan_fault (resume_plan (resume_judged words)) old new result (plan_faults (resume_judged words) (resume_no_read_fault words)) p is

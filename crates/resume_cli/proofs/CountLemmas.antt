@@ -9,7 +9,7 @@ use Rattle.snapshot_form.specs.Forms.{is_word}
 use Rattle.snapshot_form.specs.HartForms.{harts}
 use Rattle.snapshot_form.specs.JournalForms.{count, event_counts, hart_counts, rule_counts, counts, journal}
 use Rattle.snapshot_form.specs.PageForms.{pages, gate}
-use Rattle.snapshot_form.specs.Snapshots.{Contents, beginning, events_made, magic, header, body, whole_header, whole_body, snapshot}
+use Rattle.snapshot_form.specs.Snapshots.{Contents, magic_form, events_made, magic, header, body, whole_header, whole_body, snapshot}
 use Rattle.snapshot_form.proofs.FormLaws.{first_true, second_true}
 use Rattle.resume_laws.proofs.FormParts.{most_is}
 use Rattle.machine.proofs.Repeated.{counts_within}
@@ -59,7 +59,7 @@ counted s h =
     let h0 = whole_header s in
     let b = whole_body s in
     let head = first_true (header.has h0) ((body h0).has b) h in
-    let events = first_true (events_made.has h0.events) _ (second_true (beginning.has magic) _ head) in
+    let events = first_true (events_made.has h0.events) _ (second_true (magic_form.has magic) _ head) in
     let few = most_is h0.events most_events (second_true (is_word h0.events) (nat_le h0.events most_events) events) in
     let whole = second_true (header.has h0) ((body h0).has b) h in
     let behind = second_true ((harts h0.ram_pages h0.harts).has b.0) _ whole in

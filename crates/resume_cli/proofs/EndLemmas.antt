@@ -7,7 +7,7 @@ use Rattle.policy.specs.Refusals.{Judged}
 use Rattle.policy.specs.Text.{rules_of_text}
 use Rattle.script.specs.AutoScripts.{events_of_text, first_refused}
 use Rattle.sv_types.specs.Steps.{◌>>=◌}
-use Rattle.snapshot_form.specs.Snapshots.{Contents, ended, most_snapshot_bytes, snapshot, snapshot_read}
+use Rattle.snapshot_form.specs.Snapshots.{Contents, if_at_end, most_snapshot_bytes, snapshot, snapshot_read}
 use Rattle.snapshot_form.specs.declared.refusal.SnapRefusal.{SnapRefusal}
 use Rattle.snapshot_form.specs.declared.refusal.SnapRefusal.TheVariants.{TooLong}
 use Rattle.resumption.specs.ResumedStates.{resumed_state}
@@ -33,7 +33,7 @@ few_by false read s is = refl
 snapshot_few : (bytes : List ℕ) (s : Contents) → snapshot_read bytes ≡ Ok s → length bytes ≤ most_snapshot_bytes
 unfolding snapshot_read
 snapshot_few bytes s is =
-    let few : nat_lt most_snapshot_bytes (length bytes) ≡ false = few_by (nat_lt most_snapshot_bytes (length bytes)) (snapshot.taken bytes >>= ended) s is in
+    let few : nat_lt most_snapshot_bytes (length bytes) ≡ false = few_by (nat_lt most_snapshot_bytes (length bytes)) (snapshot.taken bytes >>= if_at_end) s is in
     grind (arith, nat_tests)
 
 -- ---- what is due

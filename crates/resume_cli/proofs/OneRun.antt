@@ -8,7 +8,7 @@ use Rattle.reference.specs.States.{State}
 use Rattle.saved_machine.specs.SavedStates.{IsSaved}
 use Rattle.snapshot_form.specs.Snapshots.{contents}
 use Rattle.resumption.specs.ResumedStates.{resumed_state}
-use Rattle.resume_laws.specs.Continues.{Continues, drawn}
+use Rattle.resume_laws.specs.Continues.{Continues, draw_count}
 use Rattle.resumed_start.proofs.SnapHolds.{snap_continues_law}
 use Rattle.resume_cli.specs.SnapAndResume.{IsOneRun, SnapAndResumeLaw}
 
@@ -24,11 +24,11 @@ first_of_first (suc k) zero script few = absurd (omega (arith, few))
 first_of_first (suc k) (suc n) script few =
     begun_take (next_event script) k (first_events n (after_event script)) (first_events k (after_event script)) (first_of_first k n (after_event script) (omega (arith, few)))
 
-one_run : (start resumed : State) (script : Schedule) (k made events : ℕ) (front : List Event) → front ≡ first_events k script → made ≡ drawn start front
+one_run : (start resumed : State) (script : Schedule) (k made events : ℕ) (front : List Event) → front ≡ first_events k script → made ≡ draw_count start front
     → front ≡ take k (first_events events script) → Continues start k (first_events events script) resumed → IsOneRun start script k made events resumed
 one_run start resumed script k made events front is drawn_is taken continues =
-    let draws : made ≡ drawn start (take k (first_events events script)) = drawn_is ∙ ap (drawn start) taken in
-    let left : drop made (first_events events script) ≡ drop (drawn start (take k (first_events events script))) (first_events events script)
+    let draws : made ≡ draw_count start (take k (first_events events script)) = drawn_is ∙ ap (draw_count start) taken in
+    let left : drop made (first_events events script) ≡ drop (draw_count start (take k (first_events events script))) (first_events events script)
     = ap (λ (n : ℕ). drop n (first_events events script)) draws in
     let fronts : first_events k script ≡ take k (first_events events script) = sym is ∙ taken in
     record {

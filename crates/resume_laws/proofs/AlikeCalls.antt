@@ -4,7 +4,7 @@ use Rattle.std.specs.Prelude.{Option, Some, None, if◌then◌else◌}
 use Rattle.processor.specs.Bytes.{page_bytes}
 use Rattle.sv_types.specs.ApprovedPages.{approved_bytes, approved_pages}
 use Rattle.reference.specs.States.{Hart, Loading, has_number, module_pages, without_pages}
-use Rattle.reference.specs.Answers.{pages_beside, journal_beside, devices_beside, harts_beside, answered, call, init_text}
+use Rattle.reference.specs.Answers.{pages_beside, journal_beside, devices_beside, harts_beside, state_after_answer, call, init_text}
 use Rattle.reference.specs.Calls.{Facts, asked_by, facts_of}
 use Rattle.reference.specs.Loads.{is_good, decide, load_step_of}
 use Rattle.reference.specs.ModuleCalls.{answer_of, load_decision}
@@ -33,11 +33,11 @@ fewer_same x pages page =
 
 -- ---- answers
 
-abbrev replying : Reply → Beside → Answer
-replying reply beside = record { reply = reply; beside = beside }
+abbrev answer_with : Reply → Beside → Answer
+answer_with reply beside = record { reply = reply; beside = beside }
 
-beside_alike : (x : Twins) (h : ℕ) (hart : Hart) (reply : Reply) (b : Beside) → AlikeAfter x (λ r. answered r h hart (replying reply b))
-unfolding answered pages_beside journal_beside devices_beside harts_beside
+beside_alike : (x : Twins) (h : ℕ) (hart : Hart) (reply : Reply) (b : Beside) → AlikeAfter x (λ r. state_after_answer r h hart (answer_with reply b))
+unfolding state_after_answer pages_beside journal_beside devices_beside harts_beside
 beside_alike x h hart reply Nothing = record { approved = x.same; printed = x.before; rest = refl }
 beside_alike x h hart reply (SetsTimer at) = record { approved = x.same; printed = x.before; rest = refl }
 beside_alike x h hart reply (Prints byte) = record { approved = x.same; printed = printed_one x (byte % 256); rest = refl }
@@ -54,7 +54,7 @@ beside_alike x h hart reply (RefusesUnload id how) = record { approved = x.same;
 beside_alike x h hart reply (RetiresInit span) = record { approved = fewer_same x (init_text x.r span); printed = x.before; rest = refl }
 beside_alike x h hart reply (RefusesRetire how) = record { approved = x.same; printed = x.before; rest = refl }
 
-answered_alike : (x : Twins) (h : ℕ) (hart : Hart) (answer : Answer) → AlikeAfter x (λ r. answered r h hart answer)
+answered_alike : (x : Twins) (h : ℕ) (hart : Hart) (answer : Answer) → AlikeAfter x (λ r. state_after_answer r h hart answer)
 answered_alike x h hart answer = beside_alike x h hart answer.reply answer.beside
 
 -- ---- calls
@@ -65,7 +65,7 @@ facts_same x = ap (λ (protected : ℕ → Bool). record (facts_of x.r) { protec
 pub call_alike : (x : Twins) (h : ℕ) (hart : Hart) → AlikeAfter x (λ r. call r h hart)
 call_alike x h hart =
     subst
-    (λ (facts : Facts). Alike x.front (call x.r h hart) (answered (second x) h hart (answer_of facts (asked_by hart.registers))))
+    (λ (facts : Facts). Alike x.front (call x.r h hart) (state_after_answer (second x) h hart (answer_of facts (asked_by hart.registers))))
     (sym (facts_same x)) (answered_alike x h hart (answer_of (facts_of x.r) (asked_by hart.registers)))
 
 -- ---- a load under way

@@ -5,7 +5,7 @@ use mathlib.Core.Path.{fun_ext}
 use Rattle.sv_types.specs.ApprovedPages.{ApprovedPage, approved_bytes}
 use Rattle.processor.specs.Bytes.{ram_place}
 use Rattle.processor.specs.Causes.{cause_number}
-use Rattle.sv_types.specs.Console.{stored}
+use Rattle.sv_types.specs.Console.{stored_byte}
 use Rattle.processor.specs.Requests.{covers}
 use Rattle.processor.specs.Traps.{trap_target}
 use Rattle.processor.specs.declared.cause.Cause.{Cause}
@@ -113,7 +113,7 @@ disk_store_alike x h hart address (Some disk) = record { approved = x.same; prin
 port_store_alike : (x : Twins) (h : ℕ) (hart : Hart) (address : ℕ) (port : Port) (width value : ℕ)
     → AlikeAfter x (λ r. carry_out_device_store r h hart address (port_store r.devices r.journal port width value))
 unfolding port_store carry_out_device_store
-port_store_alike x h hart address (ConsoleAt offset) width value = console_store_alike x h hart address (stored offset width value)
+port_store_alike x h hart address (ConsoleAt offset) width value = console_store_alike x h hart address (stored_byte offset width value)
 port_store_alike x h hart address (DiskAt offset) width value = disk_store_alike x h hart address (disk_store x.r.devices.disk offset width value)
 port_store_alike x h hart address Nowhere width value = exception_alike x h hart Cause.StoreAccess address
 

@@ -18,7 +18,7 @@ use Rattle.sv_types.specs.declared.event.Event.TheVariants.{Turn, Beat, Key, Tic
 use Rattle.sv_types.specs.declared.event.Verdict.{Verdict}
 use Rattle.sv_types.specs.declared.event.Verdict.TheVariants.{Running, Shutdown, Stopped}
 use Rattle.reference.specs.States.{State, Hart, Loading, is_protected, Binding}
-use Rattle.reference.specs.Counting.{counted, count, count_dropped, count_turn, count_beat, count_key, count_tick}
+use Rattle.reference.specs.Counting.{with_count, count, count_dropped, count_turn, count_beat, count_key, count_tick}
 use Rattle.reference.specs.Disk.{Beaten, disk_beat}
 use Rattle.reference.specs.Move.{Move, Idle, FromRam, IntoRam, DeniedAt, OutsideRam}
 use Rattle.reference.specs.Devices.{lines_at, with_disk, with_bytes, after_move, after_beaten, beat, key, tick}
@@ -193,7 +193,7 @@ beat_alike x =
 keyed_alike : (x : Twins) (byte : ℕ) (room : Bool)
     → AlikeAfter x (λ r. record r {
       devices = record r.devices { console = after_key r.devices.console byte };
-      journal = if room then r.journal else counted count_dropped r.journal;
+      journal = if room then r.journal else with_count count_dropped r.journal;
     })
 keyed_alike x byte true = record { approved = x.same; printed = x.before; rest = refl }
 keyed_alike x byte false = record { approved = x.same; printed = x.before; rest = refl }

@@ -9,7 +9,7 @@ use Rattle.reference.specs.Report.{output, report}
 use Rattle.reference.specs.Run.{step, run, HasEnded}
 use Rattle.reference.proofs.Runs.{ended_stays, steps_nowhere}
 use Rattle.resume_laws.proofs.AlikeSteps.{alike_law}
-use Rattle.resume_laws.specs.Continues.{Alike, drawn_under, drawn, ContinuesLaw}
+use Rattle.resume_laws.specs.Continues.{Alike, drawn_under, draw_count, ContinuesLaw}
 
 -- no run tells them apart
 run_alike : (front : List ℕ) (r next : State) (events : List Event) → Alike front r next → Alike front (run r events) (run next events)
@@ -18,8 +18,8 @@ run_alike front r next (e ∷ events) alike = run_alike front (step r e) (step n
 
 -- the events that are left, made by the state behind the first ones
 goes_on_by : (verdict : Verdict) (s : State) (k : ℕ) (e : Event) (events : List Event) → s.journal.verdict ≡ verdict
-    → run (run (step s e) (take k events)) (drop (drawn (step s e) (take k events)) events) ≡ run (step s e) events
-    → run (run (step s e) (take k events)) (drop (drawn_under verdict suc (drawn (step s e) (take k events))) (e ∷ events)) ≡ run (step s e) events
+    → run (run (step s e) (take k events)) (drop (draw_count (step s e) (take k events)) events) ≡ run (step s e) events
+    → run (run (step s e) (take k events)) (drop (drawn_under verdict suc (draw_count (step s e) (take k events))) (e ∷ events)) ≡ run (step s e) events
 unfolding drawn_under
 goes_on_by Running s k e events is rest = rest
 goes_on_by Shutdown s k e events is rest =
@@ -31,8 +31,8 @@ goes_on_by (Stopped rule h at) s k e events is rest =
     let same = steps_nowhere s e ended in
     rw (same, ended_stays s (take k events) ended, same) refl
 
-goes_on : (s : State) (k : ℕ) (events : List Event) → run (run s (take k events)) (drop (drawn s (take k events)) events) ≡ run s events
-unfolding drawn
+goes_on : (s : State) (k : ℕ) (events : List Event) → run (run s (take k events)) (drop (draw_count s (take k events)) events) ≡ run s events
+unfolding draw_count
 goes_on s zero events = refl
 goes_on s (suc k) [] = refl
 goes_on s (suc k) (e ∷ events) = goes_on_by s.journal.verdict s k e events refl (goes_on (step s e) k events)
@@ -50,7 +50,7 @@ continues front last other alike =
 pub continues_law : ContinuesLaw
 continues_law s k events resumed none alike =
     let saved : State = run s (take k events) in
-    let left : List Event = drop (drawn s (take k events)) events in
+    let left : List Event = drop (draw_count s (take k events)) events in
     let front : List ℕ = saved.journal.printed in
     let far : Alike front (run saved left) (run resumed left) = run_alike front saved resumed left alike in
     let whole : Alike front (run s events) (run resumed left) = subst (λ (last : State). Alike front last (run resumed left)) (goes_on s k events) far in

@@ -9,12 +9,12 @@ use Rattle.sv_types.specs.declared.block.BlockCommand.{BlockCommand}
 use Rattle.sv_types.specs.declared.block.BlockState.{BlockState}
 use Rattle.sv_types.specs.declared.block.BlockStatus.{BlockStatus}
 use Rattle.reference.specs.BlockDisk.{beat_size, beats_done, is_busy, is_under_way, sector_size}
-use Rattle.snapshot_form.specs.DeviceForms.{block, block_in, console, devices, disk, port, sectors, standing, transfer}
+use Rattle.snapshot_form.specs.DeviceForms.{block, block_in, console, devices, disk, port, sectors, standing_status, transfer}
 use Rattle.snapshot_form.specs.Forms.{is_word}
 use Rattle.snapshot_form.specs.HartForms.{flag, harts}
 use Rattle.snapshot_form.specs.JournalForms.{counts, notes, verdict, journal}
-use Rattle.snapshot_form.specs.PageForms.{protections, text, pages, modules, loading, gate}
-use Rattle.snapshot_form.specs.Snapshots.{Contents, beginning, events_made, hart_count, magic, header, body, whole_header, whole_body, snapshot}
+use Rattle.snapshot_form.specs.PageForms.{protections, text, pages, modules, load_under_way, gate}
+use Rattle.snapshot_form.specs.Snapshots.{Contents, magic_form, events_made, hart_count, magic, header, body, whole_header, whole_body, snapshot}
 use Rattle.snapshot_form.proofs.FormLaws.{first_true, second_true}
 
 -- the parts of a snapshot have their forms
@@ -23,7 +23,7 @@ pub record HasParts (s : Contents) : Type 0 where
   pub harts : (harts (length s.protection) (length s.harts)).has s.harts ≡ true
   pub text : (text (length s.protection)).has s.text ≡ true
   pub modules : modules.has s.modules ≡ true
-  pub loading : (loading s.harts).has s.loading ≡ true
+  pub loading : (load_under_way s.harts).has s.loading ≡ true
   pub devices : devices.has (s.console, (s.port, s.disk)) ≡ true
   pub console : console.has s.console ≡ true
   pub port : port.has s.port ≡ true
@@ -49,7 +49,7 @@ parts_of s h =
     let blocks = second_true (console.has s.console) _ device_parts in
     let notes_on = second_true ((counts h0.events).has s.counts) _ journal_parts in
     let head = first_true (header.has h0) ((body h0).has b) h in
-    let head_events = second_true (beginning.has magic) _ head in
+    let head_events = second_true (magic_form.has magic) _ head in
     let head_harts = second_true (events_made.has h0.events) _ head_events in
     let hart_part = first_true (hart_count.has h0.harts) _ head_harts in
     record {
@@ -108,8 +108,8 @@ pub record UnderWay (gpa count : ℕ) (status : BlockStatus) : Type 0 where
   pub aligned : gpa % beat_size ≡ 0
   pub left : beat_size * beats_done status < sector_size * count
 
-standing_goes : (gpa count : ℕ) (status : BlockStatus) → (standing gpa count).has status ≡ true → is_under_way status ≡ true → UnderWay gpa count status
-unfolding standing transfer
+standing_goes : (gpa count : ℕ) (status : BlockStatus) → (standing_status gpa count).has status ≡ true → is_under_way status ≡ true → UnderWay gpa count status
+unfolding standing_status transfer
 standing_goes gpa count BlockStatus.Idle h busy = absurd cc
 standing_goes gpa count (BlockStatus.Busy BlockCommand.DiskToMemory done) h busy =
     let begun = second_true (nat_lt 0 count) _ (first_true (nat_lt 0 count && gpa % beat_size == 0) _ h) in

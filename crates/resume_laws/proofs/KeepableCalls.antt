@@ -18,9 +18,9 @@ use Rattle.sv_types.specs.declared.module.Span.{Span}
 use Rattle.sv_types.specs.declared.saved.SavedModule.{SavedModule}
 use Rattle.sv_types.specs.declared.sbi.SbiCode.{SbiCode}
 use Rattle.sv_types.specs.declared.sbi.SbiCode.TheVariants.{Success, RefusedByMeasure}
-use Rattle.reference.specs.Answers.{replied, devices_beside, journal_beside, pages_beside, harts_beside, answered, call, count_answer}
+use Rattle.reference.specs.Answers.{with_reply, devices_beside, journal_beside, pages_beside, harts_beside, state_after_answer, call, count_answer}
 use Rattle.reference.specs.Calls.{Asked, Facts, facts_of, asked_by, extension_of, mask_exists, mask_names, started_hart, hart_at, registers_at_boot, timer_call, ipi_call, start_other, hart_call, reset_call}
-use Rattle.reference.specs.Counting.{counted, noted, count_load, count_unload, count_refused}
+use Rattle.reference.specs.Counting.{with_count, with_note, count_load, count_unload, count_refused}
 use Rattle.reference.specs.Loads.{is_good, decide}
 use Rattle.reference.specs.ModuleCalls.{good_address, load_call, load_decision, unload_call, retire_call, module_call, answer_by, answer_of}
 use Rattle.reference.specs.States.{State, Hart, Devices, Journal, Loading, find_module, has_number}
@@ -122,8 +122,8 @@ answer_begins f ask _ = tt
 
 -- ---- the parts after an answer
 
-replied_kept : (size : ℕ) (reply : Reply) (hart : Hart) → IsKeepableHart size hart → IsKeepableHart size (replied reply hart)
-unfolding replied
+replied_kept : (size : ℕ) (reply : Reply) (hart : Hart) → IsKeepableHart size hart → IsKeepableHart size (with_reply reply hart)
+unfolding with_reply
 replied_kept size (Gives a0) hart k = record { zero = zero_stays hart.registers 10 a0 k.zero; reservation = tt }
 replied_kept size (Replies a0 a1) hart k =
     record { zero = zero_stays (set_register hart.registers 10 a0) 11 a1 (zero_stays hart.registers 10 a0 k.zero); reservation = tt }
@@ -151,7 +151,7 @@ abbrev KeptBy : ℕ → Journal → Type 0
 KeptBy harts j = IsKeepableJournal harts j.notes j.counts.notes j.verdict
 
 note_kept : (harts : ℕ) (j : Journal) (count : Counts → Counts) (note : Note) → (count j.counts).notes ≡ j.counts.notes → KeptBy harts j → IsKeepableNote harts note
-    → KeptBy harts (noted note (counted count j))
+    → KeptBy harts (with_note note (with_count count j))
 note_kept harts j count note same k one =
     journal_noted harts j.notes (count j.counts).notes j.verdict note (subst (λ (all : ℕ). IsKeepableJournal harts j.notes all j.verdict) (sym same) k) one
 
@@ -198,25 +198,25 @@ modules_kept r h reply _ begins all = all
 
 -- the load under way after a call of another hart, or with the hart whose load begins
 load_begins_at : (r : State) (h : ℕ) (hart : Hart) (reply : Reply) (m : SavedModule) (pages : ℕ) → Moving r h hart → hart.started ≡ true → hart.mode ≡ Kernel
-    → m.va % page_size ≡ 0 → reply ≡ Stays → MayGoOn (slice_set r.harts h (replied reply hart)) (record { hart = h; about = m; left = pages })
-unfolding replied
+    → m.va % page_size ≡ 0 → reply ≡ Stays → MayGoOn (slice_set r.harts h (with_reply reply hart)) (record { hart = h; about = m; left = pages })
+unfolding with_reply
 load_begins_at r h hart reply m pages moving on kernel aligned stays =
-    subst (λ (how : Reply). MayGoOn (slice_set r.harts h (replied how hart)) (record { hart = h; about = m; left = pages })) (sym stays)
-    (record { hart = replied Stays hart; found = get_back r.harts h hart (replied Stays hart) moving.found; started = on; mode = kernel; aligned = aligned })
+    subst (λ (how : Reply). MayGoOn (slice_set r.harts h (with_reply how hart)) (record { hart = h; about = m; left = pages })) (sym stays)
+    (record { hart = with_reply Stays hart; found = get_back r.harts h hart (with_reply Stays hart) moving.found; started = on; mode = kernel; aligned = aligned })
 
 load_kept : (r : State) (h : ℕ) (hart : Hart) (reply : Reply) (b : Beside) → Moving r h hart → hart.started ≡ true → hart.mode ≡ Kernel → MayBeside r b → Begins reply b
-    → IsKeepableLoad (harts_beside b (slice_set r.harts h (replied reply hart))) (pages_beside b h r).loading
+    → IsKeepableLoad (harts_beside b (slice_set r.harts h (with_reply reply hart))) (pages_beside b h r).loading
 unfolding harts_beside pages_beside
 load_kept r h hart reply (BeginsLoad m pages) moving on kernel may begins = load_begins_at r h hart reply m pages moving on kernel begins.0 begins.1
 load_kept r h hart reply (ApprovesModule m) moving on kernel may begins = tt
 load_kept r h hart reply (ReleasesModule m) moving on kernel may begins = tt
 load_kept r h hart reply (SendsInterrupts mask base) moving on kernel may begins =
-    load_interrupted (mask_names mask base) (slice_set r.harts h (replied reply hart)) r.loading
-    (load_beside r.harts h (replied reply hart) r.loading moving.free moving.keepable.load)
+    load_interrupted (mask_names mask base) (slice_set r.harts h (with_reply reply hart)) r.loading
+    (load_beside r.harts h (with_reply reply hart) r.loading moving.free moving.keepable.load)
 load_kept r h hart reply (StartsHart other pc opaque) moving on kernel may begins =
-    load_begun r.harts (slice_set r.harts h (replied reply hart)) other (started_hart other pc opaque) r.loading may.0 moving.keepable.load
-    (load_beside r.harts h (replied reply hart) r.loading moving.free moving.keepable.load)
-load_kept r h hart reply _ moving on kernel may begins = load_beside r.harts h (replied reply hart) r.loading moving.free moving.keepable.load
+    load_begun r.harts (slice_set r.harts h (with_reply reply hart)) other (started_hart other pc opaque) r.loading may.0 moving.keepable.load
+    (load_beside r.harts h (with_reply reply hart) r.loading moving.free moving.keepable.load)
+load_kept r h hart reply _ moving on kernel may begins = load_beside r.harts h (with_reply reply hart) r.loading moving.free moving.keepable.load
 
 -- ---- each answer
 
@@ -231,12 +231,12 @@ record_kept r _ h harts d j all journal clock console modules load text =
     record { harts = all; journal = journal; clock = clock; console = console; modules = modules; load = load; text = text }
 
 answered_keeps : (r : State) (h : ℕ) (hart : Hart) (a : Answer) → IsKeepable r → length r.harts ≡ r.rules.harts → h < r.rules.harts → IsKeepableHart (ram_size r.rules) hart
-    → MayBeside r a.beside → Begins a.reply a.beside → IsKeepableLoad (harts_beside a.beside (slice_set r.harts h (replied a.reply hart))) (pages_beside a.beside h r).loading
-    → IsKeepable (answered r h hart a)
-unfolding answered
+    → MayBeside r a.beside → Begins a.reply a.beside → IsKeepableLoad (harts_beside a.beside (slice_set r.harts h (with_reply a.reply hart))) (pages_beside a.beside h r).loading
+    → IsKeepable (state_after_answer r h hart a)
+unfolding state_after_answer
 answered_keeps r h hart a k number there one may begins load =
     record_kept r a.beside h _ (devices_beside a.beside h r.devices) (journal_beside a.beside h r.journal)
-    (harts_kept (ram_size r.rules) a.beside _ (are_set (ram_size r.rules) r.harts h (replied a.reply hart) k.harts (replied_kept (ram_size r.rules) a.reply hart one)))
+    (harts_kept (ram_size r.rules) a.beside _ (are_set (ram_size r.rules) r.harts h (with_reply a.reply hart) k.harts (replied_kept (ram_size r.rules) a.reply hart one)))
     (journal_kept r.rules.harts a.beside h r.journal there k.journal)
     (clock_kept r a.beside h there number may k.clock)
     (console_kept a.beside h r.devices k.console)
@@ -264,7 +264,7 @@ loading_is : (r : State) (load : Loading) → r.loading ≡ Some load → IsKeep
 loading_is r load under k = subst (IsKeepableLoad r.harts) under k.load
 
 decision_by : (r : State) (h : ℕ) (hart : Hart) (load : Loading) (good : Bool) → Loads r h hart load → MayBeside r (load_decision good load.about).beside
-    → IsKeepable (answered r h hart (load_decision good load.about))
+    → IsKeepable (state_after_answer r h hart (load_decision good load.about))
 unfolding pages_beside
 decision_by r h hart load true l may =
     answered_keeps r h hart (load_decision true load.about) l.keepable l.number l.there l.one may (loading_is r load l.under l.keepable).aligned tt

@@ -12,12 +12,12 @@ use Rattle.sv_types.specs.Clock.{Clock, with_timer}
 use Rattle.sv_types.specs.declared.event.Note.{Note}
 use Rattle.sv_types.specs.declared.event.Verdict.{Verdict}
 use Rattle.sv_types.specs.declared.saved.SavedModule.{SavedModule}
-use Rattle.reference.specs.Calls.{interrupted}
+use Rattle.reference.specs.Calls.{interrupt_harts}
 use Rattle.reference.specs.Devices.{hart_after_write}
 use Rattle.reference.specs.States.{Hart, Loading, with_module, without_module}
 use Rattle.attempt_laws.specs.Agree.{IsNotLoading}
 use Rattle.run_laws.proofs.Lookups.{both}
-use Rattle.run_laws.proofs.OthersRest.{get_behind, get_sent, sent, get_beside}
+use Rattle.run_laws.proofs.OthersRest.{get_behind, get_sent, with_software_if, get_beside}
 use Rattle.resume_laws.specs.Keepable.{IsReservable, IsKeepableHart, AreKeepable, IsKeepableNote, AreKeepableNotes, IsKeepableVerdict, IsKeepableJournal, IsKeepableClock, AreAligned, IsKeepableLoad}
 
 -- ---- registers and reservations
@@ -62,12 +62,12 @@ are_written size place width [] all = tt
 are_written size place width (x ∷ harts) all =
     (record { zero = all.0.zero; reservation = left_after size place width x.reservation all.0.reservation }, are_written size place width harts all.1)
 
-one_sent : (size : ℕ) (b : Bool) (hart : Hart) → IsKeepableHart size hart → IsKeepableHart size (sent b hart)
+one_sent : (size : ℕ) (b : Bool) (hart : Hart) → IsKeepableHart size hart → IsKeepableHart size (with_software_if b hart)
 one_sent size true hart k = record { zero = k.zero; reservation = k.reservation }
 one_sent size false hart k = k
 
-pub are_interrupted : (size : ℕ) (named : ℕ → Bool) (first : ℕ) (harts : List Hart) → AreKeepable size harts → AreKeepable size (interrupted named first harts)
-unfolding interrupted
+pub are_interrupted : (size : ℕ) (named : ℕ → Bool) (first : ℕ) (harts : List Hart) → AreKeepable size harts → AreKeepable size (interrupt_harts named first harts)
+unfolding interrupt_harts
 are_interrupted size named first [] all = tt
 are_interrupted size named first (x ∷ harts) all = (one_sent size (named first) x all.0, are_interrupted size named (first + 1) harts all.1)
 
@@ -101,21 +101,21 @@ load_written place width harts (Some load) k = record {
   aligned = k.aligned;
 }
 
-sent_started : (b : Bool) (hart : Hart) → (sent b hart).started ≡ hart.started
+sent_started : (b : Bool) (hart : Hart) → (with_software_if b hart).started ≡ hart.started
 sent_started true hart = refl
 sent_started false hart = refl
 
-sent_mode : (b : Bool) (hart : Hart) → (sent b hart).mode ≡ hart.mode
+sent_mode : (b : Bool) (hart : Hart) → (with_software_if b hart).mode ≡ hart.mode
 sent_mode true hart = refl
 sent_mode false hart = refl
 
 pub load_interrupted : (named : ℕ → Bool) (harts : List Hart) (loading : Option Loading) → IsKeepableLoad harts loading
-    → IsKeepableLoad (interrupted named 0 harts) loading
+    → IsKeepableLoad (interrupt_harts named 0 harts) loading
 load_interrupted named harts None k = tt
 load_interrupted named harts (Some load) k =
     let there = get_sent named 0 harts load.hart k.hart k.found in
     record {
-      hart = sent there.0 k.hart;
+      hart = with_software_if there.0 k.hart;
       found = there.1;
       started = sent_started there.0 k.hart ∙ k.started;
       mode = sent_mode there.0 k.hart ∙ k.mode;

@@ -14,11 +14,11 @@ use Rattle.processor.specs.declared.instruction.AmoOp.{AmoOp}
 use Rattle.processor.specs.declared.instruction.CsrOp.{CsrOp}
 use Rattle.processor.specs.declared.mode.Mode.{Mode}
 use Rattle.processor.specs.declared.mode.Mode.TheVariants.{Kernel, User}
-use Rattle.sv_types.specs.Console.{most_queued, stored, loaded, after_load, ConsoleRegister, Data, Status, loaded_register, after_register_load, without_first}
+use Rattle.sv_types.specs.Console.{most_queued, stored_byte, console_load, after_load, ConsoleRegister, Data, Status, loaded_register, after_register_load, without_first}
 use Rattle.sv_types.specs.declared.event.Rule.TheVariants.{Entry, Write}
 use Rattle.sv_types.specs.declared.event.Verdict.{Verdict}
 use Rattle.sv_types.specs.declared.event.Verdict.TheVariants.{Stopped}
-use Rattle.reference.specs.Counting.{counted, count_trap, count_return, count_retired, machine_ended, printed_low}
+use Rattle.reference.specs.Counting.{with_count, count_trap, count_return, count_retired, machine_ended, printed_low}
 use Rattle.reference.specs.Devices.{DeviceLoad, device_load_of, Port, ConsoleAt, DiskAt, Nowhere, port_at, port_load, device_load, port_store, device_store, with_bytes}
 use Rattle.reference.specs.Disk.{disk_load, disk_store}
 use Rattle.reference.specs.Requests.{carried_out_writing, Source, NoSource, FromRam, FromDevice, Target, NoTarget, Guarded, ToRam, ToDevice, carry_out_device_load, carry_out_load, carry_out_load_reserved, carry_out_device_store, carry_out_store, carry_out_store_conditional, carry_out_amo, carry_out_csr, write_stopped, source_of, source_at, load_source, with_csr_set}
@@ -98,7 +98,7 @@ pub trap_keeps : (r : State) (h : ℕ) (hart : Hart) (from : Mode) (interrupt : 
 unfolding trap_from hart_at_trap
 trap_keeps r h hart from interrupt cause tval m =
     choose_keeps (may_enter r.rules from (trap_target hart.supervisor.stvec interrupt cause)) _ _
-    (set_alone r h hart (hart_at_trap r.rules hart from interrupt cause tval) (counted (count_trap from) r.journal) m
+    (set_alone r h hart (hart_at_trap r.rules hart from interrupt cause tval) (with_count (count_trap from) r.journal) m
     (record { zero = (hart_kept m).zero; reservation = tt }) (trap_counts r.rules.harts r.journal from m.keepable.journal))
     (ended r (Stopped (Entry (trap_target hart.supervisor.stvec interrupt cause)) h r.journal.counts.turns) m.keepable (there m))
 
@@ -108,16 +108,16 @@ exception_keeps r h hart cause tval m = trap_keeps r h hart hart.mode false (cau
 pub return_keeps : (r : State) (h : ℕ) (hart : Hart) → Moving r h hart → IsKeepable (returned_from_trap r h hart)
 unfolding returned_from_trap hart_at_return
 return_keeps r h hart m =
-    set_alone r h hart (hart_at_return hart) (counted (count_return (mode_at_return hart.supervisor.sstatus)) r.journal) m
+    set_alone r h hart (hart_at_return hart) (with_count (count_return (mode_at_return hart.supervisor.sstatus)) r.journal) m
     (record { zero = (hart_kept m).zero; reservation = tt }) (return_counts r.rules.harts r.journal (mode_at_return hart.supervisor.sstatus) m.keepable.journal)
 
 -- ---- retired instructions
 
 -- registers in which register 0 is 0, and a reservation
 pub retired : (r : State) (h : ℕ) (hart next : Hart) → Moving r h hart → slice_get next.registers 0 ≡ Some 0 → IsReservable (ram_size r.rules) next.reservation
-    → IsKeepable (record r { harts = slice_set r.harts h next; journal = counted count_retired r.journal })
+    → IsKeepable (record r { harts = slice_set r.harts h next; journal = with_count count_retired r.journal })
 retired r h hart next m first reservation =
-    set_alone r h hart next (counted count_retired r.journal) m (record { zero = first; reservation = reservation }) m.keepable.journal
+    set_alone r h hart next (with_count count_retired r.journal) m (record { zero = first; reservation = reservation }) m.keepable.journal
 
 -- ---- loads
 
@@ -145,7 +145,7 @@ given harts d (Some value) k = k
 port_loads : (harts : ℕ) (d : Devices) (port : Port) (width : ℕ) → AreKept harts d → LoadsWell harts (port_load d port width)
 unfolding port_load
 port_loads harts d (ConsoleAt offset) width k =
-    given harts (record d { console = after_load d.console offset width }) (loaded d.console offset width)
+    given harts (record d { console = after_load d.console offset width }) (console_load d.console offset width)
     (k.0, queue_loaded d.console (loaded_register offset width) k.1)
 port_loads harts d (DiskAt offset) width k = given harts d (disk_load d.disk offset width) k
 port_loads harts d Nowhere width k = tt
@@ -159,7 +159,7 @@ device_load_keeps : (r : State) (h : ℕ) (hart : Hart) (rd address width : ℕ)
 unfolding carry_out_device_load
 device_load_keeps r h hart rd address width signed None m well = exception_keeps r h hart Cause.LoadAccess address m
 device_load_keeps r h hart rd address width signed (Some l) m well =
-    moved r h hart _ l.devices (counted count_retired r.journal) m (record { zero = zero_stays hart.registers rd _ (hart_kept m).zero; reservation = tt }) well.0 well.1 m.keepable.journal
+    moved r h hart _ l.devices (with_count count_retired r.journal) m (record { zero = zero_stays hart.registers rd _ (hart_kept m).zero; reservation = tt }) well.0 well.1 m.keepable.journal
 
 pub load_keeps : (r : State) (h : ℕ) (hart : Hart) (rd address width : ℕ) (signed : Bool) (source : Source) → Moving r h hart
     → IsKeepable (carry_out_load r h hart rd address width signed source)
@@ -236,7 +236,7 @@ console_store_keeps : (r : State) (h : ℕ) (hart : Hart) (address : ℕ) (byte 
 unfolding carry_out_device_store
 console_store_keeps r h hart address None m = exception_keeps r h hart Cause.StoreAccess address m
 console_store_keeps r h hart address (Some byte) m =
-    moved r h hart _ r.devices (counted count_retired (printed_low byte r.journal)) m (record { zero = (hart_kept m).zero; reservation = tt })
+    moved r h hart _ r.devices (with_count count_retired (printed_low byte r.journal)) m (record { zero = (hart_kept m).zero; reservation = tt })
     m.keepable.clock m.keepable.console m.keepable.journal
 
 disk_store_keeps : (r : State) (h : ℕ) (hart : Hart) (address : ℕ) (disk : Option Disk) → Moving r h hart
@@ -244,13 +244,13 @@ disk_store_keeps : (r : State) (h : ℕ) (hart : Hart) (address : ℕ) (disk : O
 unfolding carry_out_device_store
 disk_store_keeps r h hart address None m = exception_keeps r h hart Cause.StoreAccess address m
 disk_store_keeps r h hart address (Some disk) m =
-    moved r h hart _ (record r.devices { disk = disk }) (counted count_retired r.journal) m (record { zero = (hart_kept m).zero; reservation = tt })
+    moved r h hart _ (record r.devices { disk = disk }) (with_count count_retired r.journal) m (record { zero = (hart_kept m).zero; reservation = tt })
     m.keepable.clock m.keepable.console m.keepable.journal
 
 port_store_keeps : (r : State) (h : ℕ) (hart : Hart) (address : ℕ) (port : Port) (width value : ℕ) → Moving r h hart
     → IsKeepable (carry_out_device_store r h hart address (port_store r.devices r.journal port width value))
 unfolding port_store carry_out_device_store
-port_store_keeps r h hart address (ConsoleAt offset) width value m = console_store_keeps r h hart address (stored offset width value) m
+port_store_keeps r h hart address (ConsoleAt offset) width value m = console_store_keeps r h hart address (stored_byte offset width value) m
 port_store_keeps r h hart address (DiskAt offset) width value m = disk_store_keeps r h hart address (disk_store r.devices.disk offset width value) m
 port_store_keeps r h hart address Nowhere width value m = exception_keeps r h hart Cause.StoreAccess address m
 

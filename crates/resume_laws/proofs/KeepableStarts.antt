@@ -2,7 +2,7 @@
 use Rattle.std.proofs.Common.{◌≡◌, ℕ, zero, suc, ◌+◌, ◌-◌, ◌*◌, ◌/◌, ◌<◌, ◌≤◌, inl, inr, List, [], ◌∷◌, filter, length, refl, sym, ◌∙◌, subst, Bool, true, false, arith, replicate}
 use Rattle.std.specs.Prelude.{if◌then◌else◌, slice_index}
 use Rattle.std.specs.List.{list_any}
-use Rattle.processor.specs.Bytes.{padded, page_size, ram_base}
+use Rattle.processor.specs.Bytes.{with_padding, page_size, ram_base}
 use Rattle.processor.specs.Regions.{most_ram_pages}
 use Rattle.sv_types.specs.ApprovedPages.{numbers_from}
 use Rattle.sv_types.specs.Boot.{flat_ram_pages}
@@ -70,7 +70,7 @@ text_pages_ascend segments = filter_ascends (λ page. list_any (is_text_of page)
 flat_keeps : (s : State) → StartsFlat s → IsKeepable s
 unfolding flat_start
 flat_keeps s k = subst IsKeepable (sym k.same)
-    (start_keeps (flat_rules k.digest) (padded k.pages (page_size * flat_ram_pages)) (numbers_from 0 (length k.pages / page_size)) ram_base (block_disk [])
+    (start_keeps (flat_rules k.digest) (with_padding k.pages (page_size * flat_ram_pages)) (numbers_from 0 (length k.pages / page_size)) ram_base (block_disk [])
     (flat_can k.pages k.digest k.fits) (numbers_ascend 0 (length k.pages / page_size)))
 
 image_keeps : {boot : Rules → (file disk : List ℕ) → State} (s : State) (disk : Disk) (k : StartsBy boot s) → boot k.rules k.file k.disk ≡ image_start k.rules k.file disk → IsKeepable s

@@ -18,7 +18,7 @@ use Rattle.sv_types.specs.declared.event.Event.TheVariants.{Turn, Beat, Key, Tic
 use Rattle.sv_types.specs.declared.event.Note.TheVariants.{Demote, Denied}
 use Rattle.sv_types.specs.declared.event.Verdict.{Verdict}
 use Rattle.sv_types.specs.declared.event.Verdict.TheVariants.{Running, Shutdown, Stopped}
-use Rattle.reference.specs.Counting.{count, counted, noted, count_demote, count_dropped, count_turn, count_beat, count_key, count_tick}
+use Rattle.reference.specs.Counting.{count, with_count, with_note, count_demote, count_dropped, count_turn, count_beat, count_key, count_tick}
 use Rattle.reference.specs.Devices.{lines_at, with_disk, after_move, after_beaten, beat, key, tick}
 use Rattle.reference.specs.Disk.{Beaten, disk_beat}
 use Rattle.reference.specs.Move.{Move, Idle, FromRam, IntoRam, DeniedAt, OutsideRam}
@@ -86,7 +86,7 @@ instruction_keeps r h hart w (Some i) m on e = effect_keeps r h hart w (effect_o
 
 demote_keeps : (r : State) (h : ℕ) (hart : Hart) (gpa : ℕ) → Moving r h hart → IsKeepable (demote r h hart gpa)
 demote_keeps r h hart gpa m =
-    set_alone r h hart _ (noted (Demote h r.journal.counts.turns hart.pc gpa) (counted count_demote r.journal)) m
+    set_alone r h hart _ (with_note (Demote h r.journal.counts.turns hart.pc gpa) (with_count count_demote r.journal)) m
     (record { zero = (hart_kept m).zero; reservation = tt })
     (journal_noted r.rules.harts r.journal.notes r.journal.counts.notes r.journal.verdict (Demote h r.journal.counts.turns hart.pc gpa) m.keepable.journal (there m, aligned_pc m))
 
@@ -216,7 +216,7 @@ one_key queue byte false at k = k
 keyed_by : (r : State) (byte : ℕ) (room : Bool) → has_room r.devices.console ≡ room → IsKeepable r
     → IsKeepable (record r {
       devices = record r.devices { console = if room then r.devices.console ++ byte ∷ [] else r.devices.console };
-      journal = if room then r.journal else counted count_dropped r.journal;
+      journal = if room then r.journal else with_count count_dropped r.journal;
     })
 keyed_by r byte true at k =
     record { harts = k.harts; journal = k.journal; clock = k.clock; console = one_key r.devices.console byte true at k.console; modules = k.modules; load = k.load; text = k.text }

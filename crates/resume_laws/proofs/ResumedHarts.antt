@@ -22,9 +22,9 @@ use Rattle.reference.specs.States.{Hart, Binding, binding_at}
 use Rattle.saved_machine.specs.declared.harts.SavedHart.{SavedHart}
 use Rattle.saved_machine.specs.declared.whole.SavedLoad.{SavedLoad}
 use Rattle.snapshot_form.specs.Forms.{is_word, has_all}
-use Rattle.snapshot_form.specs.HartForms.{is_user, flag, mode, place, place_number, is_reservable, reservation, aligned, legal, side, trap_status, status, registers, begins_with_0, hart, harts}
+use Rattle.snapshot_form.specs.HartForms.{is_user, flag, mode, place, place_number, is_reservable, reservation, multiple_of, legal, side, trap_status, status, registers, begins_with_0, hart, harts}
 use Rattle.snapshot_form.specs.JournalForms.{hart_number, demote, load_note, unload, retire, answer, note_behind, note, notes, stopped_entry, stopped_write, verdict_behind, verdict}
-use Rattle.snapshot_form.specs.PageForms.{may_load, module_within, is_above, load, load_behind, loading}
+use Rattle.snapshot_form.specs.PageForms.{may_load, module_within, is_above, load, load_behind, load_under_way}
 use Rattle.snapshot_form.proofs.FormLaws.{first_true, second_true}
 use Rattle.resumption.specs.Judgements.{is_bound}
 use Rattle.resumption.specs.ResumedStates.{resumed_hart, resumed_load, timers_of}
@@ -39,8 +39,8 @@ pub number_legal : (bits : ℕ → ℕ) (n : ℕ) → (legal bits).has n ≡ tru
 unfolding legal
 number_legal bits n h = eqb-true (bits n) n (second_true (is_word n) (bits n == n) h)
 
-number_aligned : (size n : ℕ) → (aligned size).has n ≡ true → (n % size ≡ 0) × (n < 2 ^ 64)
-unfolding aligned
+number_aligned : (size n : ℕ) → (multiple_of size).has n ≡ true → (n % size ≡ 0) × (n < 2 ^ 64)
+unfolding multiple_of
 number_aligned size n h = (eqb-true (n % size) 0 (second_true (is_word n) (n % size == 0) h), is_small n (first_true (is_word n) (n % size == 0) h))
 
 kernel_of : (started : Bool) (m : Mode) → (started || not (is_user m)) ≡ true → started ≡ false → m ≡ Kernel
@@ -148,7 +148,7 @@ unfolding hart
 supervisor_of pages h has =
     let parts = second_true (begins_with_0 h.registers) _ has in
     let pc_on = second_true (side.has (h.started, (h.mode, h.entry))) _ parts in
-    let registers_on = second_true ((aligned 4).has h.pc) _ pc_on in
+    let registers_on = second_true ((multiple_of 4).has h.pc) _ pc_on in
     let status_on = second_true (registers.has (drop 1 h.registers)) _ registers_on in
     supervisor_legal h (first_true (status.has _) ((reservation pages).has h.reservation && is_word h.timer) status_on)
 
@@ -158,8 +158,8 @@ hart_resumes rules pages h has bound =
     let parts = second_true (begins_with_0 h.registers) _ has in
     let sides = sided h.started h.mode h.entry (first_true (side.has (h.started, (h.mode, h.entry))) _ parts) in
     let pc_on = second_true (side.has (h.started, (h.mode, h.entry))) _ parts in
-    let pc = number_aligned 4 h.pc (first_true ((aligned 4).has h.pc) _ pc_on) in
-    let registers_on = second_true ((aligned 4).has h.pc) _ pc_on in
+    let pc = number_aligned 4 h.pc (first_true ((multiple_of 4).has h.pc) _ pc_on) in
+    let registers_on = second_true ((multiple_of 4).has h.pc) _ pc_on in
     let status_on = second_true (registers.has (drop 1 h.registers)) _ registers_on in
     let reserved_on = second_true (status.has _) ((reservation pages).has h.reservation && is_word h.timer) status_on in
     record {
@@ -240,8 +240,8 @@ pub record LoadParts (hs : List SavedHart) (load : SavedLoad) : Type 0 where
   pub goes : MayGoOn (map resumed_hart hs) (resumed_load load)
   pub gpa : load.«module».gpa % page_size ≡ 0
 
-pub load_parts_of : (hs : List SavedHart) (l : SavedLoad) → (loading hs).has (Some l) ≡ true → LoadParts hs l
-unfolding loading load_behind load module_within
+pub load_parts_of : (hs : List SavedHart) (l : SavedLoad) → (load_under_way hs).has (Some l) ≡ true → LoadParts hs l
+unfolding load_under_way load_behind load module_within
 load_parts_of hs l h =
     let there = second_true (flag.has true) _ h in
     let hart_part = first_true (is_word l.hart && may_load (slice_get hs l.hart)) _ there in
@@ -249,19 +249,19 @@ load_parts_of hs l h =
     let at = loads_by hs l.hart (slice_get hs l.hart) refl (second_true (is_word l.hart) _ hart_part) in
     let module_part = first_true _ (is_word l.left && nat_le l.left 1024) behind in
     let gpa_on = second_true (is_word l.«module».id && is_above None l.«module».id) _ module_part in
-    let va_on = second_true ((aligned page_size).has l.«module».gpa) _ gpa_on in
+    let va_on = second_true ((multiple_of page_size).has l.«module».gpa) _ gpa_on in
     record {
       goes = record {
         hart = resumed_hart at.hart;
         found = get_resumed hs l.hart at.hart at.found;
         started = at.started;
         mode = at.mode;
-        aligned = (number_aligned page_size l.«module».va (first_true ((aligned page_size).has l.«module».va) _ va_on)).0;
+        aligned = (number_aligned page_size l.«module».va (first_true ((multiple_of page_size).has l.«module».va) _ va_on)).0;
       };
-      gpa = (number_aligned page_size l.«module».gpa (first_true ((aligned page_size).has l.«module».gpa) _ gpa_on)).0;
+      gpa = (number_aligned page_size l.«module».gpa (first_true ((multiple_of page_size).has l.«module».gpa) _ gpa_on)).0;
     }
 
-pub load_kept : (hs : List SavedHart) (x : Option SavedLoad) → (loading hs).has x ≡ true → IsKeepableLoad (map resumed_hart hs) (option_map resumed_load x)
+pub load_kept : (hs : List SavedHart) (x : Option SavedLoad) → (load_under_way hs).has x ≡ true → IsKeepableLoad (map resumed_hart hs) (option_map resumed_load x)
 load_kept hs None h = tt
 load_kept hs (Some l) h = (load_parts_of hs l h).goes
 
@@ -275,7 +275,7 @@ note_kept : (n : ℕ) (x : Note) → (note n).has x ≡ true → IsKeepableNote 
 unfolding note note_behind demote load_note unload retire answer
 note_kept n (Demote h turn pc gpa) e =
     let pc_on = second_true (is_word turn) _ (second_true ((hart_number n).has h) _ e) in
-    (hart_there n h (first_true ((hart_number n).has h) _ e), (number_aligned 4 pc (first_true ((aligned 4).has pc) _ pc_on)).0)
+    (hart_there n h (first_true ((hart_number n).has h) _ e), (number_aligned 4 pc (first_true ((multiple_of 4).has pc) _ pc_on)).0)
 note_kept n (Denied gpa) e = tt
 note_kept n (Load h turn id code) e = hart_there n h (first_true ((hart_number n).has h) _ e)
 note_kept n (Unload h turn id code) e = hart_there n h (first_true ((hart_number n).has h) _ e)
@@ -293,8 +293,8 @@ verdict_kept n Running e = tt
 verdict_kept n Shutdown e = tt
 verdict_kept n (Stopped (Entry target) h turn) e = hart_there n h (first_true ((hart_number n).has h) _ (second_true (is_word target) _ e))
 verdict_kept n (Stopped (Write pc gpa) h turn) e =
-    let behind = second_true (is_word gpa) _ (second_true ((aligned 4).has pc) _ e) in
-    (hart_there n h (first_true ((hart_number n).has h) _ behind), (number_aligned 4 pc (first_true ((aligned 4).has pc) _ e)).0)
+    let behind = second_true (is_word gpa) _ (second_true ((multiple_of 4).has pc) _ e) in
+    (hart_there n h (first_true ((hart_number n).has h) _ behind), (number_aligned 4 pc (first_true ((multiple_of 4).has pc) _ e)).0)
 
 pub journal_kept : (n all : ℕ) (ns : List Note) (v : Verdict) → (notes n all).has ns ≡ true → (verdict n).has v ≡ true → IsKeepableJournal n ns all v
 unfolding notes

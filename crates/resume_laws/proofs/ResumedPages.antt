@@ -14,7 +14,7 @@ use Rattle.reference.specs.Origins.{AllAbove, Ascends}
 use Rattle.reference.specs.Soundness.{KeepsText}
 use Rattle.reference.specs.States.{has_number, is_approved_in, find_module, module_pages, pages_in_rule}
 use Rattle.snapshot_form.specs.Forms.{is_word, has_all}
-use Rattle.snapshot_form.specs.HartForms.{aligned}
+use Rattle.snapshot_form.specs.HartForms.{multiple_of}
 use Rattle.snapshot_form.specs.PageForms.{is_above, last_page, text_page, text, module_within, last_id, next_module, modules}
 use Rattle.snapshot_form.specs.declared.whole.TextPage.{TextPage}
 use Rattle.snapshot_form.proofs.FormLaws.{first_true, second_true}
@@ -26,8 +26,8 @@ use Rattle.run_laws.proofs.Lookups.{approved_alone, numbers_bounds, above_less}
 
 -- ---- text
 
-aligned_number : (size n : ℕ) → (aligned size).has n ≡ true → n % size ≡ 0
-unfolding aligned
+aligned_number : (size n : ℕ) → (multiple_of size).has n ≡ true → n % size ≡ 0
+unfolding multiple_of
 aligned_number size n h = eqb-true (n % size) 0 (second_true (is_word n) (n % size == 0) h)
 
 -- where the next page may stand
@@ -112,14 +112,14 @@ modules_from (suc n) before (m ∷ ms) last at h =
     let one = first_true ((next_module before).has m) _ h in
     let id_part = first_true (is_word m.id && is_above (last_id before) m.id) _ one in
     let gpa_on = second_true (is_word m.id && is_above (last_id before) m.id) _ one in
-    let va_on = second_true ((aligned page_size).has m.gpa) _ gpa_on in
+    let va_on = second_true ((multiple_of page_size).has m.gpa) _ gpa_on in
     let rest = modules_from n (before ++ m ∷ []) ms (Some m.id) (ap (option_map (λ (x : SavedModule). x.id)) (last_of before m)) (second_true ((next_module before).has m) _ h) in
     record {
       above = above_one last m ms (ap (λ (x : Option ℕ). is_above x m.id) (sym at) ∙ second_true (is_word m.id) _ id_part) rest.above;
       parts = record {
         ascends = (rest.above, rest.parts.ascends);
-        aligned = (aligned_number page_size m.va (first_true ((aligned page_size).has m.va) _ va_on), rest.parts.aligned);
-        begin = (aligned_number page_size m.gpa (first_true ((aligned page_size).has m.gpa) _ gpa_on), rest.parts.begin);
+        aligned = (aligned_number page_size m.va (first_true ((multiple_of page_size).has m.va) _ va_on), rest.parts.aligned);
+        begin = (aligned_number page_size m.gpa (first_true ((multiple_of page_size).has m.gpa) _ gpa_on), rest.parts.begin);
       };
     }
 

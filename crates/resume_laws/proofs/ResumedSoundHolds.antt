@@ -24,11 +24,11 @@ use Rattle.saved_machine.specs.SavedStates.{disk_of, saved_protections}
 use Rattle.saved_machine.specs.declared.whole.SavedLoad.{SavedLoad}
 use Rattle.snapshot_form.specs.DeviceForms.{console, port}
 use Rattle.snapshot_form.specs.Forms.{is_word}
-use Rattle.snapshot_form.specs.PageForms.{loading}
+use Rattle.snapshot_form.specs.PageForms.{load_under_way}
 use Rattle.snapshot_form.specs.Snapshots.{Contents, snapshot}
 use Rattle.snapshot_form.specs.declared.whole.TextPage.{TextPage}
 use Rattle.snapshot_form.proofs.FormLaws.{first_true, second_true}
-use Rattle.resumption.specs.Judgements.{page_numbers, is_retired, text_left, loaded_pages, load_pages, approved_of, fits, is_loaded, load_fits, is_of_policy, taken, then_held, guard_due, is_guarded_right, joins, is_there, has_text, has_modules, resume_refusal}
+use Rattle.resumption.specs.Judgements.{page_numbers, is_retired, text_left, loaded_pages, load_pages, approved_of, fits, is_loaded, load_fits, is_of_policy, take_pages, then_held, guard_due, is_guarded_right, joins, is_there, has_text, has_modules, resume_refusal}
 use Rattle.resumption.specs.ResumedStates.{resumed_hart, resumed_load, resumed_state, timers_of}
 use Rattle.resumption.specs.declared.refusal.ResumeRefusal.{ResumeRefusal}
 use Rattle.resumption.specs.declared.refusal.ResumeRefusal.TheVariants.{OtherPolicy, OtherPages, OtherKernel, OtherText, OtherModule}
@@ -93,7 +93,7 @@ held_of (Some mid) pages guard e = (mid, (refl, e))
 are_taken : (rules : Rules) (s : Contents) → is_guarded_right rules s ≡ true → AreTaken rules s
 unfolding is_guarded_right guard_due
 are_taken rules s e =
-    let held = held_of (taken Approved (replicate rules.ram_pages Free) (approved_of rules s)) (load_pages rules s.loading) s.protection (due_is _ s.protection e) in
+    let held = held_of (take_pages Approved (replicate rules.ram_pages Free) (approved_of rules s)) (load_pages rules s.loading) s.protection (due_is _ s.protection e) in
     let two = taken_in_two Approved (replicate rules.ram_pages Free) held.0 (text_left rules s) (loaded_pages rules s.modules) held.1.0 in
     record {
       text = two.0;
@@ -241,7 +241,7 @@ load_sound : (rules : Rules) (s : Contents) → Known rules s
     → IsSoundLoad rules (approved_pages s.ram (approved_of rules s)) s.modules (load_pages rules s.loading) (option_map resumed_load s.loading)
 load_sound rules s k =
     load_by rules s s.loading k refl k.policy.load
-    (λ l under. load_parts_of s.harts l (subst (λ (y : Option SavedLoad). (loading s.harts).has y ≡ true) under k.parts.loading))
+    (λ l under. load_parts_of s.harts l (subst (λ (y : Option SavedLoad). (load_under_way s.harts).has y ≡ true) under k.parts.loading))
 
 -- ---- protections
 
@@ -256,7 +256,7 @@ load_below_by rules s (Some l) e parts = module_inside rules l.«module» (load_
 load_below : (rules : Rules) (s : Contents) → Known rules s → AllBelow rules.ram_pages (load_pages rules s.loading)
 load_below rules s k =
     load_below_by rules s s.loading k.policy.load
-    (λ l under. load_parts_of s.harts l (subst (λ (y : Option SavedLoad). (loading s.harts).has y ≡ true) under k.parts.loading))
+    (λ l under. load_parts_of s.harts l (subst (λ (y : Option SavedLoad). (load_under_way s.harts).has y ≡ true) under k.parts.loading))
 
 -- what the snapshot says of a page is what follows from whose it is
 protection_is : (rules : Rules) (s : Contents) (page : ℕ) → Known rules s

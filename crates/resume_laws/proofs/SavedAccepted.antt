@@ -26,7 +26,7 @@ use Rattle.saved_machine.specs.SavedStates.{saved_harts, saved_load, saved_prote
 use Rattle.saved_machine.specs.declared.harts.SavedHart.{SavedHart}
 use Rattle.snapshot_form.specs.Snapshots.{Contents}
 use Rattle.snapshot_form.specs.declared.whole.TextPage.{TextPage}
-use Rattle.resumption.specs.Judgements.{approved_of, are_same, fits, guard_due, has_modules, has_text, is_bound, is_due, is_guarded_right, is_loaded, is_of_policy, is_retired, is_same, is_there, joins, load_fits, load_pages, loaded_pages, page_numbers, resume_refusal, taken, text_left, then_held}
+use Rattle.resumption.specs.Judgements.{approved_of, are_same, fits, guard_due, has_modules, has_text, is_bound, is_due, is_guarded_right, is_loaded, is_of_policy, is_retired, is_same, is_there, joins, load_fits, load_pages, loaded_pages, page_numbers, resume_refusal, take_pages, text_left, then_held}
 use Rattle.reference.proofs.PageSpans.{in_numbers}
 use Rattle.resumption.proofs.ModuleSites.{some_pages}
 use Rattle.resume_laws.specs.Keepable.{AscendFrom, IsKeepable}
@@ -115,10 +115,10 @@ load_fits_by r (Some load) k =
     (and_from (fits r.rules load.about) (not (is_loaded r.loaded load.about.id)) (fit_by r.rules load.about k.known k.base k.inside) (ap not (none_loaded r.loaded load.about.id k.other)))
     (least_is load.left (pages_in_rule (slice_get r.rules.modules load.about.id)) k.left)
 
-abbrev pub snapped : State → ℕ → List TextPage → PortState → List ℕ → Contents
-snapped r events text port disk = contents_of r events text (saved_protections r) port disk
+abbrev pub saved_contents : State → ℕ → List TextPage → PortState → List ℕ → Contents
+saved_contents r events text port disk = contents_of r events text (saved_protections r) port disk
 
-of_policy : (r : State) (events : ℕ) (text : List TextPage) (port : PortState) (disk : List ℕ) → IsSound r → is_of_policy r.rules (snapped r events text port disk) ≡ true
+of_policy : (r : State) (events : ℕ) (text : List TextPage) (port : PortState) (disk : List ℕ) → IsSound r → is_of_policy r.rules (saved_contents r events text port disk) ≡ true
 unfolding is_of_policy
 of_policy r events text port disk sound =
     let harts = saved_harts r.devices.clock 0 r.harts in
@@ -130,7 +130,7 @@ of_policy r events text port disk sound =
 
 -- ---- the second: whose pages
 
-abbrev same_text : (r : State) (events : ℕ) (text : List TextPage) (port : PortState) (disk : List ℕ) → page_numbers text ≡ r.text → SameText r (snapped r events text port disk)
+abbrev same_text : (r : State) (events : ℕ) (text : List TextPage) (port : PortState) (disk : List ℕ) → page_numbers text ≡ r.text → SameText r (saved_contents r events text port disk)
 same_text r events text port disk pages = record { text = pages; retired = refl; modules = refl }
 
 share_none : (r : State) → IsSound r → ShareNone r.rules r.loaded
@@ -243,8 +243,8 @@ unfolding is_guarded_right guard_due
 guarded_right r c sound a h same pages =
     let k = first_taken r c sound a in
     let last = takes Held k.mid r.held h.once k.free in
-    let due : then_held (taken Approved (replicate r.rules.ram_pages Free) (approved_of r.rules c)) (load_pages r.rules c.loading) ≡ Some last.0 =
-    ap (λ (x : Option (List Protection)). then_held x (load_pages r.rules c.loading)) k.approved ∙ ap (taken Held k.mid) pages ∙ last.1 in
+    let due : then_held (take_pages Approved (replicate r.rules.ram_pages Free) (approved_of r.rules c)) (load_pages r.rules c.loading) ≡ Some last.0 =
+    ap (λ (x : Option (List Protection)). then_held x (load_pages r.rules c.loading)) k.approved ∙ ap (take_pages Held k.mid) pages ∙ last.1 in
     ap (λ (x : Option (List Protection)). is_due x c.protection) due
     ∙ ap (are_same last.0) (same ∙ sym (last_is r c last.0 k h last.1))
     ∙ all_same last.0
@@ -269,15 +269,15 @@ is_right r text i t k at =
     let there : has_number r.text t.page ≡ true = subst (λ (pages : List ℕ). has_number pages t.page ≡ true) k.pages (page_in text i t at) in
     (bytes_eq-Decides (page_digest (page_bytes r.ram t.page)) t.digest).1 (k.each i t at (and_from (has_number r.text t.page) _ there (ap not left))))
 
-text_there : (r : State) (events : ℕ) (text : List TextPage) (port : PortState) (disk : List ℕ) → KeepsDigests r text → has_text r.rules (snapped r events text port disk) ≡ true
+text_there : (r : State) (events : ℕ) (text : List TextPage) (port : PortState) (disk : List ℕ) → KeepsDigests r text → has_text r.rules (saved_contents r events text port disk) ≡ true
 unfolding has_text
 text_there r events text port disk k = all_by (λ t. is_retired r.rules r.retired t.page || is_there r.ram t) text (λ i t at. is_right r text i t k at)
 
-text_joins : (r : State) (events : ℕ) (text : List TextPage) (port : PortState) (disk : List ℕ) → KeepsDigests r text → joins r.rules (snapped r events text port disk) ≡ true
+text_joins : (r : State) (events : ℕ) (text : List TextPage) (port : PortState) (disk : List ℕ) → KeepsDigests r text → joins r.rules (saved_contents r events text port disk) ≡ true
 unfolding joins
 text_joins r events text port disk k = (bytes_eq-Decides (joined_digests (map (λ (t : TextPage). t.digest) text)) r.rules.kernel).1 k.joined
 
-modules_good : (r : State) (events : ℕ) (text : List TextPage) (port : PortState) (disk : List ℕ) → IsSound r → has_modules r.rules (snapped r events text port disk) ≡ true
+modules_good : (r : State) (events : ℕ) (text : List TextPage) (port : PortState) (disk : List ℕ) → IsSound r → has_modules r.rules (saved_contents r events text port disk) ≡ true
 unfolding has_modules
 modules_good r events text port disk sound =
     all_by (λ m. is_good r.rules r.ram m (slice_get r.rules.modules m.id)) r.loaded (λ i m at. (sound.modules m (all_found r.loaded i m sound.ascends at)).good)
@@ -285,10 +285,10 @@ modules_good r events text port disk sound =
 -- ---- the law
 
 none_refused : (r : State) (events : ℕ) (text : List TextPage) (port : PortState) (disk : List ℕ) → IsSound r → IsKeepable r → KeepsDigests r text
-    → resume_refusal r.rules (snapped r events text port disk) ≡ None
+    → resume_refusal r.rules (saved_contents r events text port disk) ≡ None
 unfolding resume_refusal
 none_refused r events text port disk sound keepable k =
-    let c : Contents = snapped r events text port disk in
+    let c : Contents = saved_contents r events text port disk in
     rw (
       of_policy r events text port disk sound,
       guarded_right r c sound (approves r c sound keepable (same_text r events text port disk k.pages)) (holds_by r r.loading sound.load) refl (held_back r r.loading sound.load),

@@ -15,7 +15,7 @@ use Rattle.snapshot_form.specs.Forms.{is_word}
 use Rattle.snapshot_form.specs.HartForms.{flag, harts}
 use Rattle.snapshot_form.specs.JournalForms.{counts, journal}
 use Rattle.snapshot_form.specs.PageForms.{gate, modules, pages, protections, text}
-use Rattle.snapshot_form.specs.Snapshots.{Contents, beginning, body, contents, events_made, hart_count, header, magic, page_count, snapshot, whole_header}
+use Rattle.snapshot_form.specs.Snapshots.{Contents, magic_form, body, contents, events_made, hart_count, header, magic, page_count, snapshot, whole_header}
 use Rattle.snapshot_form.specs.Typed.{IsTyped}
 use Rattle.snapshot_form.specs.declared.whole.TextPage.{TextPage}
 use Rattle.snapshot_form.proofs.FormLaws.{both_true, first_true, second_true}
@@ -23,7 +23,7 @@ use Rattle.resume_laws.specs.Keepable.{AscendFrom, IsKeepable, IsKeepableJournal
 use Rattle.resume_laws.specs.Resumed.{KeepsDigests}
 use Rattle.resume_laws.specs.SavedForm.{HasBlock, IsCounted, SavedFormLaw}
 use Rattle.resume_laws.proofs.FormParts.{least_is, small_word}
-use Rattle.resume_laws.proofs.SavedAccepted.{snapped}
+use Rattle.resume_laws.proofs.SavedAccepted.{saved_contents}
 use Rattle.resume_laws.proofs.SavedHarts.{flag_has, harts_have}
 use Rattle.resume_laws.proofs.SavedJournals.{counts_have, notes_have, verdict_has}
 use Rattle.resume_laws.proofs.SavedPages.{loading_has, modules_have, protections_have, text_has}
@@ -74,7 +74,7 @@ record HasSizes (r : State) (c : Contents) : Type 0 where
 header_has : (r : State) (c : Contents) → AreWithin r.rules → HasSizes r c → c.events ≤ most_events → is_word c.time ≡ true → header.has (whole_header c) ≡ true
 unfolding header
 header_has r c w k few time =
-    both_true (beginning.has magic) _ refl
+    both_true (magic_form.has magic) _ refl
     (both_true (events_made.has c.events) _ (both_true (is_word c.events) _ (small_word c.events (omega (arith, few))) (least_is c.events most_events few))
     (both_true (hart_count.has (length c.harts)) _
     (subst (λ (n : ℕ). hart_count.has n ≡ true) (sym k.harts) (both_true (is_word r.rules.harts) _ (small_word r.rules.harts (let most = w.four in omega (arith, most))) w.harts))
@@ -82,14 +82,14 @@ header_has r c w k few time =
     (subst (λ (n : ℕ). page_count.has n ≡ true) (sym k.pages) (both_true (is_word r.rules.ram_pages) _ (small_word r.rules.ram_pages (let most = w.few in omega (arith, most))) w.pages))
     time)))
 
-sizes : (r : State) (events : ℕ) (ts : List TextPage) (p : PortState) (d : List ℕ) → IsSound r → HasSizes r (snapped r events ts p d)
+sizes : (r : State) (events : ℕ) (ts : List TextPage) (p : PortState) (d : List ℕ) → IsSound r → HasSizes r (saved_contents r events ts p d)
 sizes r events ts p d sound = record {
   harts = length_saved r.devices.clock 0 r.harts ∙ sound.number;
   pages = length_pages (protection_in r.approved r.held) 0 r.rules.ram_pages;
 }
 
 harts_part : (r : State) (events : ℕ) (ts : List TextPage) (p : PortState) (d : List ℕ) → IsSound r → IsKeepable r → AreWithin r.rules
-    → IsTyped (snapped r events ts p d) → (harts (length (saved_protections r)) (length (saved_harts r.devices.clock 0 r.harts))).has (saved_harts r.devices.clock 0 r.harts) ≡ true
+    → IsTyped (saved_contents r events ts p d) → (harts (length (saved_protections r)) (length (saved_harts r.devices.clock 0 r.harts))).has (saved_harts r.devices.clock 0 r.harts) ≡ true
 unfolding harts
 harts_part r events ts p d sound keepable w typed =
     let k = sizes r events ts p d sound in
@@ -98,10 +98,10 @@ harts_part r events ts p d sound keepable w typed =
     (harts_have r.rules r.devices.clock 0 [] r.harts sound.within w.few sound.harts keepable.harts typed.harts))
 
 whole : (r : State) (events : ℕ) (ts : List TextPage) (p : PortState) (d : List ℕ) → IsSound r → IsKeepable r → KeepsDigests r ts
-    → IsTyped (snapped r events ts p d) → HasBlock (snapped r events ts p d) → IsCounted (snapped r events ts p d) → snapshot.has (snapped r events ts p d) ≡ true
+    → IsTyped (saved_contents r events ts p d) → HasBlock (saved_contents r events ts p d) → IsCounted (saved_contents r events ts p d) → snapshot.has (saved_contents r events ts p d) ≡ true
 unfolding snapshot body pages gate devices journal
 whole r events ts p d sound keepable digests typed block counted =
-    let c : Contents = snapped r events ts p d in
+    let c : Contents = saved_contents r events ts p d in
     let w = within_parts r.rules sound.within in
     let k = sizes r events ts p d sound in
     let text_is : (text r.rules.ram_pages).has ts ≡ true =
@@ -123,7 +123,7 @@ whole r events ts p d sound keepable digests typed block counted =
 
 pub saved_form_law : SavedFormLaw
 saved_form_law r s sound keepable saved digests typed block counted =
-    let same : contents s ≡ snapped r s.events s.text.items s.«machine».port s.«machine».disk.items =
+    let same : contents s ≡ saved_contents r s.events s.text.items s.«machine».port s.«machine».disk.items =
     contents_are r s saved ∙ ap (λ (ps : List Protection). contents_of r s.events s.text.items ps s.«machine».port s.«machine».disk.items) saved.protection in
     subst (λ (c : Contents). snapshot.has c ≡ true) (sym same)
     (whole r s.events s.text.items s.«machine».port s.«machine».disk.items sound keepable digests (subst IsTyped same typed) (subst HasBlock same block) (subst IsCounted same counted))

@@ -17,7 +17,7 @@ use Rattle.reference.specs.States.{Hart, Binding, binding_at, binding_of}
 use Rattle.saved_machine.specs.SavedStates.{gpa_at, saved_hart, saved_harts}
 use Rattle.saved_machine.specs.declared.harts.SavedHart.{SavedHart}
 use Rattle.snapshot_form.specs.Forms.{number, is_word, has_all}
-use Rattle.snapshot_form.specs.HartForms.{aligned, begins_with_0, flag, hart, legal, mode, place, registers, reservation, is_reservable, side, status, trap_status}
+use Rattle.snapshot_form.specs.HartForms.{multiple_of, begins_with_0, flag, hart, legal, mode, place, registers, reservation, is_reservable, side, status, trap_status}
 use Rattle.snapshot_form.specs.Typed.{are_registers, are_words, is_typed_hart, supervisor_numbers}
 use Rattle.snapshot_form.proofs.FormLaws.{both_true, first_true, second_true}
 use Rattle.resume_laws.specs.Keepable.{AreKeepable, IsKeepableHart, IsReservable}
@@ -47,8 +47,8 @@ legal_has : (bits : ℕ → ℕ) (n : ℕ) → is_word n ≡ true → bits n ≡
 unfolding legal
 legal_has bits n w e = both_true (is_word n) (bits n == n) w (eq-eqb (bits n) n e)
 
-pub aligned_has : (size n : ℕ) → is_word n ≡ true → n % size ≡ 0 → (aligned size).has n ≡ true
-unfolding aligned
+pub aligned_has : (size n : ℕ) → is_word n ≡ true → n % size ≡ 0 → (multiple_of size).has n ≡ true
+unfolding multiple_of
 aligned_has size n w e = both_true (is_word n) (n % size == 0) w (eq-eqb (n % size) 0 e)
 
 pub flag_has : (b : Bool) → flag.has b ≡ true
@@ -137,7 +137,7 @@ hart_has rules clock h one within few sound kept typed =
     both_true (begins_with_0 one.registers) _ (zero_first one.registers kept.zero)
     (both_true (side.has (one.started, (one.mode, one.entry))) _
     (side_has rules one.started one.mode one.entry within sound.entry (λ off. let still = sound.stopped off in (still.mode, still.entry)))
-    (both_true ((aligned 4).has one.pc) _ (aligned_has 4 one.pc (small_word one.pc sound.small) sound.aligned)
+    (both_true ((multiple_of 4).has one.pc) _ (aligned_has 4 one.pc (small_word one.pc sound.small) sound.aligned)
     (both_true (registers.has (drop 1 one.registers)) _ (registers_have one.registers (first_true (are_registers one.registers) (are_words ns) numbers))
     (both_true _ ((reservation rules.ram_pages).has x.reservation && is_word x.timer)
     (both_true ((legal legal_status).has s.sstatus) _ (legal_has legal_status s.sstatus (word_at ns 0 s.sstatus words refl) sound.legal.sstatus)

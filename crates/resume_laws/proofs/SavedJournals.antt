@@ -13,8 +13,8 @@ use Rattle.sv_types.specs.declared.event.Verdict.TheVariants.{Running, Shutdown,
 use Rattle.sv_types.specs.declared.sbi.SbiCode.{SbiCode}
 use Rattle.reference.specs.Counting.{CountsAtMost}
 use Rattle.snapshot_form.specs.Forms.{is_word, has_all}
-use Rattle.snapshot_form.specs.HartForms.{aligned}
-use Rattle.snapshot_form.specs.JournalForms.{answer, code, count, counts, demote, denied, event_counts, hart_counts, hart_number, is_among, load_note, note, note_behind, notes, retire, rule_counts, stopped_entry, stopped_write, unload, verdict, verdict_behind}
+use Rattle.snapshot_form.specs.HartForms.{multiple_of}
+use Rattle.snapshot_form.specs.JournalForms.{answer, code, count, counts, demote, denied_note, event_counts, hart_counts, hart_number, is_among, load_note, note, note_behind, notes, retire, rule_counts, stopped_entry, stopped_write, unload, verdict, verdict_behind}
 use Rattle.snapshot_form.specs.Typed.{are_words, is_typed_note, note_numbers, verdict_numbers}
 use Rattle.snapshot_form.proofs.FormLaws.{both_true, first_true, second_true}
 use Rattle.resume_laws.specs.Keepable.{AreKeepableNotes, IsKeepableJournal, IsKeepableNote, IsKeepableVerdict}
@@ -56,12 +56,12 @@ code_has SbiCode.Already = refl
 code_has SbiCode.UnderWay = refl
 
 note_has : (harts : ℕ) (n : Note) → IsKeepableNote harts n → are_words (note_numbers n) ≡ true → (note harts).has n ≡ true
-unfolding note note_behind demote denied load_note unload retire answer
+unfolding note note_behind demote denied_note load_note unload retire answer
 note_has harts (Demote h turn pc gpa) k words =
     let ns : List ℕ = h ∷ turn ∷ pc ∷ gpa ∷ [] in
     both_true ((hart_number harts).has h) _ (hart_has harts h (word_at ns 0 h words refl) k.0)
     (both_true (is_word turn) _ (word_at ns 1 turn words refl)
-    (both_true ((aligned 4).has pc) _ (aligned_has 4 pc (word_at ns 2 pc words refl) k.1) (word_at ns 3 gpa words refl)))
+    (both_true ((multiple_of 4).has pc) _ (aligned_has 4 pc (word_at ns 2 pc words refl) k.1) (word_at ns 3 gpa words refl)))
 note_has harts (Denied gpa) k words = word_at (gpa ∷ []) 0 gpa words refl
 note_has harts (Load h turn id c) k words =
     let ns : List ℕ = h ∷ turn ∷ id ∷ [] in
@@ -108,6 +108,6 @@ verdict_has harts (Stopped (Entry target) h turn) k words =
     (both_true ((hart_number harts).has h) _ (hart_has harts h (word_at ns 1 h words refl) k) (word_at ns 2 turn words refl))
 verdict_has harts (Stopped (Write pc gpa) h turn) k words =
     let ns : List ℕ = pc ∷ gpa ∷ h ∷ turn ∷ [] in
-    both_true ((aligned 4).has pc) _ (aligned_has 4 pc (word_at ns 0 pc words refl) k.1)
+    both_true ((multiple_of 4).has pc) _ (aligned_has 4 pc (word_at ns 0 pc words refl) k.1)
     (both_true (is_word gpa) _ (word_at ns 1 gpa words refl)
     (both_true ((hart_number harts).has h) _ (hart_has harts h (word_at ns 2 h words refl) k.0) (word_at ns 3 turn words refl)))

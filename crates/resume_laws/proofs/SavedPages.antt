@@ -15,8 +15,8 @@ use Rattle.reference.specs.Soundness.{HoldsModule, IsSound, IsSoundLoad}
 use Rattle.reference.specs.States.{State, Hart, Loading, has_number, find_module, pages_in_rule}
 use Rattle.saved_machine.specs.SavedStates.{saved_hart, saved_harts, saved_load}
 use Rattle.snapshot_form.specs.Forms.{is_word, has_all}
-use Rattle.snapshot_form.specs.HartForms.{aligned, flag, is_user}
-use Rattle.snapshot_form.specs.PageForms.{is_above, last_id, last_page, load, load_behind, loading, may_load, module_within, modules, next_module, protection, protections, text, text_page}
+use Rattle.snapshot_form.specs.HartForms.{multiple_of, flag, is_user}
+use Rattle.snapshot_form.specs.PageForms.{is_above, last_id, last_page, load, load_behind, load_under_way, may_load, module_within, modules, next_module, protection, protections, text, text_page}
 use Rattle.snapshot_form.specs.Typed.{are_words, is_typed_module, is_typed_page, load_numbers, module_numbers}
 use Rattle.snapshot_form.specs.declared.whole.TextPage.{TextPage}
 use Rattle.snapshot_form.proofs.FormLaws.{both_true, first_true, second_true}
@@ -127,8 +127,8 @@ module_has : (good : ℕ → Bool) (m : SavedModule) → good m.id ≡ true → 
 unfolding module_within
 module_has good m id k va words =
     both_true (is_word m.id && good m.id) _ (both_true (is_word m.id) (good m.id) (word_at (module_numbers m) 0 m.id words refl) id)
-    (both_true ((aligned page_size).has m.gpa) _ (aligned_has page_size m.gpa (word_at (module_numbers m) 1 m.gpa words refl) (whole_gpa m.gpa k.base k.aligned))
-    (both_true ((aligned page_size).has m.va) _ (aligned_has page_size m.va (word_at (module_numbers m) 2 m.va words refl) va)
+    (both_true ((multiple_of page_size).has m.gpa) _ (aligned_has page_size m.gpa (word_at (module_numbers m) 1 m.gpa words refl) (whole_gpa m.gpa k.base k.aligned))
+    (both_true ((multiple_of page_size).has m.va) _ (aligned_has page_size m.va (word_at (module_numbers m) 2 m.va words refl) va)
     (word_at (module_numbers m) 3 m.data_va words refl)))
 
 modules_each : (before ms : List SavedModule) (last : Option ℕ) → last_id before ≡ last → AscendFrom (behind last) (ids_of ms)
@@ -204,11 +204,11 @@ load_has r one sound k goes words =
     (least_is one.left 1024 (few_left r.rules one.about.id one.left (slice_get r.rules.modules one.about.id) sound.within refl k.left))))
 
 loading_by : (r : State) (x : Option Loading) → IsSound r → IsSoundLoad r.rules r.approved r.loaded r.held x → IsKeepableLoad r.harts x
-    → are_words (load_numbers (option_map saved_load x)) ≡ true → (loading (saved_harts r.devices.clock 0 r.harts)).has (option_map saved_load x) ≡ true
-unfolding loading load_behind flag
+    → are_words (load_numbers (option_map saved_load x)) ≡ true → (load_under_way (saved_harts r.devices.clock 0 r.harts)).has (option_map saved_load x) ≡ true
+unfolding load_under_way load_behind flag
 loading_by r None sound k goes words = refl
 loading_by r (Some one) sound k goes words = load_has r one sound k goes words
 
 pub loading_has : (r : State) → IsSound r → IsKeepableLoad r.harts r.loading
-    → are_words (load_numbers (option_map saved_load r.loading)) ≡ true → (loading (saved_harts r.devices.clock 0 r.harts)).has (option_map saved_load r.loading) ≡ true
+    → are_words (load_numbers (option_map saved_load r.loading)) ≡ true → (load_under_way (saved_harts r.devices.clock 0 r.harts)).has (option_map saved_load r.loading) ≡ true
 loading_has r sound goes words = loading_by r r.loading sound sound.load goes words

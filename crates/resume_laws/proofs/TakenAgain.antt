@@ -9,7 +9,7 @@ use Rattle.reference.specs.Origins.{AllAbove, Ascends}
 use Rattle.sv_types.specs.Protections.{is_free}
 use Rattle.reference.specs.Protections.{protection_at}
 use Rattle.reference.specs.States.{has_number, module_pages}
-use Rattle.resumption.specs.Judgements.{loaded_pages, taken}
+use Rattle.resumption.specs.Judgements.{loaded_pages, take_pages}
 use Rattle.resumption.proofs.TakenSpans.{set_beside}
 use Rattle.run_laws.proofs.Lookups.{both, same_number, above_at}
 use Rattle.resume_laws.specs.Keepable.{AscendFrom}
@@ -81,4 +81,4 @@ takes p guard [] once free = (guard, refl)
 takes p guard (page ∷ pages) once free =
     let rest = takes p (slice_set guard page p) pages once.1
     (λ q there. ap is_free (set_beside guard page q p (λ same. both (has_number pages q) there (subst (λ (k : ℕ). has_number pages k ≡ false) same once.0))) ∙ free q (tail_in page q pages there)) in
-    (rest.0, ap (λ (b : Bool). if b then taken p (slice_set guard page p) pages else None) (free page (head_in page pages)) ∙ rest.1)
+    (rest.0, ap (λ (b : Bool). if b then take_pages p (slice_set guard page p) pages else None) (free page (head_in page pages)) ∙ rest.1)

@@ -7,7 +7,7 @@ use Rattle.sv_types.specs.declared.protection.Protection.{Protection}
 use Rattle.sv_types.specs.Protections.{is_free}
 use Rattle.reference.specs.Protections.{protection_at}
 use Rattle.reference.specs.States.{has_number}
-use Rattle.resumption.specs.Judgements.{taken}
+use Rattle.resumption.specs.Judgements.{take_pages}
 use Rattle.resumption.proofs.TakenSpans.{set_beside}
 use Rattle.run_laws.proofs.Lookups.{both, same_number}
 
@@ -21,10 +21,10 @@ set_here (x ∷ guard) (suc page) p inside = set_here guard page p (omega (arith
 -- ---- a step
 
 abbrev pub Taking : Protection → List Protection → List ℕ → List Protection → Type 0
-Taking p guard pages after = taken p guard pages ≡ Some after
+Taking p guard pages after = take_pages p guard pages ≡ Some after
 
 free_first : (p : Protection) (guard after : List Protection) (page : ℕ) (pages : List ℕ) (b : Bool) → is_free (protection_at guard page) ≡ b
-    → (if b then taken p (slice_set guard page p) pages else None) ≡ Some after
+    → (if b then take_pages p (slice_set guard page p) pages else None) ≡ Some after
     → (is_free (protection_at guard page) ≡ true) × Taking p (slice_set guard page p) pages after
 free_first p guard after page pages true at e = (at, e)
 free_first p guard after page pages false at e = absurd cc
@@ -104,7 +104,7 @@ taken_in_two p guard after [] others e = (guard, (refl, e))
 taken_in_two p guard after (page ∷ pages) others e =
     let step = first_taken p guard after page (pages ++ others) e in
     let rest = taken_in_two p (slice_set guard page p) after pages others step.1 in
-    (rest.0, (ap (λ (b : Bool). if b then taken p (slice_set guard page p) pages else None) step.0 ∙ rest.1.0, rest.1.1))
+    (rest.0, (ap (λ (b : Bool). if b then take_pages p (slice_set guard page p) pages else None) step.0 ∙ rest.1.0, rest.1.1))
 
 held_or_not : (p : Protection) (x : Protection) → is_free p ≡ false → x ≡ p → is_free x ≡ true → ⊥
 held_or_not p x taken same free = both (is_free x) free (ap is_free same ∙ taken)

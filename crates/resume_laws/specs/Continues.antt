@@ -26,16 +26,16 @@ drawn_under Running next rest = next rest
 drawn_under Shutdown next rest = 0
 drawn_under (Stopped rule h at) next rest = 0
 
-unfoldable pub drawn : State → List Event → ℕ
-drawn r [] = 0
-drawn r (e ∷ events) = drawn_under r.journal.verdict suc (drawn (step r e) events)
+unfoldable pub draw_count : State → List Event → ℕ
+draw_count r [] = 0
+draw_count r (e ∷ events) = drawn_under r.journal.verdict suc (draw_count (step r e) events)
 
 -- Behind the first k events, or those up to the verdict, a state that is alike but has nothing printed goes on with the events
 -- that are left: the bytes that were printed then, and what it gives, are what the whole run gives. Status and disk are the same.
 pub record Continues (s : State) (k : ℕ) (events : List Event) (resumed : State) : Type 0 where
-  pub output : (run s (take k events)).journal.printed ++ output (run resumed (drop (drawn s (take k events)) events)) ≡ output (run s events)
-  pub verdict : (run resumed (drop (drawn s (take k events)) events)).journal.verdict ≡ (run s events).journal.verdict
-  pub disk : disk_bytes (run resumed (drop (drawn s (take k events)) events)).devices.disk ≡ disk_bytes (run s events).devices.disk
+  pub output : (run s (take k events)).journal.printed ++ output (run resumed (drop (draw_count s (take k events)) events)) ≡ output (run s events)
+  pub verdict : (run resumed (drop (draw_count s (take k events)) events)).journal.verdict ≡ (run s events).journal.verdict
+  pub disk : disk_bytes (run resumed (drop (draw_count s (take k events)) events)).devices.disk ≡ disk_bytes (run s events).devices.disk
 
 abbrev pub ContinuesLaw : Type 0
 ContinuesLaw = (s : State) (k : ℕ) (events : List Event) (resumed : State) → resumed.journal.printed ≡ []

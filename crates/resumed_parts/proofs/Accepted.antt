@@ -13,7 +13,7 @@ use Rattle.reference.specs.States.{pages_in_rule}
 use Rattle.saved_machine.specs.declared.harts.SavedHart.{SavedHart}
 use Rattle.saved_machine.specs.declared.whole.SavedLoad.{SavedLoad}
 use Rattle.snapshot_form.specs.DeviceForms.{devices}
-use Rattle.snapshot_form.specs.PageForms.{loading}
+use Rattle.snapshot_form.specs.PageForms.{load_under_way}
 use Rattle.snapshot_form.specs.Snapshots.{Contents, snapshot}
 use Rattle.snapshot_form.proofs.FormLaws.{first_true, second_true}
 use Rattle.machine_model.specs.StandsFor.{bound_pages}
@@ -56,7 +56,7 @@ from_none (m ∷ ms) = omega arith
 
 -- ---- the load
 
-load_within : (rules : Rules) (hs : List SavedHart) (ms : List SavedModule) (x : Option SavedLoad) → load_fits rules ms x ≡ true → (loading hs).has x ≡ true → IfSome x (IsWithin rules)
+load_within : (rules : Rules) (hs : List SavedHart) (ms : List SavedModule) (x : Option SavedLoad) → load_fits rules ms x ≡ true → (load_under_way hs).has x ≡ true → IfSome x (IsWithin rules)
 load_within rules hs ms None fit has = tt
 load_within rules hs ms (Some l) fit has =
     let parts = load_parts_of hs l has in

@@ -15,7 +15,7 @@ use Rattle.page_guard.specs.Guarded.{first_taken, with_span}
 use Rattle.snapshot_form.specs.Snapshots.{Contents}
 use Rattle.snapshot_form.specs.declared.whole.TextPage.{TextPage}
 use Rattle.snapshot_form.proofs.FormLaws.{first_true, second_true}
-use Rattle.resumption.specs.Judgements.{approved_of, fits, guard_due, is_due, is_guarded_right, load_pages, loaded_pages, taken, text_left, then_held}
+use Rattle.resumption.specs.Judgements.{approved_of, fits, guard_due, is_due, is_guarded_right, load_pages, loaded_pages, take_pages, text_left, then_held}
 use Rattle.resumption.specs.Taking.{left_of}
 use Rattle.resumption.proofs.TakenSpans.{span_twice, taken_none, taken_span}
 use Rattle.resumption.proofs.TakenLoops.{modules_break, none_behind, some_behind, text_breaks}
@@ -30,23 +30,23 @@ by_first None y none there = let gone : is_some y ≡ false = ap is_some (none r
 by_first (Some guard) y none there = refl
 
 pub free_first : (p : Protection) (guard : List Protection) (some rest : List ℕ) → CanTake p guard (some ++ rest) → CanTake p guard some
-free_first p guard some rest all = by_first (taken p guard some) (taken p guard (some ++ rest)) (none_behind p guard some rest) all
+free_first p guard some rest all = by_first (take_pages p guard some) (take_pages p guard (some ++ rest)) (none_behind p guard some rest) all
 
-pub free_behind : (p : Protection) (guard next : List Protection) (some rest : List ℕ) → CanTake p guard (some ++ rest) → taken p guard some ≡ Some next → CanTake p next rest
+pub free_behind : (p : Protection) (guard next : List Protection) (some rest : List ℕ) → CanTake p guard (some ++ rest) → take_pages p guard some ≡ Some next → CanTake p next rest
 free_behind p guard next some rest all is = subst (λ (g : Option (List Protection)). is_some g ≡ true) (some_behind p guard next some rest is) all
 
 -- the next page of the text, and the next module
 pub text_free : (rules : Rules) (retired : Bool) (text : List TextPage) (i : ℕ) (d : TextPage) (old guard : List Protection) (all : List ℕ) → i < length text → CanApprove old all
-    → taken Approved old all ≡ taken Approved guard (left_of rules retired (drop i text)) → CanApprove guard (left_of rules retired (get_or text i d ∷ []))
+    → take_pages Approved old all ≡ take_pages Approved guard (left_of rules retired (drop i text)) → CanApprove guard (left_of rules retired (get_or text i d ∷ []))
 text_free rules retired text i d old guard all within free before =
-    by_first (taken Approved guard (left_of rules retired (get_or text i d ∷ []))) (taken Approved old all)
-    (λ none. text_breaks rules retired text i d (taken Approved old all) guard guard false within refl none before) free
+    by_first (take_pages Approved guard (left_of rules retired (get_or text i d ∷ []))) (take_pages Approved old all)
+    (λ none. text_breaks rules retired text i d (take_pages Approved old all) guard guard false within refl none before) free
 
 pub module_free : (rules : Rules) (modules : List SavedModule) (i : ℕ) (d : SavedModule) (old guard : List Protection) (all : List ℕ) → i < length modules → CanApprove old all
-    → taken Approved old all ≡ taken Approved guard (loaded_pages rules (drop i modules)) → CanApprove guard (module_pages rules (get_or modules i d))
+    → take_pages Approved old all ≡ take_pages Approved guard (loaded_pages rules (drop i modules)) → CanApprove guard (module_pages rules (get_or modules i d))
 module_free rules modules i d old guard all within free before =
-    by_first (taken Approved guard (module_pages rules (get_or modules i d))) (taken Approved old all)
-    (λ none. modules_break rules modules i d (taken Approved old all) guard guard false within refl none before) free
+    by_first (take_pages Approved guard (module_pages rules (get_or modules i d))) (take_pages Approved old all)
+    (λ none. modules_break rules modules i d (take_pages Approved old all) guard guard false within refl none before) free
 
 pub all_at : {A : Type 0} (test : A → Bool) (xs : List A) (i : ℕ) (d : A) → list_all test xs ≡ true → i < length xs → test (get_or xs i d) ≡ true
 all_at test [] i d all within = absurd (omega (arith, within))
@@ -69,8 +69,8 @@ span_set guard mid after span hold none held same set =
 pub span_busy : (p : Protection) (guard : List Protection) (span : Span) (q : ℕ) → CanTake p guard (numbers_from span.first span.count) → first_taken guard span ≡ Some q → ⊥
 unfolding first_taken
 span_busy p guard span q free found =
-    let none : taken p guard (numbers_from span.first span.count) ≡ None = taken_none p guard (numbers_from span.first span.count) q found in
-    let gone : is_some (taken p guard (numbers_from span.first span.count)) ≡ false = ap is_some none in cc
+    let none : take_pages p guard (numbers_from span.first span.count) ≡ None = taken_none p guard (numbers_from span.first span.count) q found in
+    let gone : is_some (take_pages p guard (numbers_from span.first span.count)) ≡ false = ap is_some none in cc
 
 -- a module's pages lie in RAM
 pub module_inside : (rules : Rules) (m : SavedModule) (n : ℕ) → fits rules m ≡ true → n ≡ rules.ram_pages → page_of m.gpa + pages_in_rule (slice_get rules.modules m.id) ≤ n
@@ -85,7 +85,7 @@ due_some (Some guard) pages ps e = refl
 
 pub guard_free : (rules : Rules) (s : Contents) → is_guarded_right rules s ≡ true → CanApprove (replicate rules.ram_pages Free) (approved_of rules s)
 unfolding is_guarded_right guard_due
-guard_free rules s right = due_some (taken Approved (replicate rules.ram_pages Free) (approved_of rules s)) (load_pages rules s.loading) s.protection right
+guard_free rules s right = due_some (take_pages Approved (replicate rules.ram_pages Free) (approved_of rules s)) (load_pages rules s.loading) s.protection right
 
 -- text first, and modules behind it
 pub both_taken : (guard mid after : List Protection) (text modules : List ℕ) → Approves guard mid text → Approves mid after modules → Approves guard after (text ++ modules)
@@ -100,12 +100,12 @@ pub load_free : (rules : Rules) (s : Contents) (mid : List Protection) → is_gu
     → CanTake Held mid (load_pages rules s.loading)
 unfolding is_guarded_right guard_due
 load_free rules s mid right is =
-    some_due (taken Held mid (load_pages rules s.loading)) s.protection
+    some_due (take_pages Held mid (load_pages rules s.loading)) s.protection
     (subst (λ (x : Option (List Protection)). is_due (then_held x (load_pages rules s.loading)) s.protection ≡ true) is right)
 
 -- and the protections behind it are the snapshot's
 pub guard_is : (rules : Rules) (s : Contents) (mid after : List Protection) → is_guarded_right rules s ≡ true → Approves (replicate rules.ram_pages Free) mid (approved_of rules s)
-    → taken Held mid (load_pages rules s.loading) ≡ Some after → after ≡ s.protection
+    → take_pages Held mid (load_pages rules s.loading) ≡ Some after → after ≡ s.protection
 unfolding is_guarded_right guard_due
 guard_is rules s mid after right is held =
     all_same after s.protection

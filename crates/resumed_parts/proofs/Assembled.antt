@@ -35,8 +35,8 @@ pages_guarded rules s guard is = length_taken Approved (replicate rules.ram_page
 
 -- ---- values as they are made
 
-abbrev pub listed : (entries bound : List ℕ) → Permitted
-listed entries bound = record { entries = entries; bound = bound }
+abbrev pub permitted_of : (entries bound : List ℕ) → Permitted
+permitted_of entries bound = record { entries = entries; bound = bound }
 
 abbrev pub devices_by : Contents → List ℕ → List SavedHart → Devices
 devices_by s input hs = record { console = input; disk = disk_of s.port s.disk; clock = record { time = s.time; timers = timers_of hs } }

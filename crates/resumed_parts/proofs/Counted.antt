@@ -20,9 +20,9 @@ use Rattle.answer_laws.proofs.SitesInPages.{below}
 use Rattle.answer_laws.proofs.LoadsMirrored.{about_is, left_is, kept_next}
 use Rattle.saved_machine.specs.declared.whole.SavedLoad.{SavedLoad}
 use Rattle.page_guard.specs.Guarded.{with_span}
-use Rattle.module_gate.specs.Gates.{PageTurns, begun, host_load, is_good_place, is_taken, load_span, next_counted}
+use Rattle.module_gate.specs.Gates.{PageTurns, new_load, host_load, is_good_place, is_taken, load_span, next_counted}
 use Rattle.module_answers.proofs.LoadTurns.{counted_is}
-use Rattle.resumption.specs.Judgements.{fits, taken}
+use Rattle.resumption.specs.Judgements.{fits, take_pages}
 use Rattle.resumption.proofs.TakenSpans.{is_busy, taken_none, taken_span}
 use Rattle.resume_laws.proofs.ResumedPages.{fits_is, place_aligned}
 use Rattle.resumed_start.specs.Resuming.{load_resumed}
@@ -99,14 +99,14 @@ none_below (site ∷ sites) =
     ap (λ (b : Bool). if b then site ∷ filter (below 0) sites else filter (below 0) sites) past ∙ none_below sites
 
 kept_begun : (rules : Rules) (ram : List ℕ) (hart pages : ℕ) (about : SavedModule) (rule : ModuleRule) → pages ≡ rule.pages
-    → host_load hart (begun about pages) ≡ load_kept_by rules ram (loading_at hart about pages) (Some rule)
+    → host_load hart (new_load about pages) ≡ load_kept_by rules ram (loading_at hart about pages) (Some rule)
 unfolding load_kept_by kept_digests kept_answer fields_right
 kept_begun rules ram hart pages about rule same =
     let none : rule.pages - pages ≡ 0 = omega (arith, same) in
     rw (none, none_below) refl
 
 pub begun_counted : (rules : Rules) (ram : List ℕ) (about : SavedModule) (load : PageTurns) (rule : ModuleRule) → slice_get rules.modules about.id ≡ Some rule
-    → load ≡ begun about (pages_in_rule (slice_get rules.modules about.id)) → ram_place about.gpa % page_size ≡ 0
+    → load ≡ new_load about (pages_in_rule (slice_get rules.modules about.id)) → ram_place about.gpa % page_size ≡ 0
     → ram_place about.gpa + page_size * pages_in_rule (slice_get rules.modules about.id) ≤ length ram → IsCounted rules ram load
 begun_counted rules ram about load rule known is begins inside =
     let pages : ℕ = pages_in_rule (slice_get rules.modules about.id) in
@@ -135,8 +135,8 @@ found_any test (x ∷ xs) none = any_by (test x) (list_any test xs) x (find test
 none_by : (p : Protection) (guard : List Protection) (pages : List ℕ) (x : Option ℕ) → find (is_busy guard) pages ≡ x → CanTake p guard pages → x ≡ None
 none_by p guard pages None found free = refl
 none_by p guard pages (Some q) found free =
-    let none : taken p guard pages ≡ None = taken_none p guard pages q found in
-    let gone : is_some (taken p guard pages) ≡ false = ap is_some none in absurd cc
+    let none : take_pages p guard pages ≡ None = taken_none p guard pages q found in
+    let gone : is_some (take_pages p guard pages) ≡ false = ap is_some none in absurd cc
 
 none_busy : (p : Protection) (guard : List Protection) (pages : List ℕ) → CanTake p guard pages → find (is_busy guard) pages ≡ None
 none_busy p guard pages free = none_by p guard pages (find (is_busy guard) pages) refl free
@@ -159,7 +159,7 @@ good_place rules ram guard load within size free =
 
 -- the pages that it takes
 pub load_taken : (rules : Rules) (guard after : List Protection) (m : SavedModule) (load : PageTurns) → CanTake Held guard (module_pages rules m)
-    → load ≡ begun m (pages_in_rule (slice_get rules.modules m.id)) → after ≡ with_span guard (load_span load) Held → taken Held guard (module_pages rules m) ≡ Some after
+    → load ≡ new_load m (pages_in_rule (slice_get rules.modules m.id)) → after ≡ with_span guard (load_span load) Held → take_pages Held guard (module_pages rules m) ≡ Some after
 load_taken rules guard after m load free is set =
     let n : ℕ = pages_in_rule (slice_get rules.modules m.id) in
     let all : after ≡ with_pages guard (page_of m.gpa) n Held = set ∙ ap (λ (l : PageTurns). with_span guard (load_span l) Held) is in
@@ -185,7 +185,7 @@ has_rule rules m fit = let known = rule_of rules m fit in some_has (slice_get ru
 
 -- the load that began, in RAM as it is now
 pub begun_where : (rules : Rules) (ram now : List ℕ) (saved : SavedLoad) (load : PageTurns) → IsWithin rules saved → now ≡ ram → length ram ≡ page_size * rules.ram_pages
-    → load ≡ begun saved.«module» (pages_in_rule (slice_get rules.modules saved.«module».id)) → IsCounted rules now load
+    → load ≡ new_load saved.«module» (pages_in_rule (slice_get rules.modules saved.«module».id)) → IsCounted rules now load
 begun_where rules ram now saved load within same size is =
     let m = saved.«module» in
     let known = rule_of rules m within.fits in

@@ -25,7 +25,7 @@ use Rattle.processor_laws.proofs.GuestViews.{shown_is_legal}
 use Rattle.processor_laws.proofs.RegisterBits.{boot_is_legal}
 use Rattle.saved_machine.specs.declared.harts.SavedHart.{SavedHart}
 use Rattle.snapshot_form.specs.Forms.{is_word, has_all}
-use Rattle.snapshot_form.specs.HartForms.{is_user, flag as flag_form, mode, place, is_reservable, reservation, aligned, side, status, registers, begins_with_0, hart, harts}
+use Rattle.snapshot_form.specs.HartForms.{is_user, flag as flag_form, mode, place, is_reservable, reservation, multiple_of, side, status, registers, begins_with_0, hart, harts}
 use Rattle.snapshot_form.proofs.FormLaws.{first_true, second_true}
 use Rattle.resumption.specs.Judgements.{is_bound}
 use Rattle.resumption.specs.ResumedStates.{resumed_hart}
@@ -88,7 +88,7 @@ hart_ranges pages h has =
     let parts = second_true (begins_with_0 h.registers) _ has in
     let side_part = first_true (side.has (h.started, (h.mode, h.entry))) _ parts in
     let pc_on = second_true (side.has (h.started, (h.mode, h.entry))) _ parts in
-    let registers_on = second_true ((aligned 4).has h.pc) _ pc_on in
+    let registers_on = second_true ((multiple_of 4).has h.pc) _ pc_on in
     let status_on = second_true (registers.has (drop 1 h.registers)) _ registers_on in
     let reserved_on = second_true (status.has _) ((reservation pages).has h.reservation && is_word h.timer) status_on in
     let known = supervisor_of pages h has in

@@ -70,10 +70,10 @@ fn timers_of(harts: &[SavedHart]) -> [u64; MOST_HARTS as usize]
 }
 
 // The timer of a hart; that of one that isn't there never is due.
-fn timer_at(harts: &[SavedHart], which: usize) -> u64
-    ensures { result ≡ timer_in (slice_get harts.now which) }
+fn timer_at(harts: &[SavedHart], hart_index: usize) -> u64
+    ensures { result ≡ timer_in (slice_get harts.now hart_index) }
 {
-    match harts.get(which) {
+    match harts.get(hart_index) {
         Some(hart) => hart.timer,
         None => NEVER,
     }

@@ -7,7 +7,7 @@ ghost use Rattle.reference.specs.States.{module_pages};
 ghost use Rattle.page_guard.specs.Guarded.{IsTheirs, StaysTheirs};
 ghost use Rattle.module_answers.specs.Conditions.{TakesItsPages};
 ghost use Rattle.module_answers.specs.Parts.{load_of};
-ghost use Rattle.resumption.specs.Judgements.{load_pages, taken};
+ghost use Rattle.resumption.specs.Judgements.{load_pages, take_pages};
 ghost use Rattle.resumed_start.specs.Resuming.{load_resumed};
 ghost use Rattle.resumed_parts.specs.Approving.{CanTake};
 ghost use Rattle.resumed_parts.specs.Counting.{IsCounted, IsWithin};
@@ -37,7 +37,7 @@ pub fn resume_loading(
     ensures load { option_map load_of result ≡ option_map (load_resumed (rules_of policy.now) mem.old.ram) loading.now }
     ensures pages { IfSome result (TakesItsPages (rules_of policy.now)) }
     ensures gate { gate.new ≡ record gate.old { loading = is_some result } }
-    ensures guard { taken Held guard.old.pages (load_pages (rules_of policy.now) loading.now) ≡ Some guard.new.pages }
+    ensures guard { take_pages Held guard.old.pages (load_pages (rules_of policy.now) loading.now) ≡ Some guard.new.pages }
     ensures theirs { StaysTheirs mem.old mem.new guard.old guard.new }
 {
     match loading {
@@ -63,7 +63,7 @@ fn resume_load(
     ensures load { load_of result ≡ load_resumed (rules_of policy.now) mem.old.ram saved.now }
     ensures pages { TakesItsPages (rules_of policy.now) result }
     ensures gate { gate.new ≡ record gate.old { loading = true } }
-    ensures guard { taken Held guard.old.pages (module_pages (rules_of policy.now) saved.now.«module») ≡ Some guard.new.pages }
+    ensures guard { take_pages Held guard.old.pages (module_pages (rules_of policy.now) saved.now.«module») ≡ Some guard.new.pages }
     ensures theirs { StaysTheirs mem.old mem.new guard.old guard.new }
 {
     let mut load = gate.begin(guard, mem, policy, saved.module);

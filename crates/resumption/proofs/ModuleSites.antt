@@ -9,7 +9,7 @@ use Rattle.processor.specs.Bytes.{page_size}
 use Rattle.sv_types.specs.Limits.{most_module_pages}
 use Rattle.sv_types.specs.Policies.{Rules, ModuleRule, rules_within, each_within, next_site_within, site_within, is_behind}
 use Rattle.sv_types.specs.declared.module.Site.{Site}
-use Rattle.relocated_fields.specs.Pieces.{piece_sites, lies_in, moved}
+use Rattle.relocated_fields.specs.Pieces.{piece_sites, lies_in, site_from}
 use Rattle.saved_machine.specs.declared.harts.SavedHart.{SavedHart}
 use Rattle.snapshot_form.specs.Snapshots.{Contents}
 use Rattle.resumption.specs.Judgements.{fits, is_bound, is_of_policy, load_fits}
@@ -59,7 +59,7 @@ whole_piece size (site ∷ sites) all =
     let below : site.offset < size = All-head (IsInside size) site sites all in
     let here : lies_in 0 size site ≡ true = grind (arith, nat_tests, below) in
     let start : site.offset - 0 ≡ site.offset = omega arith in
-    ap (λ (b : Bool). if b then moved 0 site ∷ piece_sites 0 size sites else piece_sites 0 size sites) here
+    ap (λ (b : Bool). if b then site_from 0 site ∷ piece_sites 0 size sites else piece_sites 0 size sites) here
     ∙ ap (λ (n : ℕ). record site { offset = n } ∷ piece_sites 0 size sites) start
     ∙ ap (λ (rest : List Site). site ∷ rest) (whole_piece size sites (All-tail (IsInside size) site sites all))
 

@@ -8,7 +8,7 @@ use Rattle.sv_types.specs.declared.protection.Protection.{Protection}
 use Rattle.sv_types.specs.Protections.{is_free}
 use Rattle.reference.specs.Protections.{protection_at, with_pages}
 use Rattle.reference.specs.States.{has_number}
-use Rattle.resumption.specs.Judgements.{taken}
+use Rattle.resumption.specs.Judgements.{take_pages}
 use Rattle.sv_types.proofs.PageNumbers.{numbers_more}
 
 -- ---- one page set
@@ -53,14 +53,14 @@ span_twice guard first (suc count) p q =
 
 abbrev pub then_taken : Protection → Option (List Protection) → List ℕ → Option (List Protection)
 then_taken p None pages = None
-then_taken p (Some guard) pages = taken p guard pages
+then_taken p (Some guard) pages = take_pages p guard pages
 
-pub taken_behind : (p : Protection) (guard : List Protection) (some others : List ℕ) → taken p guard (some ++ others) ≡ then_taken p (taken p guard some) others
+pub taken_behind : (p : Protection) (guard : List Protection) (some others : List ℕ) → take_pages p guard (some ++ others) ≡ then_taken p (take_pages p guard some) others
 taken_behind p guard [] others = refl
 taken_behind p guard (page ∷ pages) others = by (is_free (protection_at guard page)) (taken_behind p (slice_set guard page p) pages others)
   where
-    by : (b : Bool) → taken p (slice_set guard page p) (pages ++ others) ≡ then_taken p (taken p (slice_set guard page p) pages) others
-        → (if b then taken p (slice_set guard page p) (pages ++ others) else None) ≡ then_taken p (if b then taken p (slice_set guard page p) pages else None) others
+    by : (b : Bool) → take_pages p (slice_set guard page p) (pages ++ others) ≡ then_taken p (take_pages p (slice_set guard page p) pages) others
+        → (if b then take_pages p (slice_set guard page p) (pages ++ others) else None) ≡ then_taken p (if b then take_pages p (slice_set guard page p) pages else None) others
     by true rest = rest
     by false rest = refl
 
@@ -69,13 +69,13 @@ taken_behind p guard (page ∷ pages) others = by (is_free (protection_at guard 
 abbrev AllFree : List Protection → (first count : ℕ) → Type 0
 AllFree guard first count = (i : ℕ) → i < count → is_free (protection_at guard (first + i)) ≡ true
 
-taken_free : (p : Protection) (guard : List Protection) (first count : ℕ) → AllFree guard first count → taken p guard (numbers_from first count) ≡ Some (with_pages guard first count p)
+taken_free : (p : Protection) (guard : List Protection) (first count : ℕ) → AllFree guard first count → take_pages p guard (numbers_from first count) ≡ Some (with_pages guard first count p)
 unfolding with_pages
 taken_free p guard first zero free = refl
 taken_free p guard first (suc count) free =
     let last : is_free (protection_at (with_pages guard first count p) (first + count)) ≡ true =
     ap is_free (span_beside guard first count (first + count) p (omega arith)) ∙ free count (omega arith) in
-    ap (taken p guard) (numbers_more first count)
+    ap (take_pages p guard) (numbers_more first count)
     ∙ taken_behind p guard (numbers_from first count) ((first + count) ∷ [])
     ∙ ap (λ (g : Option (List Protection)). then_taken p g ((first + count) ∷ [])) (taken_free p guard first count (λ i below. free i (omega (arith, below))))
     ∙ ap (λ (b : Bool). if b then Some (slice_set (with_pages guard first count p) (first + count) p) else None) last
@@ -100,15 +100,15 @@ none_busy guard first (suc count) none (suc i) below =
 
 -- a span without a page that isn't free is taken whole
 pub taken_span : (p : Protection) (guard : List Protection) (first count : ℕ) → find (is_busy guard) (numbers_from first count) ≡ None
-    → taken p guard (numbers_from first count) ≡ Some (with_pages guard first count p)
+    → take_pages p guard (numbers_from first count) ≡ Some (with_pages guard first count p)
 taken_span p guard first count none = taken_free p guard first count (none_busy guard first count none)
 
 -- ---- a page that isn't free
 
 busy_by : (p : Protection) (guard : List Protection) (page : ℕ) (pages : List ℕ) (q : ℕ) (b same : Bool) → is_free (protection_at guard page) ≡ b → (page == q) ≡ same
     → (same || has_number pages q) ≡ true → is_free (protection_at guard q) ≡ false
-    → (has_number pages q ≡ true → is_free (protection_at (slice_set guard page p) q) ≡ false → taken p (slice_set guard page p) pages ≡ None)
-    → (if b then taken p (slice_set guard page p) pages else None) ≡ None
+    → (has_number pages q ≡ true → is_free (protection_at (slice_set guard page p) q) ≡ false → take_pages p (slice_set guard page p) pages ≡ None)
+    → (if b then take_pages p (slice_set guard page p) pages else None) ≡ None
 busy_by p guard page pages q false same at is there busy rest = refl
 busy_by p guard page pages q true true at is there busy rest =
     let here : is_free (protection_at guard q) ≡ true = subst (λ (k : ℕ). is_free (protection_at guard k) ≡ true) (eqb-true page q is) at in absurd cc
@@ -116,7 +116,7 @@ busy_by p guard page pages q true false at is there busy rest =
     let apart : page ≡ q → ⊥ = λ s. let here : (page == q) ≡ true = eq-eqb page q s in cc in
     rest there (ap is_free (set_beside guard page q p apart) ∙ busy)
 
-taken_busy : (p : Protection) (guard : List Protection) (pages : List ℕ) (q : ℕ) → has_number pages q ≡ true → is_free (protection_at guard q) ≡ false → taken p guard pages ≡ None
+taken_busy : (p : Protection) (guard : List Protection) (pages : List ℕ) (q : ℕ) → has_number pages q ≡ true → is_free (protection_at guard q) ≡ false → take_pages p guard pages ≡ None
 taken_busy p guard [] q there busy = absurd cc
 taken_busy p guard (page ∷ pages) q there busy =
     busy_by p guard page pages q (is_free (protection_at guard page)) (page == q) refl refl there busy (λ later still. taken_busy p (slice_set guard page p) pages q later still)
@@ -138,5 +138,5 @@ found_busy guard (page ∷ pages) q found =
     (λ later. found_busy guard pages q later)
 
 -- pages of which one isn't free aren't taken
-pub taken_none : (p : Protection) (guard : List Protection) (pages : List ℕ) (q : ℕ) → find (is_busy guard) pages ≡ Some q → taken p guard pages ≡ None
+pub taken_none : (p : Protection) (guard : List Protection) (pages : List ℕ) (q : ℕ) → find (is_busy guard) pages ≡ Some q → take_pages p guard pages ≡ None
 taken_none p guard pages q found = let it = found_busy guard pages q found in taken_busy p guard pages q it.0 it.1

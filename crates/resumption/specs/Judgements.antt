@@ -76,18 +76,18 @@ is_of_policy rules s =
 -- ---- no page is two parties', and each has the protection that follows
 
 -- pages that are taken one after the other, each of them free until then
-abbrev pub taken : Protection → List Protection → List ℕ → Option (List Protection)
-taken protection guard [] = Some guard
-taken protection guard (page ∷ pages) =
-    if is_free (protection_at guard page) then taken protection (slice_set guard page protection) pages else None
+abbrev pub take_pages : Protection → List Protection → List ℕ → Option (List Protection)
+take_pages protection guard [] = Some guard
+take_pages protection guard (page ∷ pages) =
+    if is_free (protection_at guard page) then take_pages protection (slice_set guard page protection) pages else None
 
 abbrev pub then_held : Option (List Protection) → List ℕ → Option (List Protection)
 then_held None pages = None
-then_held (Some guard) pages = taken Held guard pages
+then_held (Some guard) pages = take_pages Held guard pages
 
 -- text and loaded modules are approved, and the load's pages are held; none where a page would be two parties'
 unfoldable pub guard_due : Rules → Contents → Option (List Protection)
-guard_due rules s = then_held (taken Approved (replicate rules.ram_pages Free) (approved_of rules s)) (load_pages rules s.loading)
+guard_due rules s = then_held (take_pages Approved (replicate rules.ram_pages Free) (approved_of rules s)) (load_pages rules s.loading)
 
 abbrev pub is_same : Protection → Protection → Bool
 is_same Free Free = true

@@ -5,7 +5,7 @@ use Rattle.sv_types.specs.declared.protection.Protection.{Protection}
 use Rattle.sv_types.specs.declared.protection.Protection.TheVariants.{Approved}
 use Rattle.snapshot_form.specs.Snapshots.{Contents}
 use Rattle.snapshot_form.specs.declared.whole.TextPage.{TextPage}
-use Rattle.resumption.specs.Judgements.{approved_of, is_retired, load_pages, page_numbers, taken, then_held}
+use Rattle.resumption.specs.Judgements.{approved_of, is_retired, load_pages, page_numbers, take_pages, then_held}
 
 -- all pages are taken, and these are the protections then; or one of them wasn't free
 abbrev pub IsTaken : Option (List Protection) → (new : List Protection) → (done : Bool) → Type 0
@@ -14,11 +14,11 @@ IsTaken due new false = due ≡ None
 
 -- pages that are taken one after the other
 abbrev pub Takes : Protection → (old new : List Protection) → List ℕ → (done : Bool) → Type 0
-Takes protection old new pages done = IsTaken (taken protection old pages) new done
+Takes protection old new pages done = IsTaken (take_pages protection old pages) new done
 
 -- the protections behind all parties of a snapshot
 abbrev pub taken_from : List Protection → Rules → Contents → Option (List Protection)
-taken_from guard rules s = then_held (taken Approved guard (approved_of rules s)) (load_pages rules s.loading)
+taken_from guard rules s = then_held (take_pages Approved guard (approved_of rules s)) (load_pages rules s.loading)
 
 -- the pages of some text but for the retired ones
 abbrev pub left_of : Rules → (retired : Bool) → List TextPage → List ℕ

@@ -128,7 +128,7 @@ fn is_as_measured<R: Threads + Sync>(
 fn clear_fields(text: &mut [u8], sites: &[Site])
     requires pages { length text.old % page_size ≡ 0 }
     requires sites { LieIn (length text.old) sites.now }
-    ensures { text.new ≡ relocated.masked text.old sites.now }
+    ensures { text.new ≡ relocated.masked_text text.old sites.now }
 {
     mask(text, 0, sites);
 }

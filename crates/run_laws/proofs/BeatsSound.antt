@@ -12,10 +12,10 @@ use Rattle.reference.specs.States.{State, Disk, BlockDevice, BlockDisk, VirtioDi
 use Rattle.reference.specs.Move.{Move, Idle, FromRam, IntoRam, DeniedAt, OutsideRam}
 use Rattle.reference.specs.BlockDisk.{BlockBeat, block_beat, block_to_memory, block_to_disk, transfer_ended, block_ended, block_after_beat, beat_gpa, beat_place, beat_size, beats_done, one_further, is_busy, is_to_memory, sector_size}
 use Rattle.reference.specs.VirtioDevice.{VirtioDevice, Request, driver_ok, is_broken}
-use Rattle.reference.specs.VirtioQueue.{rings_in_ram, available_index, next_head, waiting}
+use Rattle.reference.specs.VirtioQueue.{rings_in_ram, available_index, next_head, waiting_count}
 use Rattle.reference.specs.VirtioChain.{chain, most_parts, is_good, data_of, result_of}
 use Rattle.reference.specs.VirtioRequests.{sector_of}
-use Rattle.reference.specs.VirtioBeats.{VirtioBeat, nothing, broken, with_request, refused, with_written, to_memory, to_disk, put_last, finished, make, make_first, next_count, result_in, accepted, accept, look, go_on, is_live, virtio_beat}
+use Rattle.reference.specs.VirtioBeats.{VirtioBeat, nothing, broken_beat, with_request, last_moves_alone, with_written, to_memory, to_disk, put_last, finish_request, make, make_first, next_count, result_in, accept_request, accept, look, go_on, is_live, virtio_beat}
 use Rattle.reference.specs.Disk.{Beaten, disk_beat}
 use Rattle.reference.specs.Soundness.{IsSound, IsSoundBlock, IsSoundDisk, IsSoundVirtio, IsSoundRequest, IsSoundMove, AreSoundMoves, StaysInPage}
 use Rattle.run_laws.proofs.Lookups.{unprotected, unheld, part_short}
@@ -126,7 +126,7 @@ record IsSoundVirtioBeat (r : State) (b : VirtioBeat) : Type 0 where
   device : IsSoundVirtio b.device
   move : FreeMove r b.move
 
-broken_sound : (r : State) (d : VirtioDevice) (x : Move) → IsSoundVirtio d → FreeMove r x → IsSoundVirtioBeat r (broken d x)
+broken_sound : (r : State) (d : VirtioDevice) (x : Move) → IsSoundVirtio d → FreeMove r x → IsSoundVirtioBeat r (broken_beat d x)
 broken_sound r d x k free = record { device = record { aligned = k.aligned; moves = tt }; move = free }
 
 -- a device with another request under way
@@ -144,19 +144,19 @@ free_beat r gpa size bytes stays short inside free =
 
 into_memory : (r : State) (d : VirtioDevice) (q : Request) (gpa place size : ℕ) (inside free : Bool) → IsSoundVirtio d → AreSoundMoves q.moves → StaysInPage gpa size
     → in_ram r.ram gpa size ≡ inside → not (is_protected r (page_of gpa)) ≡ free
-    → IsSoundVirtioBeat r (if not inside then broken d OutsideRam
+    → IsSoundVirtioBeat r (if not inside then broken_beat d OutsideRam
     else if free then record { device = with_request d (with_written q size); move = IntoRam gpa (part d.bytes place size) }
-    else record { device = with_request d (refused q); move = DeniedAt gpa })
+    else record { device = with_request d (last_moves_alone q); move = DeniedAt gpa })
 into_memory r d q gpa place size true true k moves stays there free = record {
   device = going_sound d (with_written q size) d.bytes k moves;
   move = free_beat r gpa size (part d.bytes place size) stays (part_short d.bytes place size) there free;
 }
 into_memory r d q gpa place size true false k moves stays there free =
-    record { device = going_sound d (refused q) d.bytes k (sound_last q.moves moves); move = tt }
+    record { device = going_sound d (last_moves_alone q) d.bytes k (sound_last q.moves moves); move = tt }
 into_memory r d q gpa place size false free k moves stays there may = broken_sound r d OutsideRam k tt
 
 onto_disk : (r : State) (d : VirtioDevice) (q : Request) (gpa place size : ℕ) (inside : Bool) → IsSoundVirtio d → AreSoundMoves q.moves
-    → IsSoundVirtioBeat r (if not inside then broken d OutsideRam
+    → IsSoundVirtioBeat r (if not inside then broken_beat d OutsideRam
     else record { device = record d { request = Some q; bytes = overwrite d.bytes place (part r.ram (ram_place gpa) size) }; move = FromRam gpa })
 onto_disk r d q gpa place size true k moves =
     record { device = going_sound d q (overwrite d.bytes place (part r.ram (ram_place gpa) size)) k moves; move = tt }
@@ -164,9 +164,9 @@ onto_disk r d q gpa place size false k moves = broken_sound r d OutsideRam k tt
 
 last_by : (r : State) (d next : VirtioDevice) (gpa : ℕ) (bytes : List ℕ) (inside free : Bool) → IsSoundVirtio d → IsSoundVirtio next → StaysInPage gpa (length bytes)
     → in_ram r.ram gpa (length bytes) ≡ inside → not (is_protected r (page_of gpa)) ≡ free
-    → IsSoundVirtioBeat r (if not inside then broken d OutsideRam
+    → IsSoundVirtioBeat r (if not inside then broken_beat d OutsideRam
     else if free then record { device = next; move = IntoRam gpa bytes }
-    else broken d (DeniedAt gpa))
+    else broken_beat d (DeniedAt gpa))
 last_by r d next gpa bytes true true k after stays there free =
     record { device = after; move = free_beat r gpa (length bytes) bytes stays (omega arith) there free }
 last_by r d next gpa bytes true false k after stays there free = broken_sound r d (DeniedAt gpa) k tt
@@ -179,7 +179,7 @@ last_put r d next gpa width value k after stays =
     last_by r d next gpa (low_bytes width value) (in_ram r.ram gpa (length (low_bytes width value))) (not (is_protected r (page_of gpa))) k after
     (subst (λ (n : ℕ). StaysInPage gpa n) (sym (length_low_bytes width value)) stays) refl refl
 
-finished_sound : (d : VirtioDevice) → IsSoundVirtio d → IsSoundVirtio (finished d)
+finished_sound : (d : VirtioDevice) → IsSoundVirtio d → IsSoundVirtio (finish_request d)
 finished_sound d k = record { aligned = k.aligned; moves = tt }
 
 make_sound : (r : State) (d : VirtioDevice) (q : Request) (x : VirtioMove) → IsSoundVirtio d → AreSoundMoves q.moves → IsSoundMove x
@@ -191,22 +191,22 @@ make_sound r d q (VirtioMove.ToDisk gpa place size) k moves stays = onto_disk r 
 make_sound r d q (VirtioMove.PutResult gpa) k moves stays = last_put r d (with_request d q) gpa 1 (result_number q.result) k (going_sound d q d.bytes k moves) stays
 make_sound r d q (VirtioMove.PutHead gpa head) k moves stays = last_put r d (with_request d q) gpa 4 head k (going_sound d q d.bytes k moves) stays
 make_sound r d q (VirtioMove.PutLength gpa) k moves stays = last_put r d (with_request d q) gpa 4 (q.written + 1) k (going_sound d q d.bytes k moves) stays
-make_sound r d q (VirtioMove.PutIndex gpa index) k moves stays = last_put r d (finished d) gpa 2 index k (finished_sound d k) stays
+make_sound r d q (VirtioMove.PutIndex gpa index) k moves stays = last_put r d (finish_request d) gpa 2 index k (finished_sound d k) stays
 
 first_sound : (r : State) (d : VirtioDevice) (q : Request) (moves : List VirtioMove) → IsSoundVirtio d → AreSoundMoves moves
     → IsSoundVirtioBeat r (make_first d q moves r.ram (λ page. not (is_protected r page)))
 first_sound r d q [] k sound = record { device = k; move = tt }
 first_sound r d q (move ∷ moves) k sound = make_sound r d (record q { moves = moves }) move k sound.1 sound.0
 
-accepted_sound : (r : State) (d : VirtioDevice) (head : ℕ) (parts : List VirtioPart) → IsSoundVirtio d → d.ready ≡ true → IsSoundVirtio (accepted d r.ram head parts)
-unfolding accepted
+accepted_sound : (r : State) (d : VirtioDevice) (head : ℕ) (parts : List VirtioPart) → IsSoundVirtio d → d.ready ≡ true → IsSoundVirtio (accept_request d r.ram head parts)
+unfolding accept_request
 accepted_sound r d head parts k ready = record {
   aligned = k.aligned;
   moves = request_sound (result_in d r.ram parts) (sector_of r.ram parts) (data_of parts) (result_of parts).gpa d.used d.size head (next_count d) (k.aligned ready);
 }
 
 good_sound : (r : State) (d : VirtioDevice) (head : ℕ) (parts : List VirtioPart) (good : Bool) → IsSoundVirtio d → d.ready ≡ true
-    → IsSoundVirtioBeat r (if good then record { device = accepted d r.ram head parts; move = Idle } else broken d OutsideRam)
+    → IsSoundVirtioBeat r (if good then record { device = accept_request d r.ram head parts; move = Idle } else broken_beat d OutsideRam)
 good_sound r d head parts true k ready = record { device = accepted_sound r d head parts k ready; move = tt }
 good_sound r d head parts false k ready = broken_sound r d OutsideRam k tt
 
@@ -222,9 +222,9 @@ choose_beat r false x y s t = t
 look_sound : (r : State) (d : VirtioDevice) → IsSoundVirtio d → d.ready ≡ true → IsSoundVirtioBeat r (look d r.ram)
 unfolding look
 look_sound r d k ready =
-    choose_beat r (not (rings_in_ram d r.ram)) (broken d OutsideRam) _ (broken_sound r d OutsideRam k tt)
+    choose_beat r (not (rings_in_ram d r.ram)) (broken_beat d OutsideRam) _ (broken_sound r d OutsideRam k tt)
     (choose_beat r (available_index d r.ram == d.accepted) (nothing d) _ (record { device = k; move = tt })
-    (choose_beat r (nat_lt d.size (waiting d r.ram)) (broken d OutsideRam) _ (broken_sound r d OutsideRam k tt)
+    (choose_beat r (nat_lt d.size (waiting_count d r.ram)) (broken_beat d OutsideRam) _ (broken_sound r d OutsideRam k tt)
     (accept_sound r d (next_head d r.ram) (chain most_parts r.ram (ram_place d.descriptors) d.size (next_head d r.ram)) k ready)))
 
 going_on : (r : State) (d : VirtioDevice) (q : Option Request) → IsSoundVirtio d → IsSoundRequest q → d.ready ≡ true

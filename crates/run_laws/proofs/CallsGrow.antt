@@ -4,7 +4,7 @@ use Rattle.sv_types.specs.declared.event.Note.TheVariants.{Load, Unload, Retire}
 use Rattle.sv_types.specs.declared.event.Verdict.TheVariants.{Shutdown}
 use Rattle.sv_types.specs.declared.sbi.SbiCode.TheVariants.{Success, RefusedByMeasure}
 use Rattle.reference.specs.States.{State, Hart, Journal, Loading}
-use Rattle.reference.specs.Answers.{journal_beside, answered, call}
+use Rattle.reference.specs.Answers.{journal_beside, state_after_answer, call}
 use Rattle.reference.specs.Calls.{asked_by, facts_of}
 use Rattle.reference.specs.Loads.{is_good, decide, load_step_of}
 use Rattle.reference.specs.ModuleCalls.{answer_of, load_decision}
@@ -26,8 +26,8 @@ beside_gains (RetiresInit span) h j = answers j Success (Retire h j.counts.turns
 beside_gains (RefusesRetire how) h j = answers j how (Retire h j.counts.turns how)
 beside_gains _ h j = still j
 
-answered_gains : (r : State) (h : ℕ) (hart : Hart) (a : Answer) → Gains r (answered r h hart a)
-unfolding answered
+answered_gains : (r : State) (h : ℕ) (hart : Hart) (a : Answer) → Gains r (state_after_answer r h hart a)
+unfolding state_after_answer
 answered_gains r h hart a = beside_gains a.beside h r.journal
 
 pub call_gains : (r : State) (h : ℕ) (hart : Hart) → Gains r (call r h hart)

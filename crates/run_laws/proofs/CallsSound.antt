@@ -6,7 +6,7 @@ use Rattle.sv_types.specs.Policies.{Rules}
 use Rattle.sv_types.specs.declared.saved.SavedModule.{SavedModule}
 use Rattle.processor.specs.declared.mode.Mode.TheVariants.{Kernel}
 use Rattle.reference.specs.States.{State, Hart, Devices, Loading, has_number, module_pages}
-use Rattle.reference.specs.Answers.{replied, devices_beside, journal_beside, pages_beside, harts_beside, answered, call}
+use Rattle.reference.specs.Answers.{with_reply, devices_beside, journal_beside, pages_beside, harts_beside, state_after_answer, call}
 use Rattle.reference.specs.Calls.{asked_by, facts_of, started_hart, mask_names, extension_of}
 use Rattle.reference.specs.Loads.{is_good, decide, load_step_of}
 use Rattle.reference.specs.ModuleCalls.{answer_of, load_decision}
@@ -24,8 +24,8 @@ use Rattle.run_laws.proofs.Sounds.{Goes, AreSound, are_set, goes_harts, goes_on,
 
 -- ---- the hart that called
 
-replied_sound : {rules : Rules} (reply : Reply) (hart : Hart) → MayReply hart reply → IsSoundHart rules hart → IsSoundHart rules (replied reply hart)
-unfolding replied
+replied_sound : {rules : Rules} (reply : Reply) (hart : Hart) → MayReply hart reply → IsSoundHart rules hart → IsSoundHart rules (with_reply reply hart)
+unfolding with_reply
 replied_sound (Gives a0) hart may k = goes_behind hart (set_register hart.registers 10 a0) None k
 replied_sound (Replies a0 a1) hart may k = goes_behind hart (set_register (set_register hart.registers 10 a0) 11 a1) None k
 replied_sound Stays hart may k = stays_there hart None k
@@ -97,14 +97,14 @@ rules_stay r h _ = refl
 -- ---- each answer
 
 answered_goes : (r : State) (h : ℕ) (hart : Hart) (a : Answer) → IsSound r → IsSoundHart r.rules hart → MayReply hart a.reply → MayBeside r a.beside
-    → Goes r (answered r h hart a)
-unfolding answered
+    → Goes r (state_after_answer r h hart a)
+unfolding state_after_answer
 answered_goes r h hart a s k reply may =
-    let next : Hart = replied a.reply hart in
+    let next : Hart = with_reply a.reply hart in
     let harts : List Hart = slice_set r.harts h next in
     let mid : State = pages_beside a.beside h r in
     let first : Goes r mid = pages_goes r h a.beside s may in
-    goes_on r mid (answered r h hart a) first
+    goes_on r mid (state_after_answer r h hart a) first
     (goes_harts mid (harts_beside a.beside harts) (devices_beside a.beside h r.devices) (journal_beside a.beside h r.journal) first.sound
     (subst (λ (rules : Rules). AreSound rules (harts_beside a.beside harts)) (sym (rules_stay r h a.beside))
     (harts_sound r a.beside harts s (are_set r.rules r.harts h next s.harts (replied_sound a.reply hart reply k)) may))
@@ -118,7 +118,7 @@ call_goes r h hart s k kernel =
 -- ---- a load under way
 
 decision_by : (r : State) (h : ℕ) (hart : Hart) (load : Loading) (good : Bool) → IsSound r → IsSoundHart r.rules hart → HoldsModule r.rules r.approved r.loaded r.held load
-    → is_good r.rules r.ram load.about (slice_get r.rules.modules load.about.id) ≡ good → Goes r (answered r h hart (load_decision good load.about))
+    → is_good r.rules r.ram load.about (slice_get r.rules.modules load.about.id) ≡ good → Goes r (state_after_answer r h hart (load_decision good load.about))
 decision_by r h hart load true s k holds e = answered_goes r h hart (load_decision true load.about) s k tt (decision_may r load true holds e)
 decision_by r h hart load false s k holds e = answered_goes r h hart (load_decision false load.about) s k tt (decision_may r load false holds e)
 

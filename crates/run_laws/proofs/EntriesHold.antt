@@ -284,27 +284,27 @@ unfolding deliverable
 none_delivered Kernel r h hart e masked = ap (λ (b : Bool). if b then first_interrupt (is_pending hart.supervisor (lines_at r.devices h)) else None) masked
 none_delivered User r h hart e masked = absurd (cc)
 
-abbrev entered : Rules → Hart → Bool → ℕ → ℕ → Hart
-entered rules hart interrupt cause tval = hart_at_trap rules hart User interrupt cause tval
+abbrev hart_in_handler : Rules → Hart → Bool → ℕ → ℕ → Hart
+hart_in_handler rules hart interrupt cause tval = hart_at_trap rules hart User interrupt cause tval
 
 enters_at : (r : State) (h : ℕ) (hart : Hart) (interrupt : Bool) (cause tval : ℕ) (b : Bool) → has_number r.rules.entries (trap_target hart.supervisor.stvec interrupt cause) ≡ b → b ≡ true
     → slice_get r.harts h ≡ Some hart → hart.started ≡ true → IsNotLoading h r.loading
-    → IsWaiting h (entered r.rules hart interrupt cause tval) (trap_from r h hart User interrupt cause tval)
+    → IsWaiting h (hart_in_handler r.rules hart interrupt cause tval) (trap_from r h hart User interrupt cause tval)
 unfolding trap_from hart_at_trap
 enters_at r h hart interrupt cause tval false permitted on found started free = absurd (cc)
 enters_at r h hart interrupt cause tval true permitted on found started free =
     rw permitted (record {
-      hart = entered r.rules hart interrupt cause tval;
-      found = get_back r.harts h hart (entered r.rules hart interrupt cause tval) found;
+      hart = hart_in_handler r.rules hart interrupt cause tval;
+      found = get_back r.harts h hart (hart_in_handler r.rules hart interrupt cause tval) found;
       looks = record { started = started; mode = refl; pc = refl; entry = refl; status = refl };
       free = free;
     })
 
 entered_is : (rules : Rules) (hart : Hart) (interrupt : Bool) (cause tval : ℕ) →
-    ((entered rules hart interrupt cause tval).mode ≡ Kernel)
-    × (((entered rules hart interrupt cause tval).pc ≡ trap_target hart.supervisor.stvec interrupt cause)
-    × (((entered rules hart interrupt cause tval).entry ≡ place_of_entry rules.entries rules.bound (trap_target hart.supervisor.stvec interrupt cause))
-    × (bit (entered rules hart interrupt cause tval).supervisor.sstatus 1 ≡ false)))
+    ((hart_in_handler rules hart interrupt cause tval).mode ≡ Kernel)
+    × (((hart_in_handler rules hart interrupt cause tval).pc ≡ trap_target hart.supervisor.stvec interrupt cause)
+    × (((hart_in_handler rules hart interrupt cause tval).entry ≡ place_of_entry rules.entries rules.bound (trap_target hart.supervisor.stvec interrupt cause))
+    × (bit (hart_in_handler rules hart interrupt cause tval).supervisor.sstatus 1 ≡ false)))
 unfolding hart_at_trap supervisor_at_trap
 entered_is rules hart interrupt cause tval = (refl, (refl, (refl, status_masked hart.supervisor.sstatus)))
 
@@ -319,7 +319,7 @@ binding_is rules i x e = e
 -- what waits at its entry stands there
 stands : (q : State) (h : ℕ) (was : Rules) (hart : Hart) (interrupt : Bool) (cause tval : ℕ) → IsSound q → q.rules ≡ was → q.rules.format ≡ 2
     → has_number q.rules.entries (trap_target hart.supervisor.stvec interrupt cause) ≡ true
-    → IsWaiting h (entered was hart interrupt cause tval) q → StandsAtEntry q h
+    → IsWaiting h (hart_in_handler was hart interrupt cause tval) q → StandsAtEntry q h
 stands q h was hart interrupt cause tval s rules two permitted w =
     let target : ℕ = trap_target hart.supervisor.stvec interrupt cause in
     let k = placed q.rules.ram_pages [] q.rules.entries q.rules.bound target (two_binds q.rules s.within two) permitted in
@@ -355,9 +355,9 @@ entry_law s before between h is_start two enters others =
     let rules : q.rules ≡ s.rules = subst (λ (x : State). x.rules ≡ s.rules) reached (modules_law s all is_start).rules in
     let was : r.rules ≡ s.rules = (modules_law s before is_start).rules in
     let same : q.rules ≡ r.rules = rules ∙ sym was in
-    let entered_now : IsWaiting h (entered r.rules enters.hart enters.interrupt enters.cause enters.tval) (step r (Turn h)) =
-    subst (IsWaiting h (entered r.rules enters.hart enters.interrupt enters.cause enters.tval)) (sym enters.same)
+    let entered_now : IsWaiting h (hart_in_handler r.rules enters.hart enters.interrupt enters.cause enters.tval) (step r (Turn h)) =
+    subst (IsWaiting h (hart_in_handler r.rules enters.hart enters.interrupt enters.cause enters.tval)) (sym enters.same)
     (enters_at (count r count_turn) h enters.hart enters.interrupt enters.cause enters.tval true enters.permitted refl enters.found enters.started enters.free) in
     stands q h r.rules enters.hart enters.interrupt enters.cause enters.tval sound same (ap (λ (x : Rules). x.format) rules ∙ two)
     (subst (λ (x : Rules). has_number x.entries (trap_target enters.hart.supervisor.stvec enters.interrupt enters.cause) ≡ true) (sym same) enters.permitted)
-    (run_waits h (entered r.rules enters.hart enters.interrupt enters.cause enters.tval) (step r (Turn h)) between others entered_now)
+    (run_waits h (hart_in_handler r.rules enters.hart enters.interrupt enters.cause enters.tval) (step r (Turn h)) between others entered_now)

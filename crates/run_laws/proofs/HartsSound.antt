@@ -17,7 +17,7 @@ use Rattle.processor_laws.proofs.RegisterBits.{target_aligned, target_small, epc
 use Rattle.processor_laws.proofs.EffectRequests.{next_aligned}
 use Rattle.reference.specs.States.{Hart, Binding, binding_of, binding_at, place_of_entry, has_number}
 use Rattle.reference.specs.Trapping.{hart_at_trap, hart_at_return, entry_at_trap, entry_in}
-use Rattle.reference.specs.Calls.{hart_at, stopped_hart, interrupted, with_software, supervisor_at_boot}
+use Rattle.reference.specs.Calls.{hart_at, stopped_hart, interrupt_harts, with_software, supervisor_at_boot}
 use Rattle.reference.specs.Soundness.{IsSoundHart, IsSoundEntry}
 use Rattle.run_laws.proofs.Lookups.{both, second_of}
 use Rattle.run_laws.proofs.Sounds.{AreSound}
@@ -169,16 +169,16 @@ interrupt_sound true hart k = record {
 }
 interrupt_sound false hart k = k
 
-pub all_interrupted : {rules : Rules} (named : ℕ → Bool) (first : ℕ) (harts : List Hart) → AreSound rules harts → AreSound rules (interrupted named first harts)
-unfolding interrupted
+pub all_interrupted : {rules : Rules} (named : ℕ → Bool) (first : ℕ) (harts : List Hart) → AreSound rules harts → AreSound rules (interrupt_harts named first harts)
+unfolding interrupt_harts
 all_interrupted named first [] all k hart e = cc
 all_interrupted named first (x ∷ harts) all zero hart e =
     let same : (if named first then with_software x else x) ≡ hart = cc in
     subst (IsSoundHart _) same (interrupt_sound (named first) x (all zero x refl))
 all_interrupted named first (x ∷ harts) all (suc k) hart e = all_interrupted named (first + 1) harts (λ i y at. all (suc i) y at) k hart e
 
-pub length_interrupted : (named : ℕ → Bool) (first : ℕ) (harts : List Hart) → length (interrupted named first harts) ≡ length harts
-unfolding interrupted
+pub length_interrupted : (named : ℕ → Bool) (first : ℕ) (harts : List Hart) → length (interrupt_harts named first harts) ≡ length harts
+unfolding interrupt_harts
 length_interrupted named first [] = refl
 length_interrupted named first (x ∷ harts) = ap suc (length_interrupted named (first + 1) harts)
 

@@ -18,8 +18,8 @@ use Rattle.sv_types.specs.declared.saved.SavedModule.{SavedModule}
 use Rattle.processor.specs.declared.interrupt.Interrupt.{Interrupt}
 use Rattle.processor.specs.declared.mode.Mode.{Mode}
 use Rattle.processor.specs.declared.mode.Mode.TheVariants.{Kernel, User}
-use Rattle.reference.specs.Answers.{replied, devices_beside, journal_beside, pages_beside, harts_beside, answered, call}
-use Rattle.reference.specs.Calls.{asked_by, facts_of, extension_of, mask_names, interrupted, with_software}
+use Rattle.reference.specs.Answers.{with_reply, devices_beside, journal_beside, pages_beside, harts_beside, state_after_answer, call}
+use Rattle.reference.specs.Calls.{asked_by, facts_of, extension_of, mask_names, interrupt_harts, with_software}
 use Rattle.reference.specs.declared.answers.Answer.{Answer}
 use Rattle.reference.specs.declared.answers.Beside.{Beside}
 use Rattle.reference.specs.declared.answers.Beside.TheVariants.{SendsInterrupts, StartsHart, BeginsLoad, ApprovesModule, ReleasesModule}
@@ -78,17 +78,17 @@ get_behind f (a ∷ harts) zero y e = ap (option_map f) e
 get_behind f (a ∷ harts) (suc k) y e = get_behind f harts k y e
 
 -- a hart with its software interrupt set, or as it was
-abbrev pub sent : Bool → Hart → Hart
-sent b hart = if b then with_software hart else hart
+abbrev pub with_software_if : Bool → Hart → Hart
+with_software_if b hart = if b then with_software hart else hart
 
 pub get_sent : (named : ℕ → Bool) (first : ℕ) (harts : List Hart) (k : ℕ) (y : Hart) → slice_get harts k ≡ Some y
-    → (b : Bool) × (slice_get (interrupted named first harts) k ≡ Some (sent b y))
-unfolding interrupted
+    → (b : Bool) × (slice_get (interrupt_harts named first harts) k ≡ Some (with_software_if b y))
+unfolding interrupt_harts
 get_sent named first [] k y e = absurd (cc)
-get_sent named first (a ∷ harts) zero y e = (named first, ap (option_map (sent (named first))) e)
+get_sent named first (a ∷ harts) zero y e = (named first, ap (option_map (with_software_if (named first))) e)
 get_sent named first (a ∷ harts) (suc k) y e = get_sent named (first + 1) harts k y e
 
-looks_sent : (at : Hart) (b : Bool) (hart : Hart) → LooksLike at hart → LooksLike at (sent b hart)
+looks_sent : (at : Hart) (b : Bool) (hart : Hart) → LooksLike at hart → LooksLike at (with_software_if b hart)
 looks_sent at true hart l = record { started = l.started; mode = l.mode; pc = l.pc; entry = l.entry; status = l.status }
 looks_sent at false hart l = l
 
@@ -124,11 +124,11 @@ writes z r x next at width harts loading w = record {
 }
 
 -- software interrupts are sent
-sends : (z : Watched) (r next : State) (x : Hart) (named : ℕ → Bool) → next.harts ≡ interrupted named 0 (slice_set r.harts z.mover x) → next.loading ≡ r.loading → Leaves z r next
+sends : (z : Watched) (r next : State) (x : Hart) (named : ℕ → Bool) → next.harts ≡ interrupt_harts named 0 (slice_set r.harts z.mover x) → next.loading ≡ r.loading → Leaves z r next
 sends z r next x named harts loading w =
     let there = get_sent named 0 (slice_set r.harts z.mover x) z.watched w.hart (set_there z r.harts x w.hart w.found) in
     record {
-      hart = sent there.0 w.hart;
+      hart = with_software_if there.0 w.hart;
       found = ap (λ (l : List Hart). slice_get l z.watched) harts ∙ there.1;
       looks = looks_sent z.at there.0 w.hart w.looks;
       free = subst (IsNotLoading z.watched) (sym loading) w.free;
@@ -279,17 +279,17 @@ beside_rests z r x (ApprovesModule m) d j may = ends z r _ x refl refl
 beside_rests z r x (ReleasesModule m) d j may = ends z r _ x refl refl
 beside_rests z r x _ d j may = sets z r _ x refl refl
 
-answered_rests : (z : Watched) (r : State) (hart : Hart) (a : Answer) → MayWake r a.beside → Leaves z r (answered r z.mover hart a)
-unfolding answered
+answered_rests : (z : Watched) (r : State) (hart : Hart) (a : Answer) → MayWake r a.beside → Leaves z r (state_after_answer r z.mover hart a)
+unfolding state_after_answer
 answered_rests z r hart a may =
-    beside_rests z r (replied a.reply hart) a.beside (devices_beside a.beside z.mover r.devices) (journal_beside a.beside z.mover r.journal) may
+    beside_rests z r (with_reply a.reply hart) a.beside (devices_beside a.beside z.mover r.devices) (journal_beside a.beside z.mover r.journal) may
 
 pub call_rests : (z : Watched) (r : State) (hart : Hart) → Leaves z r (call r z.mover hart)
 call_rests z r hart =
     let a : Answer = answer_of (facts_of r) (asked_by hart.registers) in
     answered_rests z r hart a (may_wake r a.beside (answer_may r (asked_by hart.registers) (extension_of (asked_by hart.registers).extension)))
 
-decision_by : (z : Watched) (r : State) (hart : Hart) (m : SavedModule) (good : Bool) → Leaves z r (answered r z.mover hart (load_decision good m))
+decision_by : (z : Watched) (r : State) (hart : Hart) (m : SavedModule) (good : Bool) → Leaves z r (state_after_answer r z.mover hart (load_decision good m))
 decision_by z r hart m true = answered_rests z r hart (load_decision true m) tt
 decision_by z r hart m false = answered_rests z r hart (load_decision false m) tt
 

@@ -3,7 +3,7 @@ use Rattle.std.proofs.Common.{ℕ, List, Bool, false}
 use Rattle.std.specs.Prelude.{Option, Some, None, option_map}
 use Rattle.processor.specs.Bytes.{ram_place}
 use Rattle.processor.specs.Causes.{cause_number}
-use Rattle.sv_types.specs.Console.{stored}
+use Rattle.sv_types.specs.Console.{stored_byte}
 use Rattle.processor.specs.Requests.{covers}
 use Rattle.processor.specs.Traps.{trap_target, mode_at_return}
 use Rattle.processor.specs.declared.cause.Cause.{Cause}
@@ -14,7 +14,7 @@ use Rattle.processor.specs.declared.instruction.AmoOp.{AmoOp}
 use Rattle.processor.specs.declared.instruction.CsrOp.{CsrOp}
 use Rattle.processor.specs.declared.mode.Mode.{Mode}
 use Rattle.reference.specs.States.{State, Hart, Devices, Disk, Journal}
-use Rattle.reference.specs.Counting.{counted, count_retired, printed_low}
+use Rattle.reference.specs.Counting.{with_count, count_retired, printed_low}
 use Rattle.reference.specs.Disk.{disk_store}
 use Rattle.reference.specs.Devices.{DeviceLoad, DeviceStore, Port, ConsoleAt, DiskAt, Nowhere, port_at, port_store, device_load, device_store, with_bytes}
 use Rattle.reference.specs.Requests.{carried_out_writing, Source, NoSource, FromRam, FromDevice, Target, NoTarget, Guarded, ToRam, ToDevice, carry_out_device_load, carry_out_load, carry_out_load_reserved, carry_out_device_store, carry_out_store, write_stopped, carry_out_store_conditional, carry_out_amo, carry_out_csr}
@@ -61,7 +61,7 @@ load_reserved_gains r h hart rd address width (FromDevice gpa) = exception_gains
 -- a store into a device's register prints a byte or none, and the instruction retires
 abbrev StoreMoves : Journal → Option DeviceStore → Type 0
 StoreMoves j None = Unit {0}
-StoreMoves j (Some s) = Moves j (counted count_retired s.journal)
+StoreMoves j (Some s) = Moves j (with_count count_retired s.journal)
 
 console_moves : (d : Devices) (j : Journal) (x : Option ℕ) → StoreMoves j (option_map (λ byte. record { devices = d; journal = printed_low byte j }) x)
 console_moves d j None = tt
@@ -73,7 +73,7 @@ disk_moves d j (Some disk) = retires j
 
 port_moves : (d : Devices) (j : Journal) (port : Port) (width value : ℕ) → StoreMoves j (port_store d j port width value)
 unfolding port_store
-port_moves d j (ConsoleAt offset) width value = console_moves d j (stored offset width value)
+port_moves d j (ConsoleAt offset) width value = console_moves d j (stored_byte offset width value)
 port_moves d j (DiskAt offset) width value = disk_moves d j (disk_store d.disk offset width value)
 port_moves d j Nowhere width value = tt
 

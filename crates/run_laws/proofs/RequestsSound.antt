@@ -4,7 +4,7 @@ use Rattle.std.specs.Prelude.{Option, Some, None, option_map, if◌then◌else�
 use Rattle.std.proofs.lemmas.Bool.{eqb-true}
 use Rattle.std.proofs.lemmas.Bool.Decides.{nat_tests}
 use Rattle.processor.specs.Bytes.{in_ram, low_bytes, page_of, ram_place}
-use Rattle.sv_types.specs.Console.{loaded, after_load, stored}
+use Rattle.sv_types.specs.Console.{console_load, after_load, stored_byte}
 use Rattle.processor.specs.Causes.{cause_number}
 use Rattle.processor.specs.Effects.{set_register, amo_value}
 use Rattle.processor.specs.Regions.{IsWidth}
@@ -20,7 +20,7 @@ use Rattle.processor_laws.proofs.ByteLemmas.{length_low_bytes}
 use Rattle.sv_types.specs.declared.event.Rule.TheVariants.{Entry, Write}
 use Rattle.sv_types.specs.declared.event.Verdict.TheVariants.{Stopped}
 use Rattle.reference.specs.States.{State, Hart, Disk, BlockDevice, BlockDisk, VirtioDisk, Devices, Journal, is_protected}
-use Rattle.reference.specs.Counting.{counted, count_trap, count_return, count_retired, machine_ended, printed_low}
+use Rattle.reference.specs.Counting.{with_count, count_trap, count_return, count_retired, machine_ended, printed_low}
 use Rattle.sv_types.specs.BlockNumbers.{command_of}
 use Rattle.sv_types.specs.declared.block.BlockCommand.{BlockCommand}
 use Rattle.sv_types.specs.declared.block.BlockState.{BlockState}
@@ -48,7 +48,7 @@ pub trap_goes : (r : State) (h : ℕ) (hart : Hart) (interrupt : Bool) (cause tv
 unfolding trap_from
 trap_goes r h hart interrupt cause tval s k =
     choose_goes r (may_enter r.rules hart.mode (trap_target hart.supervisor.stvec interrupt cause)) _ _
-    (goes_set r h (hart_at_trap r.rules hart hart.mode interrupt cause tval) r.devices (counted (count_trap hart.mode) r.journal) s (trap_sound r.rules hart interrupt cause tval k) s.disk)
+    (goes_set r h (hart_at_trap r.rules hart hart.mode interrupt cause tval) r.devices (with_count (count_trap hart.mode) r.journal) s (trap_sound r.rules hart interrupt cause tval k) s.disk)
     (goes_beside r r.devices (machine_ended (Stopped (Entry (trap_target hart.supervisor.stvec interrupt cause)) h r.journal.counts.turns) r.journal) s s.disk)
 
 pub exception_goes : (r : State) (h : ℕ) (hart : Hart) (cause : Cause) (tval : ℕ) → IsSound r → IsSoundHart r.rules hart → Goes r (exception r h hart cause tval)
@@ -57,7 +57,7 @@ exception_goes r h hart cause tval s k = trap_goes r h hart false (cause_number 
 pub return_goes : (r : State) (h : ℕ) (hart : Hart) → IsSound r → IsSoundHart r.rules hart → hart.started ≡ true → Goes r (returned_from_trap r h hart)
 unfolding returned_from_trap
 return_goes r h hart s k on =
-    goes_set r h (hart_at_return hart) r.devices (counted (count_return (mode_at_return hart.supervisor.sstatus)) r.journal) s (return_sound r.rules hart on k) s.disk
+    goes_set r h (hart_at_return hart) r.devices (with_count (count_return (mode_at_return hart.supervisor.sstatus)) r.journal) s (return_sound r.rules hart on k) s.disk
 
 -- ---- a retired instruction
 
@@ -65,7 +65,7 @@ return_goes r h hart s k on =
 pub retire_goes : (r : State) (h : ℕ) (hart : Hart) (registers : List ℕ) (reservation : Option ℕ) → IsSound r → IsSoundHart r.rules hart
     → Goes r (carried_out r h (record hart { registers = registers; pc = (hart.pc + 4) % 2 ^ 64; reservation = reservation }))
 retire_goes r h hart registers reservation s k =
-    goes_set r h (record hart { registers = registers; pc = (hart.pc + 4) % 2 ^ 64; reservation = reservation }) r.devices (counted count_retired r.journal) s
+    goes_set r h (record hart { registers = registers; pc = (hart.pc + 4) % 2 ^ 64; reservation = reservation }) r.devices (with_count count_retired r.journal) s
     (goes_behind hart registers reservation k) s.disk
 
 -- ---- devices
@@ -134,7 +134,7 @@ by_console d j next (Some byte) k e =
 
 port_stored : (d : Devices) (j : Journal) (next : DeviceStore) (port : Port) (width value : ℕ) → IsSoundDisk d.disk → port_store d j port width value ≡ Some next → IsSoundDisk next.devices.disk
 unfolding port_store
-port_stored d j next (ConsoleAt offset) width value k e = by_console d j next (stored offset width value) k e
+port_stored d j next (ConsoleAt offset) width value k e = by_console d j next (stored_byte offset width value) k e
 port_stored d j next (DiskAt offset) width value k e =
     by_disk d j next (disk_store d.disk offset width value) (λ disk is. disk_stored d.disk disk offset width value k is) e
 port_stored d j next Nowhere width value k e = cc
@@ -150,7 +150,7 @@ same_disk d e value next (Some read) same is = let k : device_load_of e read ≡
 -- a load leaves the disk as it is
 port_loaded : (d : Devices) (next : DeviceLoad) (port : Port) (width : ℕ) → port_load d port width ≡ Some next → next.devices.disk ≡ d.disk
 unfolding port_load
-port_loaded d next (ConsoleAt offset) width e = same_disk d (record d { console = after_load d.console offset width }) 0 next (loaded d.console offset width) refl e
+port_loaded d next (ConsoleAt offset) width e = same_disk d (record d { console = after_load d.console offset width }) 0 next (console_load d.console offset width) refl e
 port_loaded d next (DiskAt offset) width e = same_disk d d 0 next (disk_load d.disk offset width) refl e
 port_loaded d next Nowhere width e = cc
 
@@ -166,7 +166,7 @@ unfolding carry_out_device_load
 device_load_goes r h hart rd address width signed None s k disk = exception_goes r h hart Cause.LoadAccess address s k
 device_load_goes r h hart rd address width signed (Some l) s k disk =
     goes_set r h (record hart { registers = set_register hart.registers rd (loaded_value signed width l.value); pc = (hart.pc + 4) % 2 ^ 64; reservation = None })
-    l.devices (counted count_retired r.journal) s (goes_behind hart _ None k) (disk l refl)
+    l.devices (with_count count_retired r.journal) s (goes_behind hart _ None k) (disk l refl)
 
 pub load_goes : (r : State) (h : ℕ) (hart : Hart) (rd address width : ℕ) (signed : Bool) (x : Source) → IsSound r → IsSoundHart r.rules hart
     → Goes r (carry_out_load r h hart rd address width signed x)
@@ -266,7 +266,7 @@ device_store_goes : (r : State) (h : ℕ) (hart : Hart) (address : ℕ) (x : Opt
 unfolding carry_out_device_store
 device_store_goes r h hart address None s k disk = exception_goes r h hart Cause.StoreAccess address s k
 device_store_goes r h hart address (Some d) s k disk =
-    goes_set r h (record hart { pc = (hart.pc + 4) % 2 ^ 64; reservation = None }) d.devices (counted count_retired d.journal) s
+    goes_set r h (record hart { pc = (hart.pc + 4) % 2 ^ 64; reservation = None }) d.devices (with_count count_retired d.journal) s
     (goes_behind hart hart.registers None k) (disk d refl)
 
 pub store_goes : (r : State) (h : ℕ) (hart : Hart) (address width value : ℕ) (x : Target) → IsSound r → IsSoundHart r.rules hart → IsWidth width → FreeTarget r width x

@@ -6,7 +6,7 @@ use Rattle.std.proofs.lemmas.Bool.{eqb-true, and_from, cases_Bool}
 use Rattle.std.proofs.lemmas.Bool.Decides.{nat_tests}
 use Rattle.std.proofs.lemmas.List.{length-replicate}
 use Rattle.sv_types.specs.Boot.{flat_ram_pages}
-use Rattle.processor.specs.Bytes.{part, padded, page_bytes, page_size, page_of, ram_base, ram_place}
+use Rattle.processor.specs.Bytes.{part, with_padding, page_bytes, page_size, page_of, ram_base, ram_place}
 use Rattle.sv_types.specs.Kernel.{first_refusal, header_entry, segment_checks, kernel_refusal, kernel_segments, loaded_headers, loaded_segment, is_executable, is_text_of, segments_ram, text_pages, with_segment}
 use Rattle.sv_types.specs.Policies.{Rules, rules_within}
 use Rattle.sv_types.specs.ApprovedPages.{approved_bytes, approved_pages, numbers_from}
@@ -117,7 +117,7 @@ flat_words digest entry e = words_by entry (0x80000000 == entry) (0x80000100 == 
     words_by entry false false first second e = cc
 
 pub flat_can : (pages digest : List ℕ) → length pages ≤ page_size * flat_ram_pages
-    → CanStart (flat_rules digest) (padded pages (page_size * flat_ram_pages)) (numbers_from 0 (length pages / page_size)) ram_base
+    → CanStart (flat_rules digest) (with_padding pages (page_size * flat_ram_pages)) (numbers_from 0 (length pages / page_size)) ram_base
 flat_can pages digest fits = record {
   within = refl;
   words = flat_words digest;
@@ -136,9 +136,9 @@ segment_fits : (file ram : List ℕ) (ram_pages : ℕ) (h : ProgramHeader) → P
     → length (with_segment ram (loaded_segment file h)) ≡ page_size * ram_pages
 segment_fits file ram ram_pages h good size =
     let small : length (part file h.offset h.file_size) ≤ h.memory_size = grind (arith, nat_tests, part_short file h.offset h.file_size, good.short) in
-    let whole : length (padded (part file h.offset h.file_size) h.memory_size) ≡ h.memory_size = length_padded (part file h.offset h.file_size) h.memory_size small in
+    let whole : length (with_padding (part file h.offset h.file_size) h.memory_size) ≡ h.memory_size = length_padded (part file h.offset h.file_size) h.memory_size small in
     let inside : ram_place h.gpa + h.memory_size ≤ length ram = grind (arith, nat_tests, good.in_ram) in
-    length_overwrite ram (padded (part file h.offset h.file_size) h.memory_size) (ram_place h.gpa) (rw whole inside) ∙ size
+    length_overwrite ram (with_padding (part file h.offset h.file_size) h.memory_size) (ram_place h.gpa) (rw whole inside) ∙ size
 
 segments_fit : (file ram : List ℕ) (ram_pages : ℕ) (hs : List ProgramHeader) → first_refusal (flat_map (segment_checks (length file) ram_pages) hs) ≡ None
     → length ram ≡ page_size * ram_pages → length (fold with_segment ram (map (loaded_segment file) hs)) ≡ page_size * ram_pages

@@ -3,7 +3,7 @@ use Rattle.std.proofs.Common.{◌≡◌, ℕ, ◌+◌, ◌-◌, ◌*◌, ◌/◌
 use Rattle.std.specs.Prelude.{Option, Some, None, is_some}
 use Rattle.std.proofs.lemmas.Bool.{false_from_ne_true}
 use Rattle.sv_types.specs.Boot.{flat_ram_pages}
-use Rattle.processor.specs.Bytes.{padded, part, page_bytes, page_size, ram_base, ram_place}
+use Rattle.processor.specs.Bytes.{with_padding, part, page_bytes, page_size, ram_base, ram_place}
 use Rattle.sv_types.specs.Kernel.{header_entry, kernel_segments, segments_ram, text_pages}
 use Rattle.sv_types.specs.Policies.{Rules}
 use Rattle.sv_types.specs.ApprovedPages.{approved_bytes, numbers_from}
@@ -27,7 +27,7 @@ use Rattle.processor_laws.proofs.ByteLemmas.{part_of_part}
 flat_sound : (s : State) → StartsFlat s → IsSound s
 unfolding flat_start
 flat_sound s k = subst IsSound (sym k.same)
-    (start_sound (flat_rules k.digest) (padded k.pages (page_size * flat_ram_pages)) (numbers_from 0 (length k.pages / page_size)) ram_base (block_disk [])
+    (start_sound (flat_rules k.digest) (with_padding k.pages (page_size * flat_ram_pages)) (numbers_from 0 (length k.pages / page_size)) ram_base (block_disk [])
     (flat_can k.pages k.digest k.fits) (block_quiet []))
 
 image_sound : {boot : Rules → (file disk : List ℕ) → State} (s : State) (disk : Disk) (k : StartsBy boot s) → boot k.rules k.file k.disk ≡ image_start k.rules k.file disk → IsSoundDisk disk → IsSound s

@@ -18,7 +18,7 @@ use Rattle.processor.specs.declared.mode.Mode.{Mode}
 use Rattle.processor.specs.declared.mode.Mode.TheVariants.{Kernel, User}
 use Rattle.processor.specs.Bytes.{page_of}
 use Rattle.reference.specs.States.{State, Hart, Journal, Loading, is_protected, Binding}
-use Rattle.reference.specs.Counting.{counted, count, count_dropped, count_turn, count_beat, count_key, count_tick}
+use Rattle.reference.specs.Counting.{with_count, count, count_dropped, count_turn, count_beat, count_key, count_tick}
 use Rattle.reference.specs.Disk.{Beaten, disk_beat}
 use Rattle.reference.specs.Move.{Move, Idle, FromRam, IntoRam, DeniedAt, OutsideRam}
 use Rattle.reference.specs.Devices.{lines_at, with_disk, with_bytes, after_move, beat, key, tick}
@@ -126,7 +126,7 @@ beat_gains r =
     let b : Beaten = disk_beat r.devices.disk r.ram (λ page. not (is_protected r page)) in
     move_gains (with_disk r b.disk) b.move
 
-room_moves : (j : Journal) (room : Bool) → Moves j (if room then j else counted count_dropped j)
+room_moves : (j : Journal) (room : Bool) → Moves j (if room then j else with_count count_dropped j)
 room_moves j true = still j
 room_moves j false = drops j
 

@@ -21,13 +21,13 @@ use Rattle.sv_types.specs.declared.event.Note.TheVariants.{Demote, Denied}
 use Rattle.sv_types.specs.declared.event.Verdict.{Verdict}
 use Rattle.sv_types.specs.declared.event.Verdict.TheVariants.{Running, Shutdown, Stopped}
 use Rattle.reference.specs.States.{State, Hart, Binding, Disk, Loading, is_protected}
-use Rattle.reference.specs.Counting.{count, counted, noted, count_turn, count_beat, count_key, count_tick, count_retired, count_demote, count_denied, count_dropped}
+use Rattle.reference.specs.Counting.{count, with_count, with_note, count_turn, count_beat, count_key, count_tick, count_retired, count_demote, count_denied, count_dropped}
 use Rattle.reference.specs.Disk.{Beaten, disk_beat}
 use Rattle.reference.specs.Move.{Move, Idle, FromRam, IntoRam, DeniedAt, OutsideRam}
 use Rattle.reference.specs.Devices.{lines_at, with_disk, with_bytes, after_move, beat, key, tick}
 use Rattle.reference.specs.Trapping.{exception}
 use Rattle.reference.specs.Origins.{ownership}
-use Rattle.reference.specs.Requests.{stepped, carried_out, source_of, target_of, csr_asked}
+use Rattle.reference.specs.Requests.{at_next_instruction, carried_out, source_of, target_of, csr_asked}
 use Rattle.reference.specs.Turn.{fetch_and_act, place_of_pc, leads_into, noted_gpa, outside, leave_entry, fetch_in_entry, bound_entry, carry_out_kernel_only, carry_out_ecall, carry_out_sret, with_set, carry_out_effect, carry_out_instruction, carry_out_word, Fetched, NoWord, Stray, Word, fetch_of, demote, act_on_fetch, act_on_pending, act, turn_of_started, turn_of, turn}
 use Rattle.reference.specs.Run.{happen, happen_under, step, run}
 use Rattle.reference.specs.Soundness.{IsSound, IsSoundHart, IsSoundDisk}
@@ -44,7 +44,7 @@ use Rattle.run_laws.proofs.Sounds.{Goes, goes_set, goes_beside, goes_bytes, goes
 illegal_goes : (r : State) (h : ℕ) (hart : Hart) (w : ℕ) → IsSound r → IsSoundHart r.rules hart → Goes r (exception r h hart Cause.Illegal w)
 illegal_goes r h hart w s k = exception_goes r h hart Cause.Illegal w s k
 
-behind_goes : (r : State) (h : ℕ) (hart : Hart) → IsSound r → IsSoundHart r.rules hart → Goes r (carried_out r h (stepped hart))
+behind_goes : (r : State) (h : ℕ) (hart : Hart) → IsSound r → IsSoundHart r.rules hart → Goes r (carried_out r h (at_next_instruction hart))
 behind_goes r h hart s k = retire_goes r h hart hart.registers hart.reservation s k
 
 kernel_only_goes : (r : State) (h : ℕ) (hart : Hart) (w : ℕ) (mode : Mode) → IsSound r → IsSoundHart r.rules hart → Goes r (carry_out_kernel_only r h hart w mode)
@@ -64,7 +64,7 @@ sret_goes r h hart w User s k on = illegal_goes r h hart w s k
 
 set_goes : (r : State) (h : ℕ) (hart : Hart) (rd value next : ℕ) → IsSound r → IsSoundHart r.rules hart → (next % 4 ≡ 0) × (next < 2 ^ 64) → Goes r (carried_out r h (with_set hart rd value next))
 set_goes r h hart rd value next s k right =
-    goes_set r h (with_set hart rd value next) r.devices (counted count_retired r.journal) s
+    goes_set r h (with_set hart rd value next) r.devices (with_count count_retired r.journal) s
     (at_pc hart (set_register hart.registers rd value) next hart.reservation k right.0 right.1) s.disk
 
 effect_goes : (r : State) (h : ℕ) (hart : Hart) (w : ℕ) (e : Effect) → IsSound r → IsSoundHart r.rules hart → hart.started ≡ true → IsTold w hart e → GoesRight e
@@ -100,7 +100,7 @@ instruction_goes r h hart w (Some i) s k on e =
 
 demote_goes : (r : State) (h : ℕ) (hart : Hart) (gpa : ℕ) → IsSound r → IsSoundHart r.rules hart → hart.started ≡ true → Goes r (demote r h hart gpa)
 demote_goes r h hart gpa s k on =
-    goes_set r h (record hart { mode = User; reservation = None; entry = None }) r.devices (noted (Demote h r.journal.counts.turns hart.pc gpa) (counted count_demote r.journal)) s
+    goes_set r h (record hart { mode = User; reservation = None; entry = None }) r.devices (with_note (Demote h r.journal.counts.turns hart.pc gpa) (with_count count_demote r.journal)) s
     (demoted_sound hart on k) s.disk
 
 fetch_goes : (r : State) (h : ℕ) (hart : Hart) (x : Fetched) → IsSound r → IsSoundHart r.rules hart → hart.started ≡ true → Goes r (act_on_fetch r h hart x)
@@ -175,7 +175,7 @@ moved_goes r disk (IntoRam gpa bytes) s k free =
     goes_on r (with_disk r disk) (with_bytes (with_disk r disk) (ram_place gpa) bytes) first
     (goes_bytes (with_disk r disk) (ram_place gpa) bytes first.sound
     (beat_page (with_disk r disk) gpa bytes (record { size = free.size; some = free.some; short = free.short; one_page = free.one_page; inside = free.inside; free = same_free r disk gpa free.free })))
-moved_goes r disk (DeniedAt gpa) s k free = goes_beside r (record r.devices { disk = disk }) (noted (Denied gpa) (counted count_denied r.journal)) s k
+moved_goes r disk (DeniedAt gpa) s k free = goes_beside r (record r.devices { disk = disk }) (with_note (Denied gpa) (with_count count_denied r.journal)) s k
 moved_goes r disk OutsideRam s k free = goes_beside r (record r.devices { disk = disk }) r.journal s k
 
 pub beat_goes : (r : State) → IsSound r → Goes r (beat r)
@@ -189,7 +189,7 @@ pub key_goes : (r : State) (byte : ℕ) → IsSound r → Goes r (key r byte)
 unfolding key
 key_goes r byte s =
     goes_beside r (record r.devices { console = after_key r.devices.console byte })
-    (if has_room r.devices.console then r.journal else counted count_dropped r.journal) s s.disk
+    (if has_room r.devices.console then r.journal else with_count count_dropped r.journal) s s.disk
 
 pub tick_goes : (r : State) (n : ℕ) → IsSound r → Goes r (tick r n)
 unfolding tick
@@ -198,7 +198,7 @@ tick_goes r n s = goes_beside r (record r.devices { clock = after_tick r.devices
 -- ---- events and runs
 
 pub counted_sound : (r : State) (f : Counts → Counts) → IsSound r → Goes r (count r f)
-counted_sound r f s = goes_beside r r.devices (counted f r.journal) s s.disk
+counted_sound r f s = goes_beside r r.devices (with_count f r.journal) s s.disk
 
 happen_goes : (r : State) (e : Event) → IsSound r → Goes r (happen r e)
 unfolding happen

@@ -139,7 +139,7 @@ fn width_funct3(width: u8) -> u32
 // An atomic operation's code with its acquire and release bits.
 fn ordered(funct5: u32, aq: bool, rl: bool) -> u32
     requires { funct5 < 32 }
-    ensures value { result ≡ table.ordered funct5 aq rl }
+    ensures value { result ≡ table.amo_funct7 funct5 aq rl }
     ensures bound { result < 128 }
 {
     4 * funct5 + 2 * u32::from(aq) + u32::from(rl)

@@ -40,7 +40,7 @@ fn shift_right_signed(a: u64, count: u32) -> u64
 
 #[inline(always)]
 fn upper_signed(a: u64, b: u64) -> u64
-    ensures { result ≡ table.upper (table.signed a *ℤ table.signed b) }
+    ensures { result ≡ table.upper (table.signed_word a *ℤ table.signed_word b) }
 {
     let product = i128::from(a.cast_signed()) * i128::from(b.cast_signed());
     (product.cast_unsigned() >> 64) as u64
@@ -48,7 +48,7 @@ fn upper_signed(a: u64, b: u64) -> u64
 
 #[inline(always)]
 fn upper_mixed(a: u64, b: u64) -> u64
-    ensures { result ≡ table.upper (table.signed a *ℤ pos b) }
+    ensures { result ≡ table.upper (table.signed_word a *ℤ pos b) }
 {
     let product = i128::from(a.cast_signed()) * i128::from(b);
     (product.cast_unsigned() >> 64) as u64

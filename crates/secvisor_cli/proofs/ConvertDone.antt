@@ -19,7 +19,7 @@ use Rattle.secvisor_cli.specs.declared.file_fault.FileFault.{FileFault}
 use Rattle.secvisor_cli.specs.Answers.{Headline, Meets, MeetsReached, Outside, outside}
 use Rattle.secvisor_cli.specs.CommandLine.{Convert, ConvertWords}
 use Rattle.secvisor_cli.specs.Converted.{Holds, IsBoundOf, IsConverted}
-use Rattle.secvisor_cli.specs.Plans.{Due, Refuse, Plan, End, Read, Judge, Found, Faulty, Missing, Longer, Held, binding_plan, binding_refusal, bound_plan, command_plan, convert_plan, converted, converted_judged, found_plan, kernel_part, part_judged, plan_of, policy_judged, policy_part, status_due}
+use Rattle.secvisor_cli.specs.Plans.{Due, Refuse, Plan, End, Read, Judge, Found, Faulty, Missing, Longer, Held, binding_plan, binding_refusal, bound_plan, command_plan, convert_plan, due_of_convert, converted_judged, found_plan, kernel_part, part_judged, plan_of, policy_judged, policy_part, status_due}
 use Rattle.secvisor_cli.specs.Reading.{Follows, FoundAs}
 
 -- this holds of what is due at each end of a plan that these files are asked by, where that is done
@@ -42,7 +42,7 @@ done_at_end P (Judge next) old new due all (inr it) is = done_at_end P next old 
 -- what is due is a policy bound to the kernel that was read
 record IsBoundDue (words : ConvertWords) (files : FilesState) (due : Due) : Type 0 where
   rules : Rules
-  is : due ≡ converted words.out rules
+  is : due ≡ due_of_convert words.out rules
   bound : IsBoundOf words files rules
 
 -- what holds of each answer of the second step holds of that of both

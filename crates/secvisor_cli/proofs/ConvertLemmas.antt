@@ -5,7 +5,7 @@ use Rattle.sv_types.specs.Policies.{Rules}
 use Rattle.elf64_load.specs.Images.{segments_of}
 use Rattle.elf64_load.specs.declared.image.KernelImage.{KernelImage}
 use Rattle.entry_binding.specs.Binding.{bound_rules}
-use Rattle.entry_binding.specs.Faults.{Judged, Refuses, answered}
+use Rattle.entry_binding.specs.Faults.{Judged, Refuses, as_answer}
 use Rattle.entry_binding.specs.InText.{AreOfKernel}
 use Rattle.entry_binding.specs.declared.fault.BindFault.{BindFault}
 use Rattle.entry_binding.specs.declared.fault.BindRefusal.{BindRefusal}
@@ -26,7 +26,7 @@ pub of_kernel : (file : List ℕ) (ram_pages : ℕ) (image : KernelImage) → Is
 of_kernel file ram_pages image of = record { file = file; accepted = of.accepted; segments = of.segments }
 
 -- a fault that is answered was judged
-fault_judged : {A : Type 0} (judged : Judged A) (fault : BindFault) → answered judged ≡ Err (binding.Fault fault) → judged ≡ Err fault
+fault_judged : {A : Type 0} (judged : Judged A) (fault : BindFault) → as_answer judged ≡ Err (binding.Fault fault) → judged ≡ Err fault
 fault_judged (Ok value) fault is = absurd (cc is)
 fault_judged (Err found) fault is =
     let same : found ≡ fault = cc is in ap (λ (f : BindFault). Err f) same

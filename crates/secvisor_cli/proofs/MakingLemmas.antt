@@ -9,7 +9,7 @@ use Rattle.policy_making.specs.declared.object_file.ObjectFile.{ObjectFile}
 use Rattle.policy_making.specs.declared.refusal.MakingFault.{MakingFault}
 use Rattle.policy_making.specs.declared.refusal.MakingRefusal.{MakingRefusal}
 use Rattle.policy_making.specs.declared.refusal.MakingRefusal.TheVariants as making
-use Rattle.policy_making.specs.Refusals.{Judged, Refuses, answered}
+use Rattle.policy_making.specs.Refusals.{Judged, Refuses, as_answer}
 use Rattle.policy_making.specs.Making.{ModuleFile, Terms, file_of, kernel_digest, names_with, policy_behind}
 use Rattle.outside.specs.Outside.{FilesState}
 use Rattle.secvisor_cli.specs.declared.refusal.Refusal.TheVariants.{File}
@@ -19,7 +19,7 @@ use Rattle.secvisor_cli.specs.declared.ready.Made.{Made}
 use Rattle.secvisor_cli.specs.declared.ready.Stop.{Stop}
 use Rattle.secvisor_cli.specs.declared.ready.Stop.TheVariants.{Memory}
 use Rattle.secvisor_cli.specs.CommandLine.{PolicyWords}
-use Rattle.secvisor_cli.specs.Plans.{Due, Refuse, measured, measured_line, Plan, End, Judge, Held, most_image_bytes, most_object_bytes, making_fault, made_judged, made_part, Kernel, digest_part, Modules, with_module, module_part, modules_part, making_plan}
+use Rattle.secvisor_cli.specs.Plans.{Due, Refuse, due_of_measure, measured_line, Plan, End, Judge, Held, most_image_bytes, most_object_bytes, making_fault, made_judged, made_part, Kernel, digest_part, Modules, with_module, module_part, modules_part, making_plan}
 use Rattle.secvisor_cli.specs.Reading.{FoundAs, Follows, MayFollow}
 use Rattle.secvisor_cli.specs.Ready.{PartRead, stop_of_making, IsMade, Prepares, Passes, MayStage}
 use Rattle.secvisor_cli.proofs.ReadyLemmas.{end_ready, judge_ready, judge_wants, read_ready, stopped_ready}
@@ -45,7 +45,7 @@ made_may {A} part name limit judge next old now bytes value fact is may =
     subst (λ (j : Judged A). MayFollow (made_judged (next bytes) j) now) is (read_may part name limit (made_next judge next) old now bytes fact may)
 
 -- a fault that is answered was judged
-fault_judged : {A : Type 0} (judged : Judged A) (fault : MakingFault) → answered judged ≡ Err (making.Fault fault) → judged ≡ Err fault
+fault_judged : {A : Type 0} (judged : Judged A) (fault : MakingFault) → as_answer judged ≡ Err (making.Fault fault) → judged ≡ Err fault
 fault_judged (Ok value) fault is = absurd (cc is)
 fault_judged (Err found) fault is =
     let same : found ≡ fault = cc is in ap (λ (f : MakingFault). Err f) same
@@ -174,7 +174,7 @@ pub making_stops : (words : PolicyWords) (kernel : Kernel) (modules : Modules) (
     Refuses (policy_behind words.terms kernel.file kernel.digest modules.names modules.objects) refused → Prepares (making_plan words kernel modules) files files (Err (stop_of_making refused))
 unfolding making_plan
 making_stops words kernel modules files refused why =
-    judged_stops (λ rules. End (measured words.out rules)) (policy_behind words.terms kernel.file kernel.digest modules.names modules.objects) refused files why
+    judged_stops (λ rules. End (due_of_measure words.out rules)) (policy_behind words.terms kernel.file kernel.digest modules.names modules.objects) refused files why
 
 pub making_wants : (words : PolicyWords) (kernel : Kernel) (modules : Modules) (files : FilesState) → Prepares (making_plan words kernel modules) files files (Err Memory)
 unfolding making_plan
@@ -186,7 +186,7 @@ pub making_ready : (words : PolicyWords) (kernel : Kernel) (modules : Modules) (
 unfolding making_plan
 making_ready words kernel modules files rules made is it =
     judge_ready _ files files _
-    (subst (λ (j : Judged Rules). Prepares (made_judged (λ r. End (measured words.out r)) j) files files (Ok (Save made))) (sym is) (end_ready (measured words.out rules) files _ it))
+    (subst (λ (j : Judged Rules). Prepares (made_judged (λ r. End (due_of_measure words.out r)) j) files files (Ok (Save made))) (sym is) (end_ready (due_of_measure words.out rules) files _ it))
 
 -- the same files under the words' terms
 pub behind_same : (terms wanted : Terms) (file kernel digest : List ℕ) (names given : List (List ℕ)) (objects held : List ObjectFile) → terms ≡ wanted → file ≡ kernel → names ≡ given → objects ≡ held →

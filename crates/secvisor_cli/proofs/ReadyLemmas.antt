@@ -35,7 +35,7 @@ use Rattle.secvisor_cli.specs.Plans.{Due, Refuse, RunFrom, Plan, End, Judge, Fou
 use Rattle.secvisor_cli.specs.Reading.{FoundAs}
 use Rattle.console_run.proofs.Standing.{printed_few}
 use Rattle.machine.proofs.Repeated.{counts_are, none_counted}
-use Rattle.secvisor_cli.specs.Ready.{unread, PartRead, stop_of, IsReady, IsReadyWhere, Prepares}
+use Rattle.secvisor_cli.specs.Ready.{read_refusal, PartRead, stop_of, IsReady, IsReadyWhere, Prepares}
 
 -- ---- any plan
 
@@ -71,7 +71,7 @@ not_refused : (r : Refusal) → None ≡ Some r → ⊥
 not_refused r is = cc is
 
 unread_ready : (part : Part) (name : List ℕ) (limit : ℕ) (next : List ℕ → Plan) (old new : FilesState) (refusal : Refusal) (found : Found) →
-    FoundAs old new name limit found → unread part found ≡ Some refusal → Prepares (read_part part name limit next) old new (Err (Refused refusal))
+    FoundAs old new name limit found → read_refusal part found ≡ Some refusal → Prepares (read_part part name limit next) old new (Err (Refused refusal))
 unfolding found_plan
 unread_ready part name limit next old new refusal Faulty fact is = record {
   reached = Some (Refuse (ReadFault part));

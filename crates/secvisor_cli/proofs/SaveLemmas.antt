@@ -11,10 +11,10 @@ use Rattle.machine_model.specs.Machine.{Machine}
 use Rattle.outside.specs.Outside.{FilesState, SinkState, after_saving, after_taking, TookPrefix}
 use Rattle.outside.specs.declared.trouble.Trouble.{Trouble}
 use Rattle.outside.specs.declared.trouble.Trouble.TheVariants.{Write, Memory}
-use Rattle.secvisor_cli.specs.Plans.{Exactly, Saving, saving}
+use Rattle.secvisor_cli.specs.Plans.{Exactly, Saving, saving_of_bytes}
 use Rattle.secvisor_cli.specs.Reading.{IsUnder, Saved, SaveBroke}
 use Rattle.secvisor_cli.specs.Answers.{Outside, AfterSave, SavedBehind, Writes, RunsTo, RunsAndSaves, MeetsSavesBehind, is_answer}
-use Rattle.outside.specs.Endings.{settled}
+use Rattle.outside.specs.Endings.{status_of_end}
 use Rattle.secvisor_cli.proofs.EndLemmas.{runs_under}
 
 -- ---- what saving leaves alone
@@ -161,27 +161,27 @@ pub no_memory : (s : Status) → IsTrue (is_answer s) → s ≡ Status.Memory �
 no_memory s proper is = is_other s Status.Memory proper not_memory is
 
 none_meets : (due : Status) (bytes : List ℕ) (old new : Outside) (written : Result Status Trouble) → new.files ≡ old.files → Writes due bytes old.sink new.sink written →
-    MeetsSavesBehind None bytes old new (settled written)
+    MeetsSavesBehind None bytes old new (status_of_end written)
 none_meets due bytes old new (Ok s) same w = (same, λ is. absurd (no_write_fault s w.proper is))
 none_meets due bytes old new (Err Write) same w = (same, λ _. w.write refl)
 none_meets due bytes old new (Err Memory) same w = (same, λ e. absurd (cc e))
 
 some_meets : (s : Saving) (due : Status) (bytes : List ℕ) (old new : Outside) (trouble : Trouble) → new.files ≡ old.files → Writes due bytes old.sink new.sink (Err trouble) →
-    MeetsSavesBehind (Some s) bytes old new (settled (Err trouble))
+    MeetsSavesBehind (Some s) bytes old new (status_of_end (Err trouble))
 some_meets s due bytes old new Write same w = record { saved = λ t. absurd (cc t); broke = λ _. inl (same, w.write refl); wanting = λ e. absurd (cc e) }
 some_meets s due bytes old new Memory same w = record { saved = λ t. absurd (cc t); broke = λ e. absurd (cc e); wanting = λ _. same }
 
 pub meets_saves : (asked : Option Saving) (due : Status) (bytes : List ℕ) (old new : Outside) (written result : Result Status Trouble) → Writes due bytes old.sink new.sink written →
-    SavedBehind asked old.files new.files written result → MeetsSavesBehind asked bytes old new (settled result)
+    SavedBehind asked old.files new.files written result → MeetsSavesBehind asked bytes old new (status_of_end result)
 meets_saves None due bytes old new written result w it =
-    subst (λ (r : Result Status Trouble). MeetsSavesBehind None bytes old new (settled r)) (sym it.1) (none_meets due bytes old new written it.0 w)
+    subst (λ (r : Result Status Trouble). MeetsSavesBehind None bytes old new (status_of_end r)) (sym it.1) (none_meets due bytes old new written it.0 w)
 meets_saves (Some s) due bytes old new (Err trouble) result w it =
-    subst (λ (r : Result Status Trouble). MeetsSavesBehind (Some s) bytes old new (settled r)) (sym it.1) (some_meets s due bytes old new trouble it.0 w)
+    subst (λ (r : Result Status Trouble). MeetsSavesBehind (Some s) bytes old new (status_of_end r)) (sym it.1) (some_meets s due bytes old new trouble it.0 w)
 meets_saves (Some s) due bytes old new (Ok status) result w (inl it) =
-    subst (λ (r : Result Status Trouble). MeetsSavesBehind (Some s) bytes old new (settled r)) (sym it.1)
+    subst (λ (r : Result Status Trouble). MeetsSavesBehind (Some s) bytes old new (status_of_end r)) (sym it.1)
     (record { saved = λ _. it.0; broke = λ is. absurd (no_write_fault status w.proper is); wanting = λ is. absurd (no_memory status w.proper is) })
 meets_saves (Some s) due bytes old new (Ok status) result w (inr it) =
-    subst (λ (r : Result Status Trouble). MeetsSavesBehind (Some s) bytes old new (settled r)) (sym it.1)
+    subst (λ (r : Result Status Trouble). MeetsSavesBehind (Some s) bytes old new (status_of_end r)) (sym it.1)
     (record { saved = λ t. absurd (cc t); broke = λ _. inr (it.0, w.whole); wanting = λ e. absurd (cc e) })
 
 broke_faults : (s : Saving) (bytes : List ℕ) (old new : Outside) →
@@ -202,30 +202,30 @@ pub run_not_saved : (start : State) (events : List Event) (save : Option (List �
 run_not_saved start events save m files old new trouble w runs = record {
   written = Err trouble;
   writes = w;
-  saves = not_saved (saving (disk_bytes (run start events).devices.disk) save) files trouble;
+  saves = not_saved (saving_of_bytes (disk_bytes (run start events).devices.disk) save) files trouble;
   runs = runs;
 }
 
 pub run_saved : (start : State) (events : List Event) (save : Option (List ℕ)) (m : Machine) (f0 f1 : FilesState) (old new : SinkState) (status : Status) (u : Unit {0}) →
     disk_bytes m.devices.disk ≡ disk_bytes (run start events).devices.disk → Writes (run_status (run start events).journal.verdict) (output (run start events)) old new (Ok status) →
-    RunsTo (IsErrOf {T = Status} (Ok status) Memory) start events m old new → AfterSave (saving (disk_bytes m.devices.disk) save) f0 f1 (Ok u) → RunsAndSaves start events save m f0 f1 old new (Ok status)
+    RunsTo (IsErrOf {T = Status} (Ok status) Memory) start events m old new → AfterSave (saving_of_bytes (disk_bytes m.devices.disk) save) f0 f1 (Ok u) → RunsAndSaves start events save m f0 f1 old new (Ok status)
 run_saved start events save m f0 f1 old new status u disk w runs it = record {
   written = Ok status;
   writes = w;
   saves =
-      saved_ok (saving (disk_bytes (run start events).devices.disk) save) f0 f1 status u
-      (subst (λ (bytes : List ℕ). AfterSave (saving bytes save) f0 f1 (Ok u)) disk it);
+      saved_ok (saving_of_bytes (disk_bytes (run start events).devices.disk) save) f0 f1 status u
+      (subst (λ (bytes : List ℕ). AfterSave (saving_of_bytes bytes save) f0 f1 (Ok u)) disk it);
   runs = runs;
 }
 
 pub run_broke : (start : State) (events : List Event) (save : Option (List ℕ)) (m : Machine) (f0 f1 : FilesState) (old new : SinkState) (status : Status) (trouble : Trouble) →
     disk_bytes m.devices.disk ≡ disk_bytes (run start events).devices.disk → Writes (run_status (run start events).journal.verdict) (output (run start events)) old new (Ok status) →
-    RunsTo (IsErrOf {T = Status} (Ok status) Memory) start events m old new → AfterSave (saving (disk_bytes m.devices.disk) save) f0 f1 (Err trouble) →
+    RunsTo (IsErrOf {T = Status} (Ok status) Memory) start events m old new → AfterSave (saving_of_bytes (disk_bytes m.devices.disk) save) f0 f1 (Err trouble) →
     RunsAndSaves start events save m f0 f1 old new (Err trouble)
 run_broke start events save m f0 f1 old new status trouble disk w runs it =
-    let asked : Option Saving = saving (disk_bytes (run start events).devices.disk) save in
+    let asked : Option Saving = saving_of_bytes (disk_bytes (run start events).devices.disk) save in
     let behind : SavedBehind asked f0 f1 (Ok status) (Err trouble) =
-    saved_err asked f0 f1 status trouble (subst (λ (bytes : List ℕ). AfterSave (saving bytes save) f0 f1 (Err trouble)) disk it) in
+    saved_err asked f0 f1 status trouble (subst (λ (bytes : List ℕ). AfterSave (saving_of_bytes bytes save) f0 f1 (Err trouble)) disk it) in
     record {
       written = Ok status;
       writes = w;

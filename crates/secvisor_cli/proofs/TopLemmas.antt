@@ -47,12 +47,12 @@ use Rattle.outside.specs.declared.trouble.Trouble.{Trouble}
 use Rattle.outside.specs.declared.trouble.Trouble.TheVariants.{Write, Memory}
 use Rattle.secvisor_cli.specs.Refusals.{refusal_line, refusal_status, takes_memory}
 use Rattle.command_words.specs.declared.command.DiskKind.{DiskKind}
-use Rattle.secvisor_cli.specs.CommandLine.{Command, Flat, Generated, Run, RunWords, Source, Rounds, Auto, Text, MakePolicy, PolicyWords, Convert, ConvertWords, judged}
-use Rattle.secvisor_cli.specs.Plans.{Due, Refuse, RunFrom, Make, Exactly, Saving, policy_saving, saves_due, most_image_bytes, most_object_bytes, making_fault, made_judged, made_part, Kernel, digest_part, Modules, no_modules, with_module, module_part, modules_part, making_plan, measure_plan, Plan, End, bytes_due, status_due, found_plan, flat_plan, command_plan, plan_of, measure_judged, pages_judged, is_whole_pages, flat_events, gen_plan, gen_due, gen_disk, policy_judged, policy_part, part_judged, kernel_part, disk_refusal, disk_part, text_part, script_part, image_measure, boot_judged, boot_plan, image_plan, run_plan, start_with, measured, binding_refusal, converted_judged, bound_plan, binding_plan, convert_plan}
+use Rattle.secvisor_cli.specs.CommandLine.{Command, Flat, Generated, Run, RunWords, Source, Rounds, Auto, Text, MakePolicy, PolicyWords, Convert, ConvertWords, judgement_of_words}
+use Rattle.secvisor_cli.specs.Plans.{Due, Refuse, RunFrom, Make, Exactly, Saving, policy_saving, saves_due, most_image_bytes, most_object_bytes, making_fault, made_judged, made_part, Kernel, digest_part, Modules, no_modules, with_module, module_part, modules_part, making_plan, measure_plan, Plan, End, bytes_due, status_due, found_plan, flat_plan, command_plan, plan_of, measure_judged, pages_judged, is_whole_pages, flat_events, gen_plan, gen_due, gen_disk, policy_judged, policy_part, part_judged, kernel_part, disk_refusal, disk_part, text_part, script_part, image_measure, boot_judged, boot_plan, image_plan, run_plan, start_with, due_of_measure, binding_refusal, converted_judged, bound_plan, binding_plan, convert_plan}
 use Rattle.secvisor_cli.specs.Reading.{Follows, MayFollow, MaySave, Saved, SaveBroke, SavesUnder}
 use Rattle.secvisor_cli.specs.Ready.{IsMade, IsReady, IsReadyWhere, IsFresh, IsRunnable, MayCarryOut, MaySaveRun, Prepares}
 use Rattle.secvisor_cli.specs.Answers.{Outside, outside, Writes, SavesAndWrites, WritesAndSaves, Answers, AnswersReached, Performs, MeetsSaves, MeetsSavesBehind, Meets, MeetsReached, Headline, BenchAfter}
-use Rattle.outside.specs.Endings.{settled}
+use Rattle.outside.specs.Endings.{status_of_end}
 use Rattle.secvisor_cli.proofs.WordLemmas.{NoReadFault, words_no_read_fault}
 use Rattle.secvisor_cli.proofs.EndLemmas.{runs_under}
 use Rattle.secvisor_cli.proofs.PlanLemmas.{HasFoundFaults, HasFault, Keeps, follows_keeps, may_save, read_fault, saves_under, may_follow}
@@ -217,23 +217,23 @@ meets_memory due old new a w saves = record {
 }
 
 meets_by : (due : Due) (old new : Outside) (result : Result Status Trouble) → WritesAndSaves due old new result → Wrote (status_due due) (bytes_due due) old.sink new.sink result →
-    MeetsSaves due old new (settled result) → Meets due old new (settled result)
+    MeetsSaves due old new (status_of_end result) → Meets due old new (status_of_end result)
 meets_by due old new (Ok s) a w saves = meets_ok due old new s a w saves
 meets_by due old new (Err Write) a w saves = meets_write due old new a w saves
 meets_by due old new (Err Memory) a w saves = meets_memory due old new a w saves
 
-meets_written : (due : Due) (old new : Outside) (result : Result Status Trouble) → WritesAndSaves due old new result → MeetsSaves due old new (settled result) →
-    Meets due old new (settled result)
+meets_written : (due : Due) (old new : Outside) (result : Result Status Trouble) → WritesAndSaves due old new result → MeetsSaves due old new (status_of_end result) →
+    Meets due old new (status_of_end result)
 meets_written due old new result a saves =
     meets_by due old new result a (wrote (saves_due due) old.files new.files (status_due due) (bytes_due due) old.sink new.sink a.written result a.writes a.saves) saves
 
 meets_first : (due : Due) (old new : Outside) (result : Result Status Trouble) → WritesAndSaves due old new result →
-    MeetsSavesBehind (saves_due due) (bytes_due due) old new (settled result)
+    MeetsSavesBehind (saves_due due) (bytes_due due) old new (status_of_end result)
 meets_first due old new result a = meets_saves (saves_due due) (status_due due) (bytes_due due) old new a.written result a.writes a.saves
 
 meets_made : (name : List ℕ) (rules : Rules) (line : List ℕ) (old new : Outside) (result : Result Status Trouble) →
     SavesAndWrites (policy_saving name rules) line old.files new.files old.sink new.sink result → new.bench ≡ old.bench →
-    Meets (Make name rules line) old new (settled result)
+    Meets (Make name rules line) old new (status_of_end result)
 meets_made name rules line old new (Ok status) a bench =
     subst (λ (s : Status). Meets (Make name rules line) old new s) (sym a.0)
     (record {
@@ -268,18 +268,18 @@ meets_made name rules line old new (Err Write) (inr a) bench = record {
 }
 meets_made name rules line old new (Err Memory) a bench = absurd a
 
-meets : (due : Due) (old new : Outside) (result : Result Status Trouble) → Answers due old new result → Meets due old new (settled result)
+meets : (due : Due) (old new : Outside) (result : Result Status Trouble) → Answers due old new result → Meets due old new (status_of_end result)
 meets (Refuse refusal) old new result a = meets_written (Refuse refusal) old new result a (meets_first (Refuse refusal) old new result a)
 meets (RunFrom start events save) old new result a = meets_written (RunFrom start events save) old new result a (meets_first (RunFrom start events save) old new result a)
 meets (Make name rules line) old new result a = meets_made name rules line old new result a.0 a.1
 
-reached_settled : (reached : Option Due) (old new : Outside) (result : Result Status Trouble) → AnswersReached reached old new result → MeetsReached reached old new (settled result)
+reached_settled : (reached : Option Due) (old new : Outside) (result : Result Status Trouble) → AnswersReached reached old new result → MeetsReached reached old new (status_of_end result)
 reached_settled None old new (Ok s) a = absurd (cc a.0)
 reached_settled None old new (Err Write) a = absurd (cc a.0)
 reached_settled None old new (Err Memory) a = (refl, a.1)
 reached_settled (Some due) old new result a = meets due old new result a
 
-pub headline : (plan : Plan) (old new : Outside) (result : Result Status Trouble) → Performs plan old new result → Headline plan old new (settled result)
+pub headline : (plan : Plan) (old new : Outside) (result : Result Status Trouble) → Performs plan old new result → Headline plan old new (status_of_end result)
 headline plan old new result p =
     record { reached = p.reached; read = p.read; follows = p.follows; meets = reached_settled p.reached (outside p.read old.sink old.bench) new result p.answers }
 
@@ -535,7 +535,7 @@ convert_found_faults words = (λ e. cc e, λ bytes. policy_found_faults (binding
 making_found_faults : (words : PolicyWords) (kernel : Kernel) (modules : Modules) → HasFoundFaults (making_plan words kernel modules)
 unfolding making_plan
 making_found_faults words kernel modules =
-    made_found_faults (λ rules. End (measured words.out rules)) (policy_behind words.terms kernel.file kernel.digest modules.names modules.objects) (λ rules. λ e. cc e)
+    made_found_faults (λ rules. End (due_of_measure words.out rules)) (policy_behind words.terms kernel.file kernel.digest modules.names modules.objects) (λ rules. λ e. cc e)
 
 measure_found_faults : (words : PolicyWords) → HasFoundFaults (measure_plan words)
 unfolding measure_plan digest_part
@@ -557,8 +557,8 @@ unfolding plan_of
 words_found_faults (Ok command) is = command_found_faults command
 words_found_faults (Err refusal) is = is
 
-judged_found_faults : (words : List (List ℕ)) → HasFoundFaults (plan_of (judged words))
-judged_found_faults words = words_found_faults (judged words) (words_no_read_fault words)
+judged_found_faults : (words : List (List ℕ)) → HasFoundFaults (plan_of (judgement_of_words words))
+judged_found_faults words = words_found_faults (judgement_of_words words) (words_no_read_fault words)
 
 reached_fault : (plan : Plan) (reached : Option Due) (f0 f1 : FilesState) (old new : Outside) → HasFoundFaults plan → Follows plan f0 f1 reached →
     MeetsReached reached old new Status.ReadFault → HasFault plan f0 f1
@@ -575,7 +575,7 @@ refused_status refusal old new answer a =
     (subst (λ (w : Result Status Trouble). Writes (refusal_status refusal) (refusal_line refusal) old.sink new.sink w) (sym a.saves.1) a.writes).status
 
 pub refused_fault : (plan : Plan) (refusal : Refusal) (old new : Outside) (read : FilesState) (result : Result Status Trouble) → HasFoundFaults plan → Follows plan old.files read (Some (Refuse refusal)) →
-    WritesAndSaves (Refuse refusal) (outside read old.sink old.bench) new result → settled result ≡ Status.ReadFault → HasFault plan old.files new.files
+    WritesAndSaves (Refuse refusal) (outside read old.sink old.bench) new result → status_of_end result ≡ Status.ReadFault → HasFault plan old.files new.files
 refused_fault plan refusal old new read (Ok answer) never follows a is =
     let status : answer ≡ refusal_status refusal = refused_status refusal (outside read old.sink old.bench) new answer a in
     fault_at plan old.files read new.files (ap (λ (f : FilesState). f.read_faults) a.saves.0) (read_fault plan old.files read (Refuse refusal) never follows (sym status ∙ is))
@@ -583,7 +583,7 @@ refused_fault plan refusal old new read (Err Write) never follows a is = absurd 
 refused_fault plan refusal old new read (Err Memory) never follows a is = absurd (cc is)
 
 -- of any plan
-pub plan_fault : (plan : Plan) (old new : Outside) (result : Result Status Trouble) → HasFoundFaults plan → Performs plan old new result → settled result ≡ Status.ReadFault →
+pub plan_fault : (plan : Plan) (old new : Outside) (result : Result Status Trouble) → HasFoundFaults plan → Performs plan old new result → status_of_end result ≡ Status.ReadFault →
     HasFault plan old.files new.files
 plan_fault plan old new result never p is =
     let before : Outside = outside p.read old.sink old.bench in
@@ -591,13 +591,13 @@ plan_fault plan old new result never p is =
     (reached_fault plan p.reached old.files p.read before new never p.follows
     (subst (λ (t : Status). MeetsReached p.reached before new t) is (reached_settled p.reached before new result p.answers)))
 
-pub performs_fault : (words : List (List ℕ)) (old new : Outside) (result : Result Status Trouble) → Performs (plan_of (judged words)) old new result → settled result ≡ Status.ReadFault →
-    HasFault (plan_of (judged words)) old.files new.files
-performs_fault words old new result p is = plan_fault (plan_of (judged words)) old new result (judged_found_faults words) p is
+pub performs_fault : (words : List (List ℕ)) (old new : Outside) (result : Result Status Trouble) → Performs (plan_of (judgement_of_words words)) old new result → status_of_end result ≡ Status.ReadFault →
+    HasFault (plan_of (judgement_of_words words)) old.files new.files
+performs_fault words old new result p is = plan_fault (plan_of (judgement_of_words words)) old new result (judged_found_faults words) p is
 
 -- ---- the words
 
 -- where all names may be asked for and saved under
 pub words_follow : (words : List (List ℕ)) (files : FilesState) → ((asked : List (List ℕ × ℕ)) → IsTrue (files.permits asked)) →
-    ((saves : List (List ℕ × List ℕ)) → IsTrue (files.permits_save saves)) → MayFollow (plan_of (judged words)) files
-words_follow words files all saves = may_follow (plan_of (judged words)) files all saves
+    ((saves : List (List ℕ × List ℕ)) → IsTrue (files.permits_save saves)) → MayFollow (plan_of (judgement_of_words words)) files
+words_follow words files all saves = may_follow (plan_of (judgement_of_words words)) files all saves

@@ -21,7 +21,7 @@ use Rattle.secvisor_cli.specs.declared.refusal.Refusal.{Refusal}
 use Rattle.secvisor_cli.specs.declared.refusal.Refusal.TheVariants.{OutOfRange, NoCommand}
 use Rattle.secvisor_cli.specs.declared.refusal.Word.{Word}
 use Rattle.secvisor_cli.specs.Refusals.{refusal_status}
-use Rattle.secvisor_cli.specs.CommandLine.{Command, Source, flat_words, gen_words, source_of, run_words, entries_judged, init_of, terms_with, terms_words, terms_judged, making_words, command_judged, split_judged, judged}
+use Rattle.secvisor_cli.specs.CommandLine.{Command, Source, flat_words, gen_words, source_of, run_words, entries_judged, init_of, terms_with, terms_words, terms_judged, making_words, command_judged, split_judged, judgement_of_words}
 use Rattle.secvisor_cli.specs.Words.{HasModuleNames}
 
 -- ---- so many words are of no command
@@ -71,8 +71,8 @@ split_is_some : (split : Option Split) → IsTrue (is_ok (split_judged split)) �
 split_is_some None good = good
 split_is_some (Some split) good = refl
 
-pub has_command : (words : List (List ℕ)) → IsTrue (is_ok (judged words)) → IsTrue (is_some (split_words words))
-unfolding judged
+pub has_command : (words : List (List ℕ)) → IsTrue (is_ok (judgement_of_words words)) → IsTrue (is_some (split_words words))
+unfolding judgement_of_words
 has_command words good = split_is_some (split_words words) good
 
 names_of_making : (words : MeasureSplit) (terms : Result Terms Refusal) → IsTrue (is_ok (making_words words terms)) → IsTrue (are_module_names words.modules)
@@ -92,13 +92,13 @@ command_names (Split.Measure w) good = names_of_making w (terms_judged w.ram w.h
 command_names (Split.Convert w) good = tt
 
 -- the names of modules are in range
-pub has_module_names : (words : List (List ℕ)) (split : Split) → split_words words ≡ Some split → IsTrue (is_ok (judged words)) → HasModuleNames split
-unfolding judged
+pub has_module_names : (words : List (List ℕ)) (split : Split) → split_words words ≡ Some split → IsTrue (is_ok (judgement_of_words words)) → HasModuleNames split
+unfolding judgement_of_words
 has_module_names words split is good = command_names split (subst (λ (o : Option Split). IsTrue (is_ok (split_judged o))) is good)
 
 -- what they ask for is what is asked by their names
-pub judged_by_name : (words : List (List ℕ)) (split : Split) → split_words words ≡ Some split → judged words ≡ command_judged split
-unfolding judged
+pub judged_by_name : (words : List (List ℕ)) (split : Split) → split_words words ≡ Some split → judgement_of_words words ≡ command_judged split
+unfolding judgement_of_words
 judged_by_name words split is = ap split_judged is
 
 -- ---- what a policy says beside its files is within its limits
@@ -228,6 +228,6 @@ split_no_read_fault (Some (Split.Measure w)) =
     (terms_no_read_fault w.init (number_within 16 most_ram_pages w.ram) (number_within 1 4 w.harts) (entries_judged w.entries))
 split_no_read_fault (Some (Split.Convert w)) = tt
 
-pub words_no_read_fault : (words : List (List ℕ)) → NoReadFault (judged words)
-unfolding judged
+pub words_no_read_fault : (words : List (List ℕ)) → NoReadFault (judgement_of_words words)
+unfolding judgement_of_words
 words_no_read_fault words = split_no_read_fault (split_words words)

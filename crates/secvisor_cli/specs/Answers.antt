@@ -14,7 +14,7 @@ use Rattle.outside.specs.Outside.{FilesState, SinkState, after_taking, TookPrefi
 use Rattle.outside.specs.declared.trouble.Trouble.{Trouble}
 use Rattle.outside.specs.declared.trouble.Trouble.TheVariants.{Write, Memory}
 use Rattle.secvisor_cli.specs.Refusals.{refusal_line, takes_memory}
-use Rattle.secvisor_cli.specs.Plans.{Due, Refuse, RunFrom, Make, Saving, saving, policy_saving, Plan, bytes_due, status_due, saves_due}
+use Rattle.secvisor_cli.specs.Plans.{Due, Refuse, RunFrom, Make, Saving, saving_of_bytes, policy_saving, Plan, bytes_due, status_due, saves_due}
 use Rattle.console_run.specs.Console.{is_due}
 use Rattle.secvisor_cli.specs.Reading.{Follows, Saved, SaveBroke}
 use Rattle.console_run.specs.Standing.{Stands, machine_output}
@@ -112,7 +112,7 @@ pub record RunsAndSaves (start : State) (events : List Event) (save : Option (Li
   -- how writing ended
   pub written : Result Status Trouble
   pub writes : Writes (run_status (run start events).journal.verdict) (output (run start events)) old new written
-  pub saves : SavedBehind (saving (disk_bytes (run start events).devices.disk) save) files_old files_new written result
+  pub saves : SavedBehind (saving_of_bytes (disk_bytes (run start events).devices.disk) save) files_old files_new written result
   pub runs : RunsTo (IsErrOf result Memory) start events machine old new
 
 -- A policy was saved, and then its line written. Where the save failed, nothing was written.

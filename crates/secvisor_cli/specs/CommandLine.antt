@@ -169,5 +169,5 @@ abbrev pub split_judged : Option Split → Result Command Refusal
 split_judged None = Err NoCommand
 split_judged (Some words) = command_judged words
 
-unfoldable pub judged : List (List ℕ) → Result Command Refusal
-judged words = split_judged (split_words words)
+unfoldable pub judgement_of_words : List (List ℕ) → Result Command Refusal
+judgement_of_words words = split_judged (split_words words)

@@ -28,7 +28,7 @@ use Rattle.script.specs.AutoScripts.{events_of_text, first_refused}
 use Rattle.command_words.specs.declared.command.DiskKind.{DiskKind}
 use Rattle.policy_making.specs.declared.refusal.MakingFault.{MakingFault}
 use Rattle.policy_making.specs.declared.refusal.MakingFault.TheVariants as making
-use Rattle.policy_making.specs.Refusals.{Judged as Made}
+use Rattle.policy_making.specs.Refusals.{Judged as Judging}
 use Rattle.policy_making.specs.Making.{ModuleFile, kernel_digest, names_with, policy_behind}
 use Rattle.entry_binding.specs.Binding.{bound_rules}
 use Rattle.entry_binding.specs.Faults.{Judged as Bound}
@@ -58,11 +58,11 @@ abbrev pub converted_line : ℕ → List ℕ
 converted_line entries = codes "converted " ++ (decimal entries ++ line_end)
 
 -- the line of the kernel's digest
-abbrev pub measured : (name : List ℕ) → Rules → Due
-measured name rules = Make name rules (measured_line rules.kernel)
+abbrev pub due_of_measure : (name : List ℕ) → Rules → Due
+due_of_measure name rules = Make name rules (measured_line rules.kernel)
 
-abbrev pub converted : (name : List ℕ) → Rules → Due
-converted name rules = Make name rules (converted_line (length rules.entries))
+abbrev pub due_of_convert : (name : List ℕ) → Rules → Due
+due_of_convert name rules = Make name rules (converted_line (length rules.entries))
 
 -- all bytes that are due, and the status
 abbrev pub bytes_due : Due → List ℕ
@@ -87,9 +87,9 @@ pub record Saving : Type 0 where
   pub content : Content
 
 -- bytes, where a name for them is given
-abbrev pub saving : (bytes : List ℕ) → Option (List ℕ) → Option Saving
-saving bytes None = None
-saving bytes (Some name) = Some (record { name = name; content = Exactly bytes })
+abbrev pub saving_of_bytes : (bytes : List ℕ) → Option (List ℕ) → Option Saving
+saving_of_bytes bytes None = None
+saving_of_bytes bytes (Some name) = Some (record { name = name; content = Exactly bytes })
 
 abbrev pub policy_saving : (name : List ℕ) → Rules → Saving
 policy_saving name rules = record { name = name; content = PolicyOf rules }
@@ -97,7 +97,7 @@ policy_saving name rules = record { name = name; content = PolicyOf rules }
 -- what is saved
 abbrev pub saves_due : Due → Option Saving
 saves_due (Refuse refusal) = None
-saves_due (RunFrom start events save) = saving (disk_bytes (run start events).devices.disk) save
+saves_due (RunFrom start events save) = saving_of_bytes (disk_bytes (run start events).devices.disk) save
 saves_due (Make name rules line) = Some (policy_saving name rules)
 
 -- ---- plans
@@ -255,12 +255,12 @@ making_fault (making.Image fault) = FileFault.Image fault
 making_fault (making.Module fault) = FileFault.Module fault
 making_fault making.TooManySites = FileFault.Policy PolicyFault.BeyondLimit
 
-abbrev pub made_judged : {A : Type 0} → (A → Plan) → Made A → Plan
+abbrev pub made_judged : {A : Type 0} → (A → Plan) → Judging A → Plan
 made_judged next (Ok value) = next value
 made_judged next (Err fault) = End (Refuse (File (making_fault fault)))
 
 -- a part is read, and what is made of it decides
-unfoldable pub made_part : {A : Type 0} → Part → (name : List ℕ) → (limit : ℕ) → (List ℕ → Made A) → (List ℕ → A → Plan) → Plan
+unfoldable pub made_part : {A : Type 0} → Part → (name : List ℕ) → (limit : ℕ) → (List ℕ → Judging A) → (List ℕ → A → Plan) → Plan
 made_part part name limit judge next = read_part part name limit (λ bytes. Judge (made_judged (next bytes) (judge bytes)))
 
 -- a kernel's file and its digest
@@ -297,7 +297,7 @@ modules_part (name ∷ names) before next = module_part name before (λ now. mod
 -- the exports, the modules under them, and the number of all relocated fields
 unfoldable pub making_plan : PolicyWords → Kernel → Modules → Plan
 making_plan words kernel modules =
-    Judge (made_judged (λ rules. End (measured words.out rules)) (policy_behind words.terms kernel.file kernel.digest modules.names modules.objects))
+    Judge (made_judged (λ rules. End (due_of_measure words.out rules)) (policy_behind words.terms kernel.file kernel.digest modules.names modules.objects))
 
 unfoldable pub measure_plan : PolicyWords → Plan
 measure_plan words =
@@ -310,7 +310,7 @@ binding_refusal (binding.Convert fault) = File (FileFault.Convert fault)
 binding_refusal (binding.Measure found wanted) = Measure found wanted
 
 abbrev pub converted_judged : (out : List ℕ) → Bound Rules → Due
-converted_judged out (Ok rules) = converted out rules
+converted_judged out (Ok rules) = due_of_convert out rules
 converted_judged out (Err fault) = Refuse (binding_refusal fault)
 
 unfoldable pub bound_plan : ConvertWords → Rules → (file : List ℕ) → Plan

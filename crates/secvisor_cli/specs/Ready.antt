@@ -43,16 +43,16 @@ use Rattle.secvisor_cli.specs.Reading.{Follows, FoundAs, MayFollow, MaySave}
 use Rattle.console_run.specs.Standing.{HasState}
 
 -- the refusal of a part that isn't read
-abbrev pub unread : Part → Found → Option Refusal
-unread part Faulty = Some (ReadFault part)
-unread part Missing = Some (ReadFault part)
-unread part Longer = Some (File (FileFault.Longer part))
-unread part (Held bytes) = None
+abbrev pub read_refusal : Part → Found → Option Refusal
+read_refusal part Faulty = Some (ReadFault part)
+read_refusal part Missing = Some (ReadFault part)
+read_refusal part Longer = Some (File (FileFault.Longer part))
+read_refusal part (Held bytes) = None
 
 -- a part was read, once
 abbrev pub PartRead : Part → List ℕ → ℕ → FilesState → FilesState → Result (Vec ℕ Global) Stop → Type 0
 PartRead part name limit old new (Ok bytes) = FoundAs old new name limit (Held bytes.items)
-PartRead part name limit old new (Err (Refused refusal)) = (found : Found) × FoundAs old new name limit found × (unread part found ≡ Some refusal)
+PartRead part name limit old new (Err (Refused refusal)) = (found : Found) × FoundAs old new name limit found × (read_refusal part found ≡ Some refusal)
 PartRead part name limit old new (Err Memory) = new ≡ after_asking name limit old
 
 -- a boot that is refused

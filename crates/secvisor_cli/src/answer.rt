@@ -12,7 +12,7 @@ ghost use Rattle.console_run.specs.Console.{MayRun};
 ghost use Rattle.console_run.specs.Standing.{machine_output};
 ghost use Rattle.sv_types.specs.Schedule.{first_events};
 ghost use Rattle.secvisor_cli.specs.Refusals.{refusal_line, refusal_status, takes_memory};
-ghost use Rattle.secvisor_cli.specs.CommandLine.{judged};
+ghost use Rattle.secvisor_cli.specs.CommandLine.{judgement_of_words};
 ghost use Rattle.secvisor_cli.specs.Words.{command_of, IsInRange};
 ghost use Rattle.secvisor_cli.specs.Plans.{Due, Exactly, RunFrom, command_plan, plan_of};
 ghost use Rattle.secvisor_cli.specs.Reading.{MayFollow, IsNamed, SavesUnder};
@@ -58,32 +58,32 @@ pub fn secvisor<R: Threads + Sync, F: Files, O: Sink>(
 ) -> Status
     // Nothing but what the words name may be asked for, in its order, each part once and up to its limit; and what is due at
     // the end may be saved once.
-    requires permitted { MayFollow (plan_of (judged (map string_bytes words.now))) (F.state files.old) }
+    requires permitted { MayFollow (plan_of (judgement_of_words (map string_bytes words.now))) (F.state files.old) }
     requires sink { MayWrite (O.state out.old) }
     requires reads { (F.state files.old).read_faults < 2 ^ 64 - 1 }
     requires saves { (F.state files.old).save_faults < 2 ^ 64 - 1 }
 
     // For every file, words and number of events the report, the status and the machine are the reference machine's, and a
     // policy that is made is the one that the files ask for: it is saved, and then its line is written.
-    ensures headline { Headline (plan_of (judged (map string_bytes words.now)))
+    ensures headline { Headline (plan_of (judgement_of_words (map string_bytes words.now)))
         (outside (F.state files.old) (O.state out.old) bench.old.machine)
         (outside (F.state files.new) (O.state out.new) bench.new.machine) result }
 
     // A read fault is answered only where the files tell that a name of the words isn't held, or the count of reads rose.
     ensures read_fault { result ≡ Status.ReadFault →
-        (IsTrue (F.state files.old).tells × ((name : List ℕ) × IsNamed (plan_of (judged (map string_bytes words.now))) name × ((F.state files.old).held name ≡ None)))
+        (IsTrue (F.state files.old).tells × ((name : List ℕ) × IsNamed (plan_of (judgement_of_words (map string_bytes words.now))) name × ((F.state files.old).held name ≡ None)))
         ⊎ ((F.state files.old).read_faults < (F.state files.new).read_faults) }
 
     // The counts of faults never fall, and words that are refused read no file.
     ensures reads { (F.state files.old).read_faults ≤ (F.state files.new).read_faults }
     ensures writes { (O.state out.old).faults ≤ (O.state out.new).faults }
-    ensures unread { is_ok (judged (map string_bytes words.now)) ≡ false → F.state files.new ≡ F.state files.old }
+    ensures unread { is_ok (judgement_of_words (map string_bytes words.now)) ≡ false → F.state files.new ≡ F.state files.old }
 
     // No name changes but those under which the plan saves; where it saves none, nothing is saved.
     ensures saves { (F.state files.old).save_faults ≤ (F.state files.new).save_faults }
-    ensures held { (name : List ℕ) → (SavesUnder (plan_of (judged (map string_bytes words.now))) name → ⊥) →
+    ensures held { (name : List ℕ) → (SavesUnder (plan_of (judgement_of_words (map string_bytes words.now))) name → ⊥) →
         (F.state files.new).held name ≡ (F.state files.old).held name }
-    ensures unsaved { ((name : List ℕ) → SavesUnder (plan_of (judged (map string_bytes words.now))) name → ⊥) →
+    ensures unsaved { ((name : List ℕ) → SavesUnder (plan_of (judgement_of_words (map string_bytes words.now))) name → ⊥) →
         ((F.state files.new).held ≡ (F.state files.old).held) × ((F.state files.new).save_faults ≡ (F.state files.old).save_faults) }
 {
     settled(answer(rt, alloc, words, files, out, bench))
@@ -98,11 +98,11 @@ fn answer<R: Threads + Sync, F: Files, O: Sink>(
     out: &mut O,
     bench: &mut Bench,
 ) -> Result<Status, Trouble>
-    requires permitted { MayFollow (plan_of (judged (map string_bytes words.now))) (F.state files.old) }
+    requires permitted { MayFollow (plan_of (judgement_of_words (map string_bytes words.now))) (F.state files.old) }
     requires sink { MayWrite (O.state out.old) }
     requires reads { (F.state files.old).read_faults < 2 ^ 64 - 1 }
     requires saves { (F.state files.old).save_faults < 2 ^ 64 - 1 }
-    ensures { Performs (plan_of (judged (map string_bytes words.now)))
+    ensures { Performs (plan_of (judgement_of_words (map string_bytes words.now)))
         (outside (F.state files.old) (O.state out.old) bench.old.machine)
         (outside (F.state files.new) (O.state out.new) bench.new.machine) result }
 {
@@ -120,9 +120,9 @@ fn prepare<'a, R: Threads + Sync, F: Files>(
     words: &'a [String],
     files: &mut F,
 ) -> Result<Ready<'a>, Stop>
-    requires permitted { MayFollow (plan_of (judged (map string_bytes words.now))) (F.state files.old) }
+    requires permitted { MayFollow (plan_of (judgement_of_words (map string_bytes words.now))) (F.state files.old) }
     requires reads { (F.state files.old).read_faults < 2 ^ 64 - 1 }
-    ensures { Prepares (plan_of (judged (map string_bytes words.now))) (F.state files.old) (F.state files.new) result }
+    ensures { Prepares (plan_of (judgement_of_words (map string_bytes words.now))) (F.state files.old) (F.state files.new) result }
 {
     judge(words)?;
     let words = split(alloc, words)?;

@@ -2,7 +2,7 @@
 ghost use Rattle.std.specs.Prelude.{map, string_bytes, ◌≡◌};
 ghost use Rattle.std.specs.List.{list_any};
 ghost use Rattle.command_words.specs.Commands.{has_dash, shape_split, named_split, flat_split, gen_split, run_split, measure_split, convert_split};
-ghost use Rattle.secvisor_cli.specs.CommandLine.{judged, split_judged};
+ghost use Rattle.secvisor_cli.specs.CommandLine.{judgement_of_words, split_judged};
 ghost use Rattle.secvisor_cli.specs.Words.{IsJudged};
 
 use crate::refusal::{Refusal, Word};
@@ -11,9 +11,9 @@ use command_words::{DiskKind, FlatWords, RunWords, has_dash};
 use policy_making::are_module_names;
 
 /// Judges the words from left to right, without memory.
-#[tactic(auto, using(policy_making::proofs::WordLemmas::list_any_map), unfolding(crate::specs::CommandLine::judged, command_words::specs::Commands::split_words))]
+#[tactic(auto, using(policy_making::proofs::WordLemmas::list_any_map), unfolding(crate::specs::CommandLine::judgement_of_words, command_words::specs::Commands::split_words))]
 pub fn judge(words: &[String]) -> Result<(), Refusal>
-    ensures { IsJudged (judged (map string_bytes words.now)) result }
+    ensures { IsJudged (judgement_of_words (map string_bytes words.now)) result }
 {
     if any_has_dash(words) {
         return Err(Refusal::NoCommand);

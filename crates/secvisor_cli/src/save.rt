@@ -2,7 +2,7 @@
 ghost use Rattle.std.specs.Prelude.{◌<◌, ◌-◌, ◌^◌};
 ghost use Rattle.std.specs.Option.{option_copied};
 ghost use Rattle.reference.specs.Disk.{disk_bytes};
-ghost use Rattle.secvisor_cli.specs.Plans.{saving};
+ghost use Rattle.secvisor_cli.specs.Plans.{saving_of_bytes};
 ghost use Rattle.secvisor_cli.specs.Reading.{MaySave};
 ghost use Rattle.secvisor_cli.specs.Answers.{AfterSave};
 
@@ -16,9 +16,9 @@ pub fn save_disk<F: Files>(
     save: Option<&str>,
     files: &mut F,
 ) -> Result<(), Trouble>
-    requires permitted { MaySave (saving (disk_bytes machine.now.devices.disk) (option_copied save)) (F.state files.old) }
+    requires permitted { MaySave (saving_of_bytes (disk_bytes machine.now.devices.disk) (option_copied save)) (F.state files.old) }
     requires count { (F.state files.old).save_faults < 2 ^ 64 - 1 }
-    ensures { AfterSave (saving (disk_bytes machine.now.devices.disk) (option_copied save.entry)) (F.state files.old) (F.state files.new) result }
+    ensures { AfterSave (saving_of_bytes (disk_bytes machine.now.devices.disk) (option_copied save.entry)) (F.state files.old) (F.state files.new) result }
 {
     match save {
         None => Ok(()),

@@ -8,7 +8,7 @@ use Rattle.outside.specs.declared.FileRefusal.TheVariants.{Absent, Failed, TooLo
 use Rattle.outside.specs.Outside.{FilesState, SinkState, ReadTells, ReadLeaves}
 use Rattle.snapshot_form.specs.Snapshots.{most_snapshot_bytes, snapshot_read}
 use Rattle.snapshot_form.specs.declared.refusal.SnapRefusal.{SnapRefusal}
-use Rattle.show_cli.specs.Showing.{Due, shown, held_shown}
+use Rattle.show_cli.specs.Showing.{Due, due_of_bytes, held_shown}
 use Rattle.show_cli.specs.Answers.{Ends, EndsBehind, ShowsFile, Shows, MayAsk}
 use Rattle.outside.specs.declared.trouble.Trouble.{Trouble}
 use Rattle.outside.specs.declared.trouble.Trouble.TheVariants.{Write, Memory}
@@ -17,8 +17,8 @@ use Rattle.show_cli.specs.declared.refusal.ShowRefusal.TheVariants.{NoCommand, R
 -- ---- what is due for what the name holds
 
 -- more bytes than a snapshot has are none
-too_long : (bytes : List ℕ) → most_snapshot_bytes < length bytes → shown bytes ≡ Err (NoSnapshot SnapRefusal.TooLong)
-unfolding shown snapshot_read
+too_long : (bytes : List ℕ) → most_snapshot_bytes < length bytes → due_of_bytes bytes ≡ Err (NoSnapshot SnapRefusal.TooLong)
+unfolding due_of_bytes snapshot_read
 too_long bytes longer =
     let is : nat_lt most_snapshot_bytes (length bytes) ≡ true = grind (arith, nat_tests) in
     rw is refl
@@ -77,7 +77,7 @@ ends_writes due old new (Err Write) ends = omega (arith, ends.faults)
 ends_writes due old new (Err Memory) ends = let same : new.faults ≡ old.faults = ap (λ s. s.faults) ends in omega (arith, same)
 
 behind_writes : (found : Result (Vec ℕ Global) FileRefusal) (old new : SinkState) (result : Result Status Trouble) → EndsBehind found old new result → old.faults ≤ new.faults
-behind_writes (Ok bytes) old new result ends = ends_writes (shown bytes.items) old new result ends
+behind_writes (Ok bytes) old new result ends = ends_writes (due_of_bytes bytes.items) old new result ends
 behind_writes (Err Absent) old new result ends = ends_writes (Err ReadFault) old new result ends.ends
 behind_writes (Err Failed) old new result ends = ends_writes (Err ReadFault) old new result ends.ends
 behind_writes (Err TooLong) old new result ends = ends_writes (Err (NoSnapshot SnapRefusal.TooLong)) old new result ends.ends

@@ -7,10 +7,10 @@ use Rattle.outside.specs.declared.FileRefusal.TheVariants.{Absent, Failed, TooLo
 use Rattle.outside.specs.Outside.{FilesState, SinkState, ReadTells, ReadLeaves, after_taking, BreaksOff}
 use Rattle.snapshot_form.specs.Snapshots.{most_snapshot_bytes}
 use Rattle.snapshot_form.specs.declared.refusal.SnapRefusal.{SnapRefusal}
-use Rattle.show_cli.specs.Showing.{Due, shown, bytes_due, status_due}
+use Rattle.show_cli.specs.Showing.{Due, due_of_bytes, bytes_due, status_due}
 use Rattle.outside.specs.declared.trouble.Trouble.{Trouble}
 use Rattle.outside.specs.declared.trouble.Trouble.TheVariants.{Write, Memory}
-use Rattle.outside.specs.Endings.{settled}
+use Rattle.outside.specs.Endings.{status_of_end}
 use Rattle.show_cli.specs.declared.refusal.ShowRefusal.{ShowRefusal}
 use Rattle.show_cli.specs.declared.refusal.ShowRefusal.TheVariants.{NoCommand, ReadFault, NoSnapshot}
 
@@ -28,7 +28,7 @@ pub record Refuses (refusal : ShowRefusal) (old new : SinkState) (result : Resul
 
 -- what is owed to what a read found
 abbrev pub EndsBehind : Result (Vec ℕ Global) FileRefusal → SinkState → SinkState → Result Status Trouble → Type 0
-EndsBehind (Ok bytes) old new result = Ends (shown bytes.items) old new result
+EndsBehind (Ok bytes) old new result = Ends (due_of_bytes bytes.items) old new result
 EndsBehind (Err Absent) old new result = Refuses ReadFault old new result
 EndsBehind (Err Failed) old new result = Refuses ReadFault old new result
 EndsBehind (Err TooLong) old new result = Refuses (NoSnapshot SnapRefusal.TooLong) old new result
@@ -51,13 +51,13 @@ pub record Headline (name : Option (List ℕ)) (files read : FilesState) (old ne
   -- how it ended
   pub result : Result Status Trouble
   pub shows : Shows name files read old new result
-  pub status : answer ≡ settled result
+  pub status : answer ≡ status_of_end result
 
 -- what is due was answered, however it ended
 pub record Answers (due : Due) (old new : SinkState) (answer : Status) : Type 0 where
   pub result : Result Status Trouble
   pub ends : Ends due old new result
-  pub status : answer ≡ settled result
+  pub status : answer ≡ status_of_end result
 
 -- the file may be asked for
 abbrev pub MayAsk : Option (List ℕ) → FilesState → Type 0

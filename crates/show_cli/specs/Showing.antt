@@ -33,13 +33,13 @@ read_shown (Ok s) = Ok (snapshot_text s)
 read_shown (Err refusal) = Err (NoSnapshot refusal)
 
 -- what is due for a file of these bytes
-unfoldable pub shown : List ℕ → Due
-shown bytes = read_shown (snapshot_read bytes)
+unfoldable pub due_of_bytes : List ℕ → Due
+due_of_bytes bytes = read_shown (snapshot_read bytes)
 
 -- what is due for a name that holds this
 abbrev pub held_shown : Option (List ℕ) → Due
 held_shown None = Err ReadFault
-held_shown (Some bytes) = shown bytes
+held_shown (Some bytes) = due_of_bytes bytes
 
 -- a snapshot's refusal by its number
 unfoldable pub no_snapshot_line : SnapRefusal → List ℕ

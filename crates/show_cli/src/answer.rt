@@ -82,10 +82,10 @@ fn show_file<F: Files, O: Sink>(
     }
 }
 
-#[tactic(auto, unfolding(crate::specs::Showing::shown))]
+#[tactic(auto, unfolding(crate::specs::Showing::due_of_bytes))]
 fn show_bytes<O: Sink>(alloc: Global, bytes: &[u8], out: &mut O) -> Result<Status, Trouble>
     requires sink { MayWrite (O.state out.old) }
-    ensures { Ends (spec.shown bytes.now) (O.state out.old) (O.state out.new) result }
+    ensures { Ends (spec.due_of_bytes bytes.now) (O.state out.old) (O.state out.new) result }
 {
     match read(alloc, bytes) {
         Ok(snapshot) => print(alloc, &snapshot, out),

@@ -15,7 +15,7 @@ use Rattle.reference.specs.States.{State, has_number}
 use Rattle.script.specs.AutoScripts.{events_of_text, first_refused}
 use Rattle.command_words.specs.Commands.{RunSplit, has_dash, shape_split, split_words}
 use Rattle.command_words.specs.declared.command.DiskKind.{DiskKind}
-use Rattle.secvisor_cli.specs.CommandLine.{RunWords, Source, Rounds, Auto, Text, judged, run_words, source_of, split_judged, unless_none}
+use Rattle.secvisor_cli.specs.CommandLine.{RunWords, Source, Rounds, Auto, Text, judgement_of_words, run_words, source_of, split_judged, unless_none}
 use Rattle.secvisor_cli.specs.DueIn.{due_in}
 use Rattle.secvisor_cli.specs.Plans.{Due, Refuse, RunFrom, Make, Plan, Found, Faulty, Missing, Longer, Held, boot_judged, boot_plan, command_plan, disk_part, disk_refusal, found_plan, image_measure, image_plan, kernel_part, part_judged, plan_of, policy_judged, policy_part, run_plan, script_part, start_with, text_part}
 use Rattle.secvisor_cli.specs.declared.file_fault.FileFault.{FileFault}
@@ -161,5 +161,5 @@ line_by held line save false start events kept good any due =
     words_by held line save (source_of line.script) (number_within 0 most_events line.events) start events kept (undashed line none) due
 
 pub snap_accepted : (held : List ℕ → Option (List ℕ)) (line : SnapLine) (start : State) (events : List Event) → has_dash line.out ≡ false → IsAccepted held line start events → SnapAccepted held line start events
-unfolding judged split_words
+unfolding judgement_of_words split_words
 snap_accepted held line start events good it = line_by held line it.save (list_any has_dash (run_line line it.save)) start events it.kept good refl it.due

@@ -7,7 +7,7 @@ use Rattle.reference.specs.Run.{run}
 use Rattle.reference.specs.States.{State}
 use Rattle.outside.specs.Outside.{FilesState, SinkState}
 use Rattle.secvisor_cli.specs.Answers.{Outside, outside, Writes}
-use Rattle.outside.specs.Endings.{settled}
+use Rattle.outside.specs.Endings.{status_of_end}
 use Rattle.secvisor_cli.specs.Plans.{Due, Refuse, RunFrom, Make, Plan}
 use Rattle.secvisor_cli.specs.Reading.{Follows}
 use Rattle.secvisor_cli.specs.declared.refusal.Refusal.{Refusal}
@@ -17,7 +17,7 @@ use Rattle.secvisor_cli.proofs.PlanLemmas.{HasFault, HasFoundFaults, follows_kee
 use Rattle.secvisor_cli.proofs.SaveLemmas.{changes, ChangesOut, changes_none, writes_faults}
 use Rattle.secvisor_cli.proofs.TopLemmas.{run_found_faults, EffectOut, effect_out, refused_fault}
 use Rattle.secvisor_cli.proofs.WordLemmas.{NoReadFault}
-use Rattle.snap_cli.specs.SnapAnswers.{spelled, SavesMade, SavesSnapshot, RunsSnap, AnswersSnapReached, PerformsSnap}
+use Rattle.snap_cli.specs.SnapAnswers.{saving_of, SavesMade, SavesSnapshot, RunsSnap, AnswersSnapReached, PerformsSnap}
 use Rattle.snap_cli.specs.SnapWords.{SnapWords, snap_judged, snap_plan, out_of}
 use Rattle.snap_cli.proofs.WordLemmas.{snap_no_read_fault}
 
@@ -36,7 +36,7 @@ snap_writes words old new result p = reached_writes (out_of words) p.reached (ou
 
 made_changes : (start : State) (events : List Event) (name : List ℕ) (old new : FilesState) (status : Status) (saved : Result Status Trouble) → SavesMade start events name old new status saved → ChangesOut name old new
 made_changes start events name old new status saved (inl it) = changes_none name old new it.1
-made_changes start events name old new status saved (inr it) = record { bytes = _; changes = changes (Some (spelled name it.0)) old new (Ok status) saved it.2 }
+made_changes start events name old new status saved (inr it) = record { bytes = _; changes = changes (Some (saving_of name it.0)) old new (Ok status) saved it.2 }
 
 saves_changes : (start : State) (events : List Event) (name : List ℕ) (old new : FilesState) (written saved : Result Status Trouble) → SavesSnapshot start events name old new written saved → ChangesOut name old new
 saves_changes start events name old new (Err trouble) saved it = changes_none name old new it.1
@@ -84,13 +84,13 @@ saves_no_fault : (start : State) (events : List Event) (name : List ℕ) (f0 f1 
 saves_no_fault start events name f0 f1 old new (Err trouble) answer w it = λ fault. cc it.0
 saves_no_fault start events name f0 f1 old new (Ok status) answer w it = made_no_fault start events name f0 f1 status answer w.status it
 
-run_no_fault : (start : State) (events : List Event) (name : List ℕ) (old new : Outside) (result : Result Status Trouble) → RunsSnap start events name old new result → settled result ≢ Status.ReadFault
+run_no_fault : (start : State) (events : List Event) (name : List ℕ) (old new : Outside) (result : Result Status Trouble) → RunsSnap start events name old new result → status_of_end result ≢ Status.ReadFault
 run_no_fault start events name old new (Ok answer) r = saves_no_fault start events name old.files new.files old.sink new.sink r.2.written answer r.2.writes r.2.saves
 run_no_fault start events name old new (Err Write) r = λ is. cc is
 run_no_fault start events name old new (Err Memory) r = λ is. cc is
 
 reached_fault : (plan : Plan) (name : List ℕ) (reached : Option Due) (old new : Outside) (read : FilesState) (result : Result Status Trouble) → HasFoundFaults plan → Follows plan old.files read reached →
-    AnswersSnapReached name reached (outside read old.sink old.bench) new result → settled result ≡ Status.ReadFault → HasFault plan old.files new.files
+    AnswersSnapReached name reached (outside read old.sink old.bench) new result → status_of_end result ≡ Status.ReadFault → HasFault plan old.files new.files
 reached_fault plan name None old new read (Ok answer) never follows a is = absurd (cc a.0)
 reached_fault plan name None old new read (Err Write) never follows a is = absurd (cc is)
 reached_fault plan name None old new read (Err Memory) never follows a is = absurd (cc is)
@@ -99,7 +99,7 @@ reached_fault plan name (Some (RunFrom start events save)) old new read result n
     absurd (run_no_fault start events name (outside read old.sink old.bench) new result a is)
 reached_fault plan name (Some (Make out rules line)) old new read result never follows a is = absurd a
 
-pub snap_fault : (words : List (List ℕ)) (old new : Outside) (result : Result Status Trouble) → PerformsSnap (snap_judged words) old new result → settled result ≡ Status.ReadFault →
+pub snap_fault : (words : List (List ℕ)) (old new : Outside) (result : Result Status Trouble) → PerformsSnap (snap_judged words) old new result → status_of_end result ≡ Status.ReadFault →
     HasFault (snap_plan (snap_judged words)) old.files new.files
 snap_fault words old new result p is =
     reached_fault (snap_plan (snap_judged words)) (out_of (snap_judged words)) p.reached old new p.read result (snap_found_faults (snap_judged words) (snap_no_read_fault words)) p.follows p.answers is

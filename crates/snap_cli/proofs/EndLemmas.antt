@@ -6,7 +6,7 @@ use Rattle.reference.specs.Run.{run}
 use Rattle.reference.specs.States.{State}
 use Rattle.outside.specs.Outside.{FilesState, after_taking}
 use Rattle.secvisor_cli.specs.Answers.{Outside, outside, Writes}
-use Rattle.outside.specs.Endings.{settled}
+use Rattle.outside.specs.Endings.{status_of_end}
 use Rattle.secvisor_cli.specs.DueIn.{due_in, AreReadWhole}
 use Rattle.secvisor_cli.specs.Plans.{Due, RunFrom, Plan}
 use Rattle.secvisor_cli.specs.Reading.{Follows}
@@ -23,26 +23,26 @@ use Rattle.snap_cli.proofs.ClauseLemmas.{reached_changes}
 
 module _ (start : State) (events : List Event) (name : List ℕ) (old new : Outside) where
   -- memory was wanting
-  wanting_ends : (result : Result Status Trouble) → result ≡ Err Memory → SnapEnds start events name old new (settled result)
-  wanting_ends result is = record { ends = inr (inr (ap settled is)); done = λ fine. absurd (cc (sym fine ∙ ap settled is)) }
+  wanting_ends : (result : Result Status Trouble) → result ≡ Err Memory → SnapEnds start events name old new (status_of_end result)
+  wanting_ends result is = record { ends = inr (inr (ap status_of_end is)); done = λ fine. absurd (cc (sym fine ∙ ap status_of_end is)) }
 
   -- a write or the save failed
   fault_ends : (result : Result Status Trouble) → result ≡ Err Write → (old.sink.faults < new.sink.faults) ⊎ (old.files.save_faults < new.files.save_faults) →
-      SnapEnds start events name old new (settled result)
-  fault_ends result is counted = record { ends = inr (inl (ap settled is, counted)); done = λ fine. absurd (cc (sym fine ∙ ap settled is)) }
+      SnapEnds start events name old new (status_of_end result)
+  fault_ends result is counted = record { ends = inr (inl (ap status_of_end is, counted)); done = λ fine. absurd (cc (sym fine ∙ ap status_of_end is)) }
 
   made_ends : (status : Status) (result : Result Status Trouble) → IsTrue old.files.tells → status ≡ Status.Done →
       new.sink ≡ after_taking old.sink (run start events).journal.printed → SavesMade start events name old.files new.files status result →
-      SnapEnds start events name old new (settled result)
+      SnapEnds start events name old new (status_of_end result)
   made_ends status result tells done printed (inl it) = wanting_ends result it.0
   made_ends status result tells done printed (inr (saved, is, inl it)) = record {
-    ends = inl (ap settled it.1 ∙ done);
+    ends = inl (ap status_of_end it.1 ∙ done);
     done = λ fine. record { saved = saved; saved_is = is; held = it.0.held tells ∙ ap Some it.0.content; printed = printed };
   }
   made_ends status result tells done printed (inr (saved, is, inr it)) = fault_ends result it.1 (inr it.0.faults)
 
   written_ends : (written result : Result Status Trouble) → IsTrue old.files.tells → Writes Status.Done (run start events).journal.printed old.sink new.sink written →
-      SavesSnapshot start events name old.files new.files written result → SnapEnds start events name old new (settled result)
+      SavesSnapshot start events name old.files new.files written result → SnapEnds start events name old new (status_of_end result)
   written_ends (Ok status) result tells w it = made_ends status result tells w.status w.whole it
   written_ends (Err Write) result tells w it = fault_ends result it.0 (inl (w.write refl))
   written_ends (Err Memory) result tells w it = wanting_ends result it.0
@@ -56,7 +56,7 @@ snap_behind start events name old read new answer same it = record {
 
 reached_ends : (plan : Plan) (start : State) (events : List Event) (name : List ℕ) (old new : Outside) (read : FilesState) (reached : Option Due) (result : Result Status Trouble) →
     AreReadWhole old.files new.files → due_in old.files.held plan ≡ RunFrom start events None → Follows plan old.files read reached →
-    AnswersSnapReached name reached (outside read old.sink old.bench) new result → SnapEnds start events name old new (settled result)
+    AnswersSnapReached name reached (outside read old.sink old.bench) new result → SnapEnds start events name old new (status_of_end result)
 reached_ends plan start events name old new read None result whole is follows a = wanting_ends start events name old new result a.0
 reached_ends plan start events name old new read (Some due) result whole is follows a =
     let behind : Outside = outside read old.sink old.bench in
@@ -65,7 +65,7 @@ reached_ends plan start events name old new read (Some due) result whole is foll
     let same : due ≡ RunFrom start events None = sym (comes_to_due plan old.files read due whole.tells (sym count ∙ whole.unfailed) follows) ∙ is in
     let ran : RunsSnap start events name behind new result = subst (λ (d : Due). AnswersSnapReached name (Some d) behind new result) same a in
     let tells = subst (λ (b : Bool). IsTrue b) (sym k.tells) whole.tells in
-    snap_behind start events name old read new (settled result) k.saves
+    snap_behind start events name old read new (status_of_end result) k.saves
     (written_ends start events name behind new ran.2.written result tells ran.2.writes ran.2.saves)
 
 headline_ends : (words : SnapWords) (start : State) (events : List Event) (old new : Outside) (answer : Status) → due_in old.files.held (snap_plan (Ok words)) ≡ RunFrom start events None →

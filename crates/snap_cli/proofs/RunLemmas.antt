@@ -15,7 +15,7 @@ use Rattle.machine_model.specs.Machine.{Machine}
 use Rattle.machine_model.specs.Reaches.{IsNew}
 use Rattle.machine_model.specs.StandsFor.{StandsFor, machine_of}
 use Rattle.script.proofs.FirstEvents.{first_few}
-use Rattle.resume_laws.specs.Continues.{drawn_under, drawn}
+use Rattle.resume_laws.specs.Continues.{drawn_under, draw_count}
 use Rattle.snap_laws.proofs.EventsCounted.{counted_law}
 use Rattle.snap_laws.proofs.KindsStay.{kind_law}
 use Rattle.snap_laws.specs.DiskKinds.{is_block_disk}
@@ -153,7 +153,7 @@ none_counted c few = omega (arith, few.turns, few.beats, few.keys, few.ticks)
 
 -- the events that are counted are those that were made
 pub counts_drawn : (first m : Machine) (start : State) (events : List Event) → IsNew first start → CountsAtMost 0 first.journal.counts → StandsFor m (run start events) →
-    events_counted m.journal.counts ≡ drawn start events
+    events_counted m.journal.counts ≡ draw_count start events
 counts_drawn first m start events is_new few stands =
     let none : events_counted start.journal.counts ≡ 0 = sym (counts_are first start is_new.stands) ∙ none_counted first.journal.counts few in
     let all = counted_law start events in
@@ -166,10 +166,10 @@ drawn_few_by Running later n few = omega (arith, few)
 drawn_few_by Shutdown later n few = omega arith
 drawn_few_by (Stopped rule h at) later n few = omega arith
 
-pub drawn_few : (s : State) (events : List Event) → drawn s events ≤ length events
-unfolding drawn
+pub drawn_few : (s : State) (events : List Event) → draw_count s events ≤ length events
+unfolding draw_count
 drawn_few s [] = omega arith
-drawn_few s (e ∷ events) = drawn_few_by s.journal.verdict (drawn (step s e) events) (length events) (drawn_few (step s e) events)
+drawn_few s (e ∷ events) = drawn_few_by s.journal.verdict (draw_count (step s e) events) (length events) (drawn_few (step s e) events)
 
 pub few_counted : (first m : Machine) (start : State) (n : ℕ) (script : Schedule) → IsNew first start → CountsAtMost 0 first.journal.counts → n ≤ most_events → StandsFor m (run start (first_events n script)) →
     events_counted m.journal.counts < 2 ^ 64

@@ -26,7 +26,7 @@ use Rattle.outside.specs.declared.trouble.Trouble.{Trouble}
 use Rattle.outside.specs.declared.trouble.Trouble.TheVariants.{Memory}
 use Rattle.secvisor_cli.proofs.SaveLemmas.{saved_ok, saved_err}
 use Rattle.secvisor_cli.proofs.EndLemmas.{wanting_writes}
-use Rattle.snap_cli.specs.SnapAnswers.{IsSnapshotOf, spelled, SavesMade, StandsAfter, SnapsTo}
+use Rattle.snap_cli.specs.SnapAnswers.{IsSnapshotOf, saving_of, SavesMade, StandsAfter, SnapsTo}
 use Rattle.snap_cli.specs.Spelling.{IsMachineSnapshot, SpellsMachine, SavesMachine}
 use Rattle.snap_cli.proofs.RunLemmas.{stands_all, counts_drawn, new_stands}
 
@@ -76,11 +76,11 @@ module _ (first m : Machine) (start : State) (events : List Event) (name : List 
 
   made_ok : (u : Unit {0}) → WasRun → SavesMachine m text name f0 f1 (Ok u) → SavesMade start events name f0 f1 status (Ok status)
   made_ok u w (inl it) = absurd (cc it.0)
-  made_ok u w (inr it) = inr (it.0, is_snapshot it.0 w it.1, saved_ok (Some (spelled name it.0)) f0 f1 status u it.2)
+  made_ok u w (inr it) = inr (it.0, is_snapshot it.0 w it.1, saved_ok (Some (saving_of name it.0)) f0 f1 status u it.2)
 
   made_err : (trouble : Trouble) → WasRun → SavesMachine m text name f0 f1 (Err trouble) → SavesMade start events name f0 f1 status (Err trouble)
   made_err trouble w (inl it) = inl (cc it.0, it.1)
-  made_err trouble w (inr it) = inr (it.0, is_snapshot it.0 w it.1, saved_err (Some (spelled name it.0)) f0 f1 status trouble it.2)
+  made_err trouble w (inr it) = inr (it.0, is_snapshot it.0 w it.1, saved_err (Some (saving_of name it.0)) f0 f1 status trouble it.2)
 
   pub snaps_ok : (u : Unit {0}) → WasRun → SavesMachine m text name f0 f1 (Ok u) → SnapsTo start events name m f0 f1 old new (Ok status)
   snaps_ok u w it = record { written = Ok status; writes = w.writes; saves = made_ok u w it; stands = w.stands }

@@ -11,12 +11,12 @@ use Rattle.saved_machine.specs.SavedStates.{IsSaved}
 use Rattle.snapshot_form.specs.Snapshots.{contents, snapshot}
 use Rattle.snapshot_form.specs.Typed.{IsTyped}
 use Rattle.snapshot_form.specs.declared.whole.Snapshot.{Snapshot}
-use Rattle.resume_laws.specs.Continues.{drawn}
+use Rattle.resume_laws.specs.Continues.{draw_count}
 use Rattle.resumed_start.specs.TextPages.{digested_text}
 use Rattle.outside.specs.Outside.{FilesState, SinkState, after_taking, TookPrefix}
 use Rattle.console_run.specs.Standing.{Stands}
 use Rattle.secvisor_cli.specs.Answers.{Outside, outside, Writes, SavedBehind, WritesAndSaves}
-use Rattle.outside.specs.Endings.{settled}
+use Rattle.outside.specs.Endings.{status_of_end}
 use Rattle.secvisor_cli.specs.Plans.{Due, Refuse, RunFrom, Make, Saving, Exactly, Plan}
 use Rattle.secvisor_cli.specs.Reading.{Follows}
 use Rattle.secvisor_cli.specs.declared.refusal.Refusal.{Refusal}
@@ -30,19 +30,19 @@ use Rattle.snap_cli.specs.SnapWords.{SnapWords, out_of, snap_plan}
 -- numbers are words, a hart's registers 32 and a digest 32 bytes
 pub record IsSnapshotOf (start : State) (events : List Event) (s : Snapshot) : Type 0 where
   pub state : IsSaved (run start events) s.«machine»
-  pub made : s.events ≡ drawn start events
+  pub made : s.events ≡ draw_count start events
   pub text : s.text.items ≡ digested_text start
   pub typed : IsTyped (contents s)
 
 -- exactly its spelling, under a name
-abbrev pub spelled : (name : List ℕ) → Snapshot → Saving
-spelled name s = record { name = name; content = Exactly (snapshot.spell (contents s)) }
+abbrev pub saving_of : (name : List ℕ) → Snapshot → Saving
+saving_of name s = record { name = name; content = Exactly (snapshot.spell (contents s)) }
 
 -- memory was wanting for it, and nothing was saved; or it was saved, or its save failed
 abbrev pub SavesMade : State → List Event → (name : List ℕ) → FilesState → FilesState → Status → (saved : Result Status Trouble) → Type 0
 SavesMade start events name old new status saved =
     ((saved ≡ Err Memory) × (new ≡ old))
-    ⊎ ((s : Snapshot) × IsSnapshotOf start events s × SavedBehind (Some (spelled name s)) old new (Ok status) saved)
+    ⊎ ((s : Snapshot) × IsSnapshotOf start events s × SavedBehind (Some (saving_of name s)) old new (Ok status) saved)
 
 -- It is saved behind what was to be written. Nothing is saved after a write that failed, or where memory was wanting.
 abbrev pub SavesSnapshot : State → List Event → (name : List ℕ) → FilesState → FilesState → (written saved : Result Status Trouble) → Type 0
@@ -106,4 +106,4 @@ pub record SnapHeadline (words : Result SnapWords Refusal) (old new : Outside) (
   -- how the answer ended
   pub result : Result Status Trouble
   pub performs : PerformsSnap words old new result
-  pub status : answer ≡ settled result
+  pub status : answer ≡ status_of_end result

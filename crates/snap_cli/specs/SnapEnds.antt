@@ -9,7 +9,7 @@ use Rattle.snapshot_form.specs.declared.whole.Snapshot.{Snapshot}
 use Rattle.command_words.specs.Commands.{has_dash}
 use Rattle.outside.specs.Outside.{after_taking}
 use Rattle.secvisor_cli.specs.Answers.{Outside}
-use Rattle.secvisor_cli.specs.CommandLine.{judged}
+use Rattle.secvisor_cli.specs.CommandLine.{judgement_of_words}
 use Rattle.secvisor_cli.specs.DueIn.{due_in, AreReadWhole, EndsAs}
 use Rattle.secvisor_cli.specs.Plans.{RunFrom, plan_of}
 use Rattle.snap_cli.specs.SnapAnswers.{IsSnapshotOf, SnapHeadline}
@@ -38,7 +38,7 @@ pub record IsAccepted (held : List ℕ → Option (List ℕ)) (line : SnapLine) 
   pub save : List ℕ
   -- where the disk would be saved
   pub kept : Option (List ℕ)
-  pub due : due_in held (plan_of (judged (run_line line save))) ≡ RunFrom start events kept
+  pub due : due_in held (plan_of (judgement_of_words (run_line line save))) ≡ RunFrom start events kept
 
 -- ---- how it ends
 

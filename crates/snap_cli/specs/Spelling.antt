@@ -13,7 +13,7 @@ use Rattle.outside.specs.Outside.{FilesState}
 use Rattle.secvisor_cli.specs.Answers.{AfterSave}
 use Rattle.outside.specs.declared.trouble.Trouble.{Trouble}
 use Rattle.outside.specs.declared.trouble.Trouble.TheVariants.{Memory}
-use Rattle.snap_cli.specs.SnapAnswers.{spelled}
+use Rattle.snap_cli.specs.SnapAnswers.{saving_of}
 
 -- a snapshot of what a machine is now, with this text
 pub record IsMachineSnapshot (m : Machine) (text : List TextPage) (s : Snapshot) : Type 0 where
@@ -31,4 +31,4 @@ pub record SpellsMachine (m : Machine) (text : List TextPage) (bytes : List ℕ)
 abbrev pub SavesMachine : Machine → List TextPage → (name : List ℕ) → FilesState → FilesState → Result (Unit {0}) Trouble → Type 0
 SavesMachine m text name old new result =
     (IsErrOf result Memory × (new ≡ old))
-    ⊎ ((s : Snapshot) × IsMachineSnapshot m text s × AfterSave (Some (spelled name s)) old new result)
+    ⊎ ((s : Snapshot) × IsMachineSnapshot m text s × AfterSave (Some (saving_of name s)) old new result)

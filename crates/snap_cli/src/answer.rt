@@ -2,7 +2,7 @@
 ghost use Rattle.std.specs.Prelude.{◌≡◌, ◌≢◌, ◌<◌, ◌≤◌, ◌-◌, ◌^◌, ◌⊎◌, ℕ, List, [], map, string_bytes, false, IsTrue, None};
 ghost use Rattle.std.specs.Result.{is_ok};
 ghost use Rattle.sv_types.specs.Limits.{most_events};
-ghost use Rattle.command_words.specs.declared.command.DiskKind.{DiskKind as Kind};
+ghost use Rattle.command_words.specs.declared.command.DiskKind.{DiskKind};
 ghost use Rattle.reference.specs.Counting.{CountsAtMost};
 ghost use Rattle.reference.specs.Run.{run};
 ghost use Rattle.reference.specs.States.{State};
@@ -108,7 +108,7 @@ fn answer_snap<R: Threads + Sync, F: Files, O: Sink>(
 ) -> Result<Status, Trouble>
     requires permitted { MayFollow (run_plan (run_value snap.now.run)) (F.state files.old) }
     requires snapshot { MaySaveUnder snap.now.out.now (F.state files.old) }
-    requires kind { snap.now.run.kind ≡ Kind.Block }
+    requires kind { snap.now.run.kind ≡ DiskKind.Block }
     requires events { snap.now.run.events ≤ most_events }
     requires sink { MayWrite (O.state out.old) }
     requires reads { (F.state files.old).read_faults < 2 ^ 64 - 1 }

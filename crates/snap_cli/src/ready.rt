@@ -1,7 +1,7 @@
 // What is ready of `snap`.
 ghost use Rattle.std.specs.Prelude.{◌≡◌, ◌<◌, ◌≤◌, ◌-◌, ◌^◌};
 ghost use Rattle.sv_types.specs.Limits.{most_events};
-ghost use Rattle.command_words.specs.declared.command.DiskKind.{DiskKind as Kind};
+ghost use Rattle.command_words.specs.declared.command.DiskKind.{DiskKind};
 ghost use Rattle.secvisor_cli.specs.Plans.{run_plan};
 ghost use Rattle.secvisor_cli.specs.Reading.{MayFollow};
 ghost use Rattle.secvisor_cli.specs.Words.{run_value};
@@ -21,7 +21,7 @@ pub fn prepare_snap<'a, R: Threads + Sync, F: Files>(
 ) -> Result<Booted<'a>, Stop>
     requires permitted { MayFollow (run_plan (run_value asked.now)) (F.state files.old) }
     requires reads { (F.state files.old).read_faults < 2 ^ 64 - 1 }
-    requires kind { asked.now.kind ≡ Kind.Block }
+    requires kind { asked.now.kind ≡ DiskKind.Block }
     requires events { asked.now.events ≤ most_events }
     ensures { Boots (run_plan (run_value asked.now)) (F.state files.old) (F.state files.new) result }
 {

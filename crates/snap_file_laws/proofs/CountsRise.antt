@@ -8,7 +8,7 @@ use Rattle.reference.specs.Counting.{CountsAtMost}
 use Rattle.reference.specs.Run.{step, run, HasEnded}
 use Rattle.reference.specs.States.{State}
 use Rattle.reference.proofs.Runs.{ended_stays}
-use Rattle.resume_laws.specs.Continues.{drawn_under, drawn}
+use Rattle.resume_laws.specs.Continues.{drawn_under, draw_count}
 use Rattle.run_laws.proofs.StepsGrow.{grows_law}
 use Rattle.machine.proofs.Repeated.{risen}
 use Rattle.snap_file_laws.specs.CountRuns.{CountsLaw}
@@ -34,6 +34,6 @@ under_within Shutdown r e events n later is most rest = ended_within r e events 
 under_within (Stopped rule h at) r e events n later is most rest = ended_within r e events n (subst HasEnded (sym is) tt) most
 
 pub counts_law : CountsLaw
-unfolding drawn
+unfolding draw_count
 counts_law s [] n most = subst (λ (m : ℕ). Within m s) (sym (add-zero n)) most
-counts_law s (e ∷ events) n most = under_within s.journal.verdict s e events n (drawn (step s e) events) refl most (counts_law (step s e) events (n + 1))
+counts_law s (e ∷ events) n most = under_within s.journal.verdict s e events n (draw_count (step s e) events) refl most (counts_law (step s e) events (n + 1))

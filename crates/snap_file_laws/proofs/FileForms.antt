@@ -8,7 +8,7 @@ use Rattle.sv_types.specs.declared.block.BlockState.{BlockState}
 use Rattle.sv_types.specs.declared.block.BlockStatus.{BlockStatus}
 use Rattle.sv_types.specs.declared.port.PortState.{PortState}
 use Rattle.reference.specs.BlockDisk.{is_under_way}
-use Rattle.snapshot_form.specs.DeviceForms.{block, block_in, standing, transfer, port, disk, holds_transfer}
+use Rattle.snapshot_form.specs.DeviceForms.{block, block_in, standing_status, transfer, port, disk, holds_transfer}
 use Rattle.snapshot_form.specs.Forms.{is_word}
 use Rattle.resume_laws.proofs.FormParts.{small_word}
 use Rattle.snap_file_laws.proofs.BlockStays.{block_by}
@@ -51,7 +51,7 @@ transfer_in n b done small on =
 
 still_has : (n sector gpa count : ℕ) (status : BlockStatus) → HasNumbers (block_by sector gpa count status) → Transfers status (block_by sector gpa count status) n
     → count < 2 ^ 32 → block.has (block_by sector gpa count status) ≡ true
-unfolding block standing transfer
+unfolding block standing_status transfer
 still_has n sector gpa count BlockStatus.Idle is on small = rw (is.sector, is.gpa, is.count, is.few) refl
 still_has n sector gpa count (BlockStatus.Busy BlockCommand.DiskToMemory done) is on small =
     let t = transfer_in n (block_by sector gpa count (BlockStatus.Busy BlockCommand.DiskToMemory done)) done small on in

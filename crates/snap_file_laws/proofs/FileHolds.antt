@@ -15,7 +15,7 @@ use Rattle.saved_machine.specs.SavedStates.{IsSaved}
 use Rattle.script.proofs.FirstEvents.{first_few}
 use Rattle.snapshot_form.specs.Snapshots.{contents}
 use Rattle.snapshot_form.specs.declared.whole.Snapshot.{Snapshot}
-use Rattle.resume_laws.specs.Continues.{drawn}
+use Rattle.resume_laws.specs.Continues.{draw_count}
 use Rattle.resume_laws.specs.SavedForm.{HasBlock, IsCounted}
 use Rattle.resumed_start.specs.SnapLaws.{IsSnapAfter}
 use Rattle.resumed_start.proofs.SnapHolds.{snap_read_law}
@@ -45,7 +45,7 @@ counted_in : (first : State) (events : List Event) (k : ℕ) (s : Snapshot) → 
 counted_in first events k s none length_few few snap =
     let made = drawn_few first events in
     let all =
-    subst (λ (n : ℕ). CountsAtMost n (run first events).journal.counts) (zero-add (drawn first events)) (counts_law first events 0 none) in
+    subst (λ (n : ℕ). CountsAtMost n (run first events).journal.counts) (zero-add (draw_count first events)) (counts_law first events 0 none) in
     record {
       few = subst (λ (n : ℕ). n ≤ 2 ^ 32) (sym snap.made) (omega (arith, made, length_few, few));
       counts =

@@ -4,7 +4,7 @@ use Rattle.sv_types.specs.declared.event.Event.{Event}
 use Rattle.reference.specs.Counting.{CountsAtMost}
 use Rattle.reference.specs.Run.{run}
 use Rattle.reference.specs.States.{State}
-use Rattle.resume_laws.specs.Continues.{drawn}
+use Rattle.resume_laws.specs.Continues.{draw_count}
 
 abbrev pub CountsLaw : Type 0
-CountsLaw = (s : State) (events : List Event) (n : ℕ) → CountsAtMost n s.journal.counts → CountsAtMost (n + drawn s events) (run s events).journal.counts
+CountsLaw = (s : State) (events : List Event) (n : ℕ) → CountsAtMost n s.journal.counts → CountsAtMost (n + draw_count s events) (run s events).journal.counts

@@ -16,12 +16,12 @@ use Rattle.processor.specs.declared.instruction.Instr.{Instr}
 use Rattle.processor.specs.declared.interrupt.Interrupt.{Interrupt}
 use Rattle.processor.specs.declared.mode.Mode.{Mode}
 use Rattle.processor.specs.declared.mode.Mode.TheVariants.{Kernel, User}
-use Rattle.sv_types.specs.Console.{stored, loaded, after_load}
+use Rattle.sv_types.specs.Console.{stored_byte, console_load, after_load}
 use Rattle.sv_types.specs.declared.event.Event.{Event}
 use Rattle.sv_types.specs.declared.event.Event.TheVariants.{Turn, Beat, Key, Tick}
 use Rattle.sv_types.specs.declared.event.Verdict.{Verdict}
 use Rattle.sv_types.specs.declared.event.Verdict.TheVariants.{Running, Shutdown, Stopped}
-use Rattle.reference.specs.Answers.{devices_beside, answered, call}
+use Rattle.reference.specs.Answers.{devices_beside, state_after_answer, call}
 use Rattle.reference.specs.Calls.{asked_by, facts_of}
 use Rattle.reference.specs.Counting.{count, count_turn, count_beat, count_key, count_tick, printed_low}
 use Rattle.reference.specs.Devices.{DeviceLoad, DeviceStore, Port, ConsoleAt, DiskAt, Nowhere, device_load_of, port_at, port_load, port_store, device_load, device_store, lines_at, with_disk, with_bytes, after_move, beat, key, tick}
@@ -75,7 +75,7 @@ console_load_same d after (Some value) same = same
 
 port_load_same : (d : Devices) (port : Port) (width : ℕ) → LoadSame d (port_load d port width)
 unfolding port_load
-port_load_same d (ConsoleAt offset) width = console_load_same d (record d { console = after_load d.console offset width }) (loaded d.console offset width) same_disk
+port_load_same d (ConsoleAt offset) width = console_load_same d (record d { console = after_load d.console offset width }) (console_load d.console offset width) same_disk
 port_load_same d (DiskAt offset) width = console_load_same d d (disk_load d.disk offset width) same_disk
 port_load_same d Nowhere width = tt
 
@@ -125,7 +125,7 @@ with_disk_same d j (Some disk) same = same
 
 port_store_same : (d : Devices) (j : Journal) (port : Port) (width value : ℕ) → StoreSame d (port_store d j port width value)
 unfolding port_store
-port_store_same d j (ConsoleAt offset) width value = console_store_same d j (stored offset width value)
+port_store_same d j (ConsoleAt offset) width value = console_store_same d j (stored_byte offset width value)
 port_store_same d j (DiskAt offset) width value = with_disk_same d j (disk_store d.disk offset width value) (stored_same d.disk offset width value _ refl)
 port_store_same d j Nowhere width value = tt
 
@@ -179,8 +179,8 @@ beside_same (StartsHart other pc opaque) h d = same_disk
 beside_same TakesInput h d = same_disk
 beside_same _ h d = same_disk
 
-answered_same : (r : State) (h : ℕ) (hart : Hart) (a : Answer) → Same r (answered r h hart a)
-unfolding answered
+answered_same : (r : State) (h : ℕ) (hart : Hart) (a : Answer) → Same r (state_after_answer r h hart a)
+unfolding state_after_answer
 answered_same r h hart a = beside_same a.beside h r.devices
 
 call_same : (r : State) (h : ℕ) (hart : Hart) → Same r (call r h hart)

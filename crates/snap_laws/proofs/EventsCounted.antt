@@ -5,7 +5,7 @@ use Rattle.sv_types.specs.declared.event.Event.{Event}
 use Rattle.sv_types.specs.declared.event.Event.TheVariants.{Turn, Beat, Key, Tick}
 use Rattle.sv_types.specs.declared.event.Verdict.{Verdict}
 use Rattle.sv_types.specs.declared.event.Verdict.TheVariants.{Running, Shutdown, Stopped}
-use Rattle.reference.specs.Counting.{counted, count, count_turn, count_beat, count_key, count_tick, count_dropped}
+use Rattle.reference.specs.Counting.{with_count, count, count_turn, count_beat, count_key, count_tick, count_dropped}
 use Rattle.reference.specs.Devices.{with_disk, with_bytes, after_move, beat, key, tick}
 use Rattle.reference.specs.Disk.{Beaten, disk_beat}
 use Rattle.reference.specs.Move.{Move, Idle, FromRam, IntoRam, DeniedAt, OutsideRam}
@@ -13,7 +13,7 @@ use Rattle.reference.specs.Run.{happen, happen_under, step, run, HasEnded}
 use Rattle.reference.specs.States.{State, Journal, is_protected}
 use Rattle.reference.specs.Turn.{turn}
 use Rattle.reference.proofs.Runs.{ended_stays}
-use Rattle.resume_laws.specs.Continues.{drawn_under, drawn}
+use Rattle.resume_laws.specs.Continues.{drawn_under, draw_count}
 use Rattle.run_laws.proofs.Growth.{Rises}
 use Rattle.run_laws.proofs.StepsGrow.{turn_gains}
 use Rattle.snap_laws.specs.EventCounts.{events_counted, CountedLaw}
@@ -37,7 +37,7 @@ beat_none r =
     let b : Beaten = disk_beat r.devices.disk r.ram (λ page. not (is_protected r page)) in
     move_none (with_disk r b.disk) b.move
 
-room_none : (j : Journal) (room : Bool) → events_counted (if room then j else counted count_dropped j).counts ≡ events_counted j.counts
+room_none : (j : Journal) (room : Bool) → events_counted (if room then j else with_count count_dropped j).counts ≡ events_counted j.counts
 room_none j true = refl
 room_none j false = refl
 
@@ -86,6 +86,6 @@ under_counted Shutdown r e events later is rest = ended_none r e events (subst H
 under_counted (Stopped rule h at) r e events later is rest = ended_none r e events (subst HasEnded (sym is) tt)
 
 pub counted_law : CountedLaw
-unfolding drawn
+unfolding draw_count
 counted_law s [] = let same : counted_in s ≡ counted_in s + 0 = omega arith in same
-counted_law s (e ∷ events) = under_counted s.journal.verdict s e events (drawn (step s e) events) refl (counted_law (step s e) events)
+counted_law s (e ∷ events) = under_counted s.journal.verdict s e events (draw_count (step s e) events) refl (counted_law (step s e) events)

@@ -4,7 +4,7 @@ use Rattle.sv_types.specs.declared.event.Counts.{Counts}
 use Rattle.sv_types.specs.declared.event.Event.{Event}
 use Rattle.reference.specs.Run.{run}
 use Rattle.reference.specs.States.{State}
-use Rattle.resume_laws.specs.Continues.{drawn}
+use Rattle.resume_laws.specs.Continues.{draw_count}
 
 -- turns, beats, keys and ticks
 abbrev pub events_counted : Counts → ℕ
@@ -12,4 +12,4 @@ events_counted c = c.turns + (c.beats + (c.keys + c.ticks))
 
 -- they rise by the events that are made while the machine runs
 abbrev pub CountedLaw : Type 0
-CountedLaw = (s : State) (events : List Event) → events_counted (run s events).journal.counts ≡ events_counted s.journal.counts + drawn s events
+CountedLaw = (s : State) (events : List Event) → events_counted (run s events).journal.counts ≡ events_counted s.journal.counts + draw_count s events

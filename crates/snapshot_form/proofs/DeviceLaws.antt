@@ -8,7 +8,7 @@ use Rattle.sv_types.specs.declared.block.BlockStatus.{BlockStatus}
 use Rattle.sv_types.specs.declared.block.BlockState.{BlockState}
 use Rattle.reference.specs.BlockDisk.{beat_size}
 use Rattle.sv_types.specs.declared.port.PortState.{PortState}
-use Rattle.snapshot_form.specs.DeviceForms.{console, busy, goes_with, beats_of, has_beats, StatusParts, transfer, status_of, status_parts, standing, block_of, block_parts, sectors, block, holds_transfer, disk, devices, is_block, block_in, port}
+use Rattle.snapshot_form.specs.DeviceForms.{console, busy, goes_with, beats_of, has_beats, StatusParts, transfer, status_of, status_parts, standing_status, block_of, block_parts, sectors, block, holds_transfer, disk, devices, is_block, block_in, port}
 use Rattle.snapshot_form.specs.FormLaw.{IsForm}
 use Rattle.snapshot_form.specs.Forms.{is_word, number, within, and_then, always}
 use Rattle.snapshot_form.specs.JournalForms.{count}
@@ -73,8 +73,8 @@ standing_again gpa count x h =
     let beats = second_true (is_word x.1.0 && goes_with gpa count x.0 x.1.0) _ behind in
     parts_again gpa count x.0 x.1.0 x.1.1 (x.1.0 == busy) refl (second_true (is_word x.0) _ few) (second_true (is_word x.1.0) _ goes) (second_true (is_word x.1.1) _ beats)
 
-pub standing_is : (gpa count : ℕ) → IsForm (standing gpa count)
-unfolding standing
+pub standing_is : (gpa count : ℕ) → IsForm (standing_status gpa count)
+unfolding standing_status
 standing_is gpa count =
     made_is status_of status_parts always (transfer gpa count) (transfer_is gpa count)
     (record { back = λ status p h. status_back status; again = λ x h. standing_again gpa count x h; stays = λ x h. refl })
@@ -86,7 +86,7 @@ unfolding block
 block_is =
     made_is block_of block_parts always _
     (pair_is _ _ number_is (and_then_is number _ number_is (λ gpa h.
-    and_then_is sectors (standing gpa) (numbers_are (λ n. nat_lt n (2 ^ 32))) (λ count h. standing_is gpa count))))
+    and_then_is sectors (standing_status gpa) (numbers_are (λ n. nat_lt n (2 ^ 32))) (λ count h. standing_is gpa count))))
     (record { back = λ b p h. refl; again = λ x h. refl; stays = λ x h. refl })
 
 pub disk_is : (b : BlockState) → IsForm (disk b)

@@ -9,7 +9,7 @@ use Rattle.snapshot_form.specs.declared.refusal.SnapRefusal.{SnapRefusal}
 use Rattle.snapshot_form.specs.declared.refusal.SnapRefusal.TheVariants.{OtherLength, OutOfRange}
 use Rattle.snapshot_form.specs.FormLaw.{IsBytes, IsForm}
 use Rattle.sv_types.specs.Steps.{◌>>=◌}
-use Rattle.snapshot_form.specs.Forms.{Form, spell_number, number_at, is_word, number, byte_at, byte, bytes_at, plain, nothing, judged, within, paired, and_then, ◌⨾◌, renamed, made, always, spell_all, has_all, put_first, all_taken, listed, counted, measured}
+use Rattle.snapshot_form.specs.Forms.{Form, spell_number, number_at, is_word, number, byte_at, byte, bytes_at, plain, nothing, if_in_range, within, pair_with, and_then, ◌⨾◌, map_value, map_form, always, spell_all, has_all, put_first, all_taken, list_form, counted_list, counted_bytes}
 pub use Rattle.sv_types.proofs.TruthValues.{and_first as first_true, and_second as second_true}
 pub use Rattle.std.proofs.lemmas.Bool.{and_from as both_true}
 
@@ -34,10 +34,10 @@ pub bind_ok : {A B : Type 0} (r : Result A SnapRefusal) (f : A → Result B Snap
 bind_ok (Ok x) f y e = (x, refl, e)
 bind_ok (Err d) f y e = absurd cc
 
-abbrev done : {A : Type 0} → A → Result A SnapRefusal
-done x = Ok x
+abbrev taken_value : {A : Type 0} → A → Result A SnapRefusal
+taken_value x = Ok x
 
-pub ok_is : {A : Type 0} (x y : A) → done x ≡ done y → x ≡ y
+pub ok_is : {A : Type 0} (x y : A) → taken_value x ≡ taken_value y → x ≡ y
 ok_is x y e = cc
 
 -- a test that let a value pass, or the refusal
@@ -123,7 +123,7 @@ byte_is = record { again = λ n rest h. refl; only = λ bytes n rest fits e. byt
 
 pub nothing_is : {A : Type 0} (value : A) (is : A → Bool) → ((a : A) → is a ≡ true → value ≡ a) → is value ≡ true → IsForm (nothing value is)
 nothing_is {A = A} value is back stays = record {
-  again = λ a rest h. ap (λ (b : A). done (b, rest)) (back a h);
+  again = λ a rest h. ap (λ (b : A). taken_value (b, rest)) (back a h);
   only = λ bytes a rest fits e. subst (λ (y : A × List ℕ). (bytes ≡ y.1) × (is y.0 ≡ true)) (ok_is (value, bytes) (a, rest) e) (refl, stays);
 }
 
@@ -133,7 +133,7 @@ pub within_is : {A : Type 0} (good : A → Bool) (f : Form A) → IsForm f → I
 within_is {A = A} good f F = record {
   again = λ a rest h. rw (F.again a rest (first_true (f.has a) (good a) h), second_true (f.has a) (good a) h) refl;
   only = λ bytes a rest fits e.
-      let b = bind_ok (f.taken bytes) (judged good) (a, rest) e in
+      let b = bind_ok (f.taken bytes) (if_in_range good) (a, rest) e in
       let g = passed (good b.0.0) OutOfRange b.0 (a, rest) b.2 in
       let p = F.only bytes b.0.0 b.0.1 fits b.1 in
       subst (λ (y : A × List ℕ). (bytes ≡ f.spell y.0 ++ y.1) × ((f.has y.0 && good y.0) ≡ true)) g.1 (p.0, both_true _ _ p.1 g.0);
@@ -149,9 +149,9 @@ and_then_is {A = A} {B = B} f g F G = record {
       ap (and_then f g).taken (append_assoc (f.spell x.0) ((g x.0).spell x.1) rest)
       ∙ rw (F.again x.0 ((g x.0).spell x.1 ++ rest) one, (G x.0 one).again x.1 rest two) refl;
   only = λ bytes x rest fits e.
-      let a = bind_ok (f.taken bytes) (λ a. (g a.0).taken a.1 >>= paired a.0) (x, rest) e in
+      let a = bind_ok (f.taken bytes) (λ a. (g a.0).taken a.1 >>= pair_with a.0) (x, rest) e in
       let p = F.only bytes a.0.0 a.0.1 fits a.1 in
-      let b = bind_ok ((g a.0.0).taken a.0.1) (paired a.0.0) (x, rest) a.2 in
+      let b = bind_ok ((g a.0.0).taken a.0.1) (pair_with a.0.0) (x, rest) a.2 in
       let q = (G a.0.0 p.1).only a.0.1 b.0.0 b.0.1 (IsBytes-behind bytes (f.spell a.0.0) a.0.1 fits p.0) b.1 in
       let whole : bytes ≡ (f.spell a.0.0 ++ (g a.0.0).spell b.0.0) ++ b.0.1 =
       p.0 ∙ ap (λ (t : List ℕ). f.spell a.0.0 ++ t) q.0 ∙ sym (append_assoc (f.spell a.0.0) ((g a.0.0).spell b.0.0) b.0.1) in
@@ -166,14 +166,14 @@ pub record IsRenaming {A B : Type 0} (to : A → B) (from : B → A) (proper : B
   pub again : (a : A) → f.has a ≡ true → from (to a) ≡ a
   pub stays : (a : A) → f.has a ≡ true → proper (to a) ≡ true
 
-pub made_is : {A B : Type 0} (to : A → B) (from : B → A) (proper : B → Bool) (f : Form A) → IsForm f → IsRenaming to from proper f → IsForm (made to from proper f)
+pub made_is : {A B : Type 0} (to : A → B) (from : B → A) (proper : B → Bool) (f : Form A) → IsForm f → IsRenaming to from proper f → IsForm (map_form to from proper f)
 made_is {A = A} {B = B} to from proper f F R = record {
   again = λ b rest h.
       let one = first_true (proper b) (f.has (from b)) h in
       let two = second_true (proper b) (f.has (from b)) h in
-      rw (F.again (from b) rest two) (ap (λ (c : B). done (c, rest)) (R.back b one two));
+      rw (F.again (from b) rest two) (ap (λ (c : B). taken_value (c, rest)) (R.back b one two));
   only = λ bytes b rest fits e.
-      let a = bind_ok (f.taken bytes) (renamed to) (b, rest) e in
+      let a = bind_ok (f.taken bytes) (map_value to) (b, rest) e in
       let p = F.only bytes a.0.0 a.0.1 fits a.1 in
       let same = R.again a.0.0 p.1 in
       subst (λ (y : B × List ℕ). (bytes ≡ f.spell (from y.0) ++ y.1) × ((proper y.0 && f.has (from y.0)) ≡ true))
@@ -209,7 +209,7 @@ all_only {A = A} f F before (suc n) bytes values rest fits e =
     subst (λ (y : List A × List ℕ). (bytes ≡ spell_all f before y.0 ++ y.1) × (has_all f before (suc n) y.0 ≡ true))
     (ok_is (a.0.0 ∷ b.0.0, b.0.1) (values, rest) b.2) (whole, both_true _ _ p.1 q.1)
 
-pub listed_is : {A : Type 0} (f : List A → Form A) (before : List A) (n : ℕ) → ((before : List A) → IsForm (f before)) → IsForm (listed f before n)
+pub listed_is : {A : Type 0} (f : List A → Form A) (before : List A) (n : ℕ) → ((before : List A) → IsForm (f before)) → IsForm (list_form f before n)
 listed_is f before n F = record {
   again = λ values rest h. all_again f F before n values rest h;
   only = λ bytes values rest fits e. all_only f F before n bytes values rest fits e;
@@ -223,10 +223,10 @@ has_all_length f before (suc n) [] h = absurd cc
 has_all_length f before (suc n) (a ∷ values) h =
     ap suc (has_all_length f (before ++ a ∷ []) n values (second_true ((f before).has a) (has_all f (before ++ a ∷ []) n values) h))
 
-pub counted_is : {A : Type 0} (few : ℕ → Bool) (f : List A → Form A) → ((before : List A) → IsForm (f before)) → IsForm (counted few f)
+pub counted_is : {A : Type 0} (few : ℕ → Bool) (f : List A → Form A) → ((before : List A) → IsForm (f before)) → IsForm (counted_list few f)
 counted_is {A = A} few f F =
-    made_is (λ (x : ℕ × List A). x.1) (λ values. (length values, values)) always (and_then (within few number) (listed f []))
-    (and_then_is (within few number) (listed f []) (within_is few number number_is) (λ n h. listed_is f [] n F))
+    made_is (λ (x : ℕ × List A). x.1) (λ values. (length values, values)) always (and_then (within few number) (list_form f []))
+    (and_then_is (within few number) (list_form f []) (within_is few number number_is) (λ n h. listed_is f [] n F))
     (record {
       back = λ b p h. refl;
       again = λ x h. ap (λ (n : ℕ). (n, x.1)) (has_all_length f [] x.0 x.1 (second_true _ _ h));
@@ -234,7 +234,7 @@ counted_is {A = A} few f F =
     })
 
 -- a length, and so many bytes
-pub measured_is : (few : ℕ → Bool) → IsForm (measured few)
+pub measured_is : (few : ℕ → Bool) → IsForm (counted_bytes few)
 measured_is few =
     made_is (λ (x : ℕ × List ℕ). x.1) (λ bytes. (length bytes, bytes)) always (and_then (within few number) plain)
     (and_then_is (within few number) plain (within_is few number number_is) (λ n h. plain_is n))

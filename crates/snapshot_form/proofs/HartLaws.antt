@@ -8,7 +8,7 @@ use Rattle.processor.specs.declared.mode.Mode.TheVariants.{Kernel, User}
 use Rattle.saved_machine.specs.declared.harts.SavedHart.{SavedHart}
 use Rattle.snapshot_form.specs.FormLaw.{IsForm}
 use Rattle.snapshot_form.specs.Forms.{is_word, number, within, always}
-use Rattle.snapshot_form.specs.HartForms.{flag_number, flag, mode_of, is_user, mode, place_number, place_of, place, address_number, address_of, is_nonzero, is_reservable, reservation, aligned, legal, side, trap_status, status, registers, hart_parts, hart_of, begins_with_0, hart, harts}
+use Rattle.snapshot_form.specs.HartForms.{flag_number, flag, mode_of, is_user, mode, place_number, place_of, place, address_number, address_of, is_nonzero, is_reservable, reservation, multiple_of, legal, side, trap_status, status, registers, hart_parts, hart_of, begins_with_0, hart, harts}
 use Rattle.snapshot_form.specs.JournalForms.{count}
 use Rattle.snapshot_form.proofs.FormLaws.{second_true, number_is, within_is, and_then_is, made_is, listed_is, has_all_length, pair_is, numbers_are}
 
@@ -79,8 +79,8 @@ reservation_is ram_pages =
     made_is address_of address_number is_nonzero (within (is_reservable ram_pages) number) (numbers_are (is_reservable ram_pages))
     (record { back = λ o p h. address_back o p; again = λ n h. address_again n; stays = λ n h. address_stays n })
 
-pub aligned_is : (size : ℕ) → IsForm (aligned size)
-unfolding aligned
+pub aligned_is : (size : ℕ) → IsForm (multiple_of size)
+unfolding multiple_of
 aligned_is size = numbers_are (λ n. n % size == 0)
 
 pub legal_is : (bits : ℕ → ℕ) → IsForm (legal bits)

@@ -13,7 +13,7 @@ use Rattle.sv_types.specs.declared.event.Rule.TheVariants as Rule
 use Rattle.sv_types.specs.declared.event.Verdict.TheVariants as Verdict
 use Rattle.snapshot_form.specs.FormLaw.{IsForm}
 use Rattle.snapshot_form.specs.Forms.{is_word, number, within, and_then, ◌⨾◌, always}
-use Rattle.snapshot_form.specs.JournalForms.{count, event_counts, hart_counts, rule_counts, counts_of, counts_parts, counts, codes_known, is_among, found_among, code, hart_number, kind_of, is_kind, demote_of, demote_parts, demote, denied_of, denied_parts, denied, answer, load_note_of, load_note_parts, load_note, unload_of, unload_parts, unload, retire_of, retire_parts, retire, note_behind, note, notes, verdict_kind, is_verdict, entry_of, entry_parts, stopped_entry, write_of, write_parts, stopped_write, verdict_behind, verdict, journal}
+use Rattle.snapshot_form.specs.JournalForms.{count, event_counts, hart_counts, rule_counts, counts_of, counts_parts, counts, codes_known, is_among, found_among, code, hart_number, kind_of, is_kind, demote_of, demote_parts, demote, denied_of, denied_parts, denied_note, answer, load_note_of, load_note_parts, load_note, unload_of, unload_parts, unload, retire_of, retire_parts, retire, note_behind, note, notes, verdict_kind, is_verdict, entry_of, entry_parts, stopped_entry, write_of, write_parts, stopped_write, verdict_behind, verdict, journal}
 use Rattle.snapshot_form.proofs.FormLaws.{first_true, second_true, number_is, within_is, nothing_is, and_then_is, made_is, counted_is, pair_is, numbers_are, choose_is}
 use Rattle.snapshot_form.proofs.HartLaws.{aligned_is}
 
@@ -127,8 +127,8 @@ demote_is harts =
     (pair_is _ _ (hart_number_is harts) (pair_is _ _ number_is (pair_is _ _ (aligned_is 4) number_is)))
     (record { back = λ n p h. demote_back n p; again = λ x h. refl; stays = λ x h. refl })
 
-pub denied_is : IsForm denied
-unfolding denied
+pub denied_is : IsForm denied_note
+unfolding denied_note
 denied_is =
     made_is denied_of denied_parts (is_kind 2) number number_is
     (record { back = λ n p h. denied_back n p; again = λ x h. refl; stays = λ x h. refl })
@@ -165,7 +165,7 @@ note_behind_is harts kind =
 
 -- the kind that stands before a note is its own
 note_kind : (harts kind : ℕ) (n : Note) → is_between 1 5 kind ≡ true → (note_behind harts kind).has n ≡ true → kind_of n ≡ kind
-unfolding note_behind demote denied load_note unload retire
+unfolding note_behind demote denied_note load_note unload retire
 note_kind harts zero n k h = absurd cc
 note_kind harts (suc zero) n k h = eqb-true (kind_of n) 1 (first_true (eqb (kind_of n) 1) _ h)
 note_kind harts (suc (suc zero)) n k h = eqb-true (kind_of n) 2 (first_true (eqb (kind_of n) 2) _ h)

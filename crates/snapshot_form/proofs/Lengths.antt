@@ -15,12 +15,12 @@ use Rattle.reference.specs.BlockDisk.{sector_size}
 use Rattle.saved_machine.specs.declared.harts.SavedHart.{SavedHart}
 use Rattle.sv_types.specs.declared.event.Verdict.TheVariants as Verdict
 use Rattle.sv_types.specs.SbiCodes.{code_word}
-use Rattle.snapshot_form.specs.DeviceForms.{console, goes_with, has_beats, transfer, standing, block, holds_transfer, disk, devices, is_block, block_in, port}
-use Rattle.snapshot_form.specs.Forms.{Form, spell_number, is_word, number, byte, plain, nothing, within, and_then, ◌⨾◌, made, always, spell_all, has_all, listed, counted, measured}
-use Rattle.snapshot_form.specs.HartForms.{flag, mode, place, is_nonzero, reservation, aligned, legal, side, trap_status, status, registers, begins_with_0, hart, harts}
-use Rattle.snapshot_form.specs.JournalForms.{count, event_counts, hart_counts, rule_counts, counts, codes_known, is_among, found_among, code, hart_number, is_kind, demote, denied, answer, load_note, unload, retire_of, retire_parts, retire, note_behind, note, notes, is_verdict, stopped_entry, stopped_write, verdict_behind, verdict, journal}
-use Rattle.snapshot_form.specs.PageForms.{protection, protections, is_above, text_page, text, pages, module_within, next_module, modules, load, load_behind, loading, gate}
-use Rattle.snapshot_form.specs.Snapshots.{magic, beginning, Header, header_of, header_parts, header, Contents, body, whole_of, whole_header, whole_body, snapshot, most_snapshot_bytes}
+use Rattle.snapshot_form.specs.DeviceForms.{console, goes_with, has_beats, transfer, standing_status, block, holds_transfer, disk, devices, is_block, block_in, port}
+use Rattle.snapshot_form.specs.Forms.{Form, spell_number, is_word, number, byte, plain, nothing, within, and_then, ◌⨾◌, map_form, always, spell_all, has_all, list_form, counted_list, counted_bytes}
+use Rattle.snapshot_form.specs.HartForms.{flag, mode, place, is_nonzero, reservation, multiple_of, legal, side, trap_status, status, registers, begins_with_0, hart, harts}
+use Rattle.snapshot_form.specs.JournalForms.{count, event_counts, hart_counts, rule_counts, counts, codes_known, is_among, found_among, code, hart_number, is_kind, demote, denied_note, answer, load_note, unload, retire_of, retire_parts, retire, note_behind, note, notes, is_verdict, stopped_entry, stopped_write, verdict_behind, verdict, journal}
+use Rattle.snapshot_form.specs.PageForms.{protection, protections, is_above, text_page, text, pages, module_within, next_module, modules, load, load_behind, load_under_way, gate}
+use Rattle.snapshot_form.specs.Snapshots.{magic, magic_form, Header, header_of, header_parts, header, Contents, body, whole_of, whole_header, whole_body, snapshot, most_snapshot_bytes}
 use Rattle.snapshot_form.proofs.FormLaws.{first_true, second_true}
 
 -- ---- what is put together from forms of bounded length
@@ -47,7 +47,7 @@ nothing_short value is n = record { bound = λ a h. omega arith }
 within_short : {A : Type 0} (good : A → Bool) (f : Form A) (n : ℕ) → IsAtMost f n → IsAtMost (within good f) n
 within_short good f n F = record { bound = λ a h. F.bound a (first_true (f.has a) (good a) h) }
 
-made_short : {A B : Type 0} (to : A → B) (from : B → A) (proper : B → Bool) (f : Form A) (n : ℕ) → IsAtMost f n → IsAtMost (made to from proper f) n
+made_short : {A B : Type 0} (to : A → B) (from : B → A) (proper : B → Bool) (f : Form A) (n : ℕ) → IsAtMost f n → IsAtMost (map_form to from proper f) n
 made_short to from proper f n F = record { bound = λ b h. F.bound (from b) (second_true (proper b) (f.has (from b)) h) }
 
 both_short : {A B : Type 0} (f : Form A) (g : A → Form B) (m n : ℕ) → IsAtMost f m → ((a : A) → f.has a ≡ true → IsAtMost (g a) n) → IsAtMost (and_then f g) (m + n)
@@ -77,17 +77,17 @@ all_short f k F before (suc n) (a ∷ values) h =
     let more : suc n * k ≡ n * k + k = suc-mul n k in
     rw more (omega (arith, one, rest, whole))
 
-listed_short : {A : Type 0} (f : List A → Form A) (k n : ℕ) → ((before : List A) → IsAtMost (f before) k) → IsAtMost (listed f [] n) (n * k)
+listed_short : {A : Type 0} (f : List A → Form A) (k n : ℕ) → ((before : List A) → IsAtMost (f before) k) → IsAtMost (list_form f [] n) (n * k)
 listed_short f k n F = record { bound = λ values h. all_short f k F [] n values h }
 
 counted_short : {A : Type 0} (few : ℕ → Bool) (f : List A → Form A) (k most : ℕ) → ((n : ℕ) → few n ≡ true → n ≤ most) → ((before : List A) → IsAtMost (f before) k)
-    → IsAtMost (counted few f) (8 + most * k)
+    → IsAtMost (counted_list few f) (8 + most * k)
 counted_short few f k most Few F =
     made_short _ _ always _ (8 + most * k)
-    (both_short (within few number) (listed f []) 8 (most * k) (numbers_short few)
-    (λ n h. longer_by (listed f [] n) (n * k) (most * k) (listed_short f k n F) (mul-le-mul_right k (Few n (second_true (is_word n) (few n) h)))))
+    (both_short (within few number) (list_form f []) 8 (most * k) (numbers_short few)
+    (λ n h. longer_by (list_form f [] n) (n * k) (most * k) (listed_short f k n F) (mul-le-mul_right k (Few n (second_true (is_word n) (few n) h)))))
 
-measured_short : (few : ℕ → Bool) (most : ℕ) → ((n : ℕ) → few n ≡ true → n ≤ most) → IsAtMost (measured few) (8 + most)
+measured_short : (few : ℕ → Bool) (most : ℕ) → ((n : ℕ) → few n ≡ true → n ≤ most) → IsAtMost (counted_bytes few) (8 + most)
 measured_short few most Few =
     made_short _ _ always _ (8 + most)
     (both_short (within few number) plain 8 most (numbers_short few)
@@ -110,8 +110,8 @@ side_short =
     both_short _ _ 8 8 (within_short _ _ 8 (made_short _ _ always flag 8 flag_short)) (λ m p.
     within_short _ _ 8 (made_short _ _ always _ 8 (numbers_short (λ n. nat_le n 64)))))
 
-aligned_short : (size : ℕ) → IsAtMost (aligned size) 8
-unfolding aligned
+aligned_short : (size : ℕ) → IsAtMost (multiple_of size) 8
+unfolding multiple_of
 aligned_short size = numbers_short (λ n. n % size == 0)
 
 legal_short : (bits : ℕ → ℕ) → IsAtMost (legal bits) 8
@@ -176,7 +176,7 @@ load_behind_short harts true = made_short _ _ is_some (load harts) 48 (load_shor
 load_behind_short harts false = nothing_short None (λ o. not (is_some o)) 48
 
 gate_short : (harts : List SavedHart) → IsAtMost (gate harts) 2120
-unfolding gate modules loading
+unfolding gate modules load_under_way
 gate_short harts =
     pair_short _ _ 2056 64 (counted_short modules_count_within next_module 32 64 (λ n h. leb-true n 64 h) (λ before. module_short _))
     (pair_short _ _ 8 56 flag_short
@@ -195,15 +195,15 @@ transfer_short gpa count =
     both_short _ _ 8 16 (numbers_short (λ n. nat_le n 2)) (λ command h.
     both_short _ _ 8 8 (numbers_short (goes_with gpa count command)) (λ now h. numbers_short (has_beats count now)))
 
-standing_short : (gpa count : ℕ) → IsAtMost (standing gpa count) 24
-unfolding standing
+standing_short : (gpa count : ℕ) → IsAtMost (standing_status gpa count) 24
+unfolding standing_status
 standing_short gpa count = made_short _ _ always _ 24 (transfer_short gpa count)
 
 block_short : IsAtMost block 48
 unfolding block
 block_short =
     made_short _ _ always _ 48 (pair_short _ _ 8 40 number_short (both_short number _ 8 32 number_short (λ gpa h.
-    both_short _ (standing gpa) 8 24 (numbers_short (λ n. nat_lt n (2 ^ 32))) (λ count h. standing_short gpa count))))
+    both_short _ (standing_status gpa) 8 24 (numbers_short (λ n. nat_lt n (2 ^ 32))) (λ count h. standing_short gpa count))))
 
 port_short : IsAtMost port 48
 unfolding port
@@ -242,7 +242,7 @@ retire_short harts =
     made_short retire_of retire_parts (is_kind 5) _ 24 (pair_short _ _ 8 16 (hart_number_short harts) (pair_short _ _ 8 8 number_short (made_short (found_among codes_known) code_word always (within (is_among codes_known) number) 8 (within_short (is_among codes_known) number 8 number_short))))
 
 note_behind_short : (harts kind : ℕ) → IsAtMost (note_behind harts kind) 32
-unfolding note_behind demote denied load_note unload
+unfolding note_behind demote denied_note load_note unload
 note_behind_short harts kind =
     choose_short (kind == 1) _ _ 32
     (made_short _ _ (is_kind 1) _ 32 (pair_short _ _ 8 24 (hart_number_short harts) (pair_short _ _ 8 16 number_short (pair_short _ _ 8 8 (aligned_short 4) number_short))))
@@ -282,21 +282,21 @@ header_short : IsAtMost header 40
 unfolding header
 header_short =
     made_short header_of header_parts always _ 40
-    (pair_short beginning _ 8 32 (record { bound = λ b h. omega (arith, ap (λ (c : List ℕ). length c) ((bytes_eq-Decides b magic).0 h)) })
+    (pair_short magic_form _ 8 32 (record { bound = λ b h. omega (arith, ap (λ (c : List ℕ). length c) ((bytes_eq-Decides b magic).0 h)) })
     (pair_short _ _ 8 24 (numbers_short (λ n. nat_le n (2 ^ 32))) (pair_short _ _ 8 16 (numbers_short harts_within)
     (pair_short _ _ 8 8 (numbers_short ram_pages_within) number_short))))
 
 few_harts : (h : Header) → header.has h ≡ true → h.harts ≤ 4
 unfolding header
 few_harts h has =
-    let from_harts = second_true ((within (λ n. nat_le n (2 ^ 32)) number).has h.events) _ (second_true (beginning.has magic) _ has) in
+    let from_harts = second_true ((within (λ n. nat_le n (2 ^ 32)) number).has h.events) _ (second_true (magic_form.has magic) _ has) in
     let good = second_true (is_word h.harts) (harts_within h.harts) (first_true ((within harts_within number).has h.harts) _ from_harts) in
     leb-true h.harts 4 (second_true (leb 1 h.harts) (leb h.harts 4) good)
 
 few_pages : (h : Header) → header.has h ≡ true → h.ram_pages ≤ 262144
 unfolding header
 few_pages h has =
-    let from_harts = second_true ((within (λ n. nat_le n (2 ^ 32)) number).has h.events) _ (second_true (beginning.has magic) _ has) in
+    let from_harts = second_true ((within (λ n. nat_le n (2 ^ 32)) number).has h.events) _ (second_true (magic_form.has magic) _ has) in
     let from_pages = second_true ((within harts_within number).has h.harts) _ from_harts in
     let good = second_true (is_word h.ram_pages) (ram_pages_within h.ram_pages) (first_true ((within ram_pages_within number).has h.ram_pages) _ from_pages) in
     omega (arith, leb-true h.ram_pages _ (second_true (leb 16 h.ram_pages) _ good))

@@ -12,7 +12,7 @@ use Rattle.snapshot_form.specs.declared.whole.TextPage.{TextPage}
 use Rattle.snapshot_form.specs.FormLaw.{IsForm}
 use Rattle.snapshot_form.specs.Forms.{byte, within, and_then, ◌⨾◌, always}
 use Rattle.snapshot_form.specs.HartForms.{flag}
-use Rattle.snapshot_form.specs.PageForms.{protection_number, protection_of, protection, protections, is_above, last_page, text_page_of, text_page_parts, text_page, text, Pages, pages, module_of, module_parts, module_within, last_id, next_module, modules, load_of, load_parts, load, some_or, nowhere, load_behind, loading, gate}
+use Rattle.snapshot_form.specs.PageForms.{protection_number, protection_of, protection, protections, is_above, last_page, text_page_of, text_page_parts, text_page, text, Pages, pages, module_of, module_parts, module_within, last_id, next_module, modules, load_of, load_parts, load, some_or, nowhere, load_behind, load_under_way, gate}
 use Rattle.snapshot_form.proofs.FormLaws.{first_true, second_true, number_is, plain_is, byte_is, nothing_is, within_is, and_then_is, made_is, listed_is, has_all_length, counted_is, pair_is, numbers_are}
 use Rattle.snapshot_form.proofs.HartLaws.{flag_is, aligned_is}
 
@@ -110,8 +110,8 @@ unfolding load_behind
 load_flag harts true o h = first_true (is_some o) _ h
 load_flag harts false o h = not-true (is_some o) h
 
-pub loading_is : (harts : List SavedHart) → IsForm (loading harts)
-unfolding loading
+pub loading_is : (harts : List SavedHart) → IsForm (load_under_way harts)
+unfolding load_under_way
 loading_is harts =
     made_is (λ (x : Bool × Option SavedLoad). x.1) (λ o. (is_some o, o)) always (and_then flag (load_behind harts))
     (and_then_is flag (load_behind harts) flag_is (λ b h. load_behind_is harts b))
@@ -123,4 +123,4 @@ loading_is harts =
 
 pub gate_is : (harts : List SavedHart) → IsForm (gate harts)
 unfolding gate
-gate_is harts = pair_is modules (flag ⨾ loading harts) modules_are (pair_is flag (loading harts) flag_is (loading_is harts))
+gate_is harts = pair_is modules (flag ⨾ load_under_way harts) modules_are (pair_is flag (load_under_way harts) flag_is (loading_is harts))

@@ -15,7 +15,7 @@ use Rattle.snapshot_form.specs.Forms.{and_then, always}
 use Rattle.snapshot_form.specs.HartForms.{harts}
 use Rattle.snapshot_form.specs.PageForms.{pages}
 use Rattle.snapshot_form.specs.SnapshotLaw.{SnapshotLaw}
-use Rattle.snapshot_form.specs.Snapshots.{magic, magic_at, beginning, Header, header_of, header_parts, header, Contents, Body, body, whole_of, whole_header, whole_body, snapshot, most_snapshot_bytes, ended, snapshot_read}
+use Rattle.snapshot_form.specs.Snapshots.{magic, magic_at, magic_form, Header, header_of, header_parts, header, Contents, Body, body, whole_of, whole_header, whole_body, snapshot, most_snapshot_bytes, if_at_end, snapshot_read}
 use Rattle.snapshot_form.proofs.DeviceLaws.{devices_are}
 use Rattle.snapshot_form.proofs.FormLaws.{bind_ok, passed, first_true, second_true, number_is, plain_is, and_then_is, made_is, pair_is, numbers_are}
 use Rattle.snapshot_form.proofs.HartLaws.{harts_are, harts_number}
@@ -46,7 +46,7 @@ magic_only bytes b rest e =
     let g = neither (ltb (length bytes) 8) (bytes_eq (take 8 bytes) magic) both found e in
     subst (λ (y : List ℕ × List ℕ). (bytes ≡ y.0 ++ y.1) × (bytes_eq y.0 magic ≡ true)) g.2 (sym (take-append-drop 8 bytes), g.1)
 
-pub beginning_is : IsForm beginning
+pub beginning_is : IsForm magic_form
 beginning_is = record { again = λ b rest h. magic_again b rest h; only = λ bytes b rest fits e. magic_only bytes b rest e }
 
 pub header_is : IsForm header
@@ -104,7 +104,7 @@ not_longer true r y e = absurd cc
 not_longer false r y e = e
 
 -- nothing was left
-ended_ok : (x : Contents × List ℕ) (s : Contents) → ended x ≡ Ok s → (x.0 ≡ s) × (x.1 ≡ [])
+ended_ok : (x : Contents × List ℕ) (s : Contents) → if_at_end x ≡ Ok s → (x.0 ≡ s) × (x.1 ≡ [])
 ended_ok x s e =
     let g = passed (eqb (length x.1) 0) OtherLength x.0 s e in
     (g.1, nil_from_length x.1 (eqb-true (length x.1) 0 g.0))
@@ -112,8 +112,8 @@ ended_ok x s e =
 read_only : (bytes : List ℕ) (s : Contents) → IsBytes bytes → snapshot_read bytes ≡ Ok s → (bytes ≡ snapshot.spell s) × (snapshot.has s ≡ true)
 unfolding snapshot_read
 read_only bytes s fits e =
-    let g = not_longer (nat_lt most_snapshot_bytes (length bytes)) (snapshot.taken bytes >>= ended) s e in
-    let a = bind_ok (snapshot.taken bytes) ended s g in
+    let g = not_longer (nat_lt most_snapshot_bytes (length bytes)) (snapshot.taken bytes >>= if_at_end) s e in
+    let a = bind_ok (snapshot.taken bytes) if_at_end s g in
     let p = snapshot_is.only bytes a.0.0 a.0.1 fits a.1 in
     let q = ended_ok a.0 s a.2 in
     let whole : bytes ≡ snapshot.spell a.0.0 = p.0 ∙ ap (λ (t : List ℕ). snapshot.spell a.0.0 ++ t) q.1 ∙ append-nil (snapshot.spell a.0.0) in

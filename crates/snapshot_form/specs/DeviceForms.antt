@@ -3,7 +3,7 @@ use Rattle.std.specs.Prelude.{ℕ, Option, Some, None, is_some, ◌+◌, ◌*◌
 use Rattle.sv_types.specs.Console.{most_queued}
 use Rattle.sv_types.specs.Limits.{most_disk_bytes}
 use Rattle.reference.specs.BlockDisk.{is_busy, beats_done, beat_size, sector_size}
-use Rattle.snapshot_form.specs.Forms.{Form, number, within, and_then, ◌⨾◌, made, always, measured}
+use Rattle.snapshot_form.specs.Forms.{Form, number, within, and_then, ◌⨾◌, map_form, always, counted_bytes}
 use Rattle.sv_types.specs.BlockNumbers.{command_number, command_of, status_number}
 use Rattle.sv_types.specs.declared.block.BlockCommand.{BlockCommand}
 use Rattle.sv_types.specs.declared.block.BlockState.{BlockState}
@@ -13,7 +13,7 @@ use Rattle.reference.specs.Start.{block_at_boot}
 
 -- no more than the console keeps
 unfoldable pub console : Form (List ℕ)
-console = measured (λ n. nat_le n most_queued)
+console = counted_bytes (λ n. nat_le n most_queued)
 
 -- ---- the block device
 
@@ -65,8 +65,8 @@ command_under_way BlockStatus.OutOfRange = 0
 abbrev pub status_parts : BlockStatus → StatusParts
 status_parts status = (command_under_way status, (status_number status, beats_done status))
 
-unfoldable pub standing : (gpa count : ℕ) → Form BlockStatus
-standing gpa count = made status_of status_parts always (transfer gpa count)
+unfoldable pub standing_status : (gpa count : ℕ) → Form BlockStatus
+standing_status gpa count = map_form status_of status_parts always (transfer gpa count)
 
 -- a number of 32 bits
 abbrev pub sectors : Form ℕ
@@ -89,8 +89,8 @@ block_parts b = (b.sector, (b.gpa, (b.count, b.status)))
 
 unfoldable pub block : Form BlockState
 block =
-    made block_of block_parts always
-    (number ⨾ and_then number (λ gpa. and_then sectors (standing gpa)))
+    map_form block_of block_parts always
+    (number ⨾ and_then number (λ gpa. and_then sectors (standing_status gpa)))
 
 -- a snapshot has this project's own block device alone
 abbrev pub is_block : PortState → Bool
@@ -102,7 +102,7 @@ block_in (PortState.Block b) = b
 block_in (PortState.Virtio v) = block_at_boot
 
 unfoldable pub port : Form PortState
-port = made PortState.Block block_in is_block block
+port = map_form PortState.Block block_in is_block block
 
 -- ---- the disk
 
@@ -113,7 +113,7 @@ holds_transfer b n =
     (not (is_busy b) || nat_le (b.sector + b.count) (n / sector_size))
 
 unfoldable pub disk : BlockState → Form (List ℕ)
-disk b = measured (holds_transfer b)
+disk b = counted_bytes (holds_transfer b)
 
 abbrev pub Devices : Type 0
 Devices = List ℕ × (PortState × List ℕ)

@@ -57,25 +57,25 @@ abbrev pub nothing : {A : Type 0} → A → (A → Bool) → Form A
 nothing value is = record { spell = λ a. []; has = is; taken = λ bytes. Ok (value, bytes) }
 
 -- the same values, of which those outside a range are refused
-abbrev pub judged : {A : Type 0} → (A → Bool) → A × List ℕ → Taken A
-judged good x = if good x.0 then Ok x else Err OutOfRange
+abbrev pub if_in_range : {A : Type 0} → (A → Bool) → A × List ℕ → Taken A
+if_in_range good x = if good x.0 then Ok x else Err OutOfRange
 
 abbrev pub within : {A : Type 0} → (A → Bool) → Form A → Form A
 within good f = record {
   spell = f.spell;
   has = λ a. f.has a && good a;
-  taken = λ bytes. f.taken bytes >>= judged good;
+  taken = λ bytes. f.taken bytes >>= if_in_range good;
 }
 
 -- a value, and behind it another, whose form may depend on the first
-abbrev pub paired : {A B : Type 0} → A → B × List ℕ → Taken (A × B)
-paired a x = Ok ((a, x.0), x.1)
+abbrev pub pair_with : {A B : Type 0} → A → B × List ℕ → Taken (A × B)
+pair_with a x = Ok ((a, x.0), x.1)
 
 abbrev pub and_then : {A B : Type 0} → Form A → (A → Form B) → Form (A × B)
 and_then f g = record {
   spell = λ x. f.spell x.0 ++ (g x.0).spell x.1;
   has = λ x. f.has x.0 && (g x.0).has x.1;
-  taken = λ bytes. f.taken bytes >>= λ a. (g a.0).taken a.1 >>= paired a.0;
+  taken = λ bytes. f.taken bytes >>= λ a. (g a.0).taken a.1 >>= pair_with a.0;
 }
 
 infixr 10 ◌⨾◌
@@ -83,14 +83,14 @@ abbrev pub ◌⨾◌ : {A B : Type 0} → Form A → Form B → Form (A × B)
 f ⨾ g = and_then f (λ a. g)
 
 -- the same spellings, read as other values. A proper value stands for one that was spelled, there and back
-abbrev pub renamed : {A B : Type 0} → (A → B) → A × List ℕ → Taken B
-renamed to x = Ok (to x.0, x.1)
+abbrev pub map_value : {A B : Type 0} → (A → B) → A × List ℕ → Taken B
+map_value to x = Ok (to x.0, x.1)
 
-abbrev pub made : {A B : Type 0} → (A → B) → (B → A) → (B → Bool) → Form A → Form B
-made to from proper f = record {
+abbrev pub map_form : {A B : Type 0} → (A → B) → (B → A) → (B → Bool) → Form A → Form B
+map_form to from proper f = record {
   spell = λ b. f.spell (from b);
   has = λ b. proper b && f.has (from b);
-  taken = λ bytes. f.taken bytes >>= renamed to;
+  taken = λ bytes. f.taken bytes >>= map_value to;
 }
 
 abbrev pub always : {A : Type 0} → A → Bool
@@ -116,13 +116,13 @@ unfoldable pub all_taken : {A : Type 0} → (List A → Form A) → (before : Li
 all_taken f before zero bytes = Ok ([], bytes)
 all_taken f before (suc n) bytes = (f before).taken bytes >>= λ a. all_taken f (before ++ a.0 ∷ []) n a.1 >>= put_first a.0
 
-abbrev pub listed : {A : Type 0} → (List A → Form A) → (before : List A) → ℕ → Form (List A)
-listed f before n = record { spell = spell_all f before; has = has_all f before n; taken = all_taken f before n }
+abbrev pub list_form : {A : Type 0} → (List A → Form A) → (before : List A) → ℕ → Form (List A)
+list_form f before n = record { spell = spell_all f before; has = has_all f before n; taken = all_taken f before n }
 
 -- the number of values, in a range, and the values
-abbrev pub counted : {A : Type 0} → (ℕ → Bool) → (List A → Form A) → Form (List A)
-counted few f = made (λ x. x.1) (λ values. (length values, values)) always (and_then (within few number) (listed f []))
+abbrev pub counted_list : {A : Type 0} → (ℕ → Bool) → (List A → Form A) → Form (List A)
+counted_list few f = map_form (λ x. x.1) (λ values. (length values, values)) always (and_then (within few number) (list_form f []))
 
 -- the number of bytes, in a range, and the bytes
-abbrev pub measured : (ℕ → Bool) → Form (List ℕ)
-measured few = made (λ x. x.1) (λ bytes. (length bytes, bytes)) always (and_then (within few number) plain)
+abbrev pub counted_bytes : (ℕ → Bool) → Form (List ℕ)
+counted_bytes few = map_form (λ x. x.1) (λ bytes. (length bytes, bytes)) always (and_then (within few number) plain)

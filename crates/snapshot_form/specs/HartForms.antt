@@ -1,7 +1,7 @@
 -- The form of a hart. This project's own; the registers are those of the RISC-V Privileged manual, "Supervisor CSRs".
 use Rattle.std.specs.Prelude.{ℕ, ◌+◌, ◌-◌, ◌%◌, List, [], ◌∷◌, drop, Bool, true, false, not, ◌&&◌, ◌||◌, Option, Some, None, nat_le, ◌==◌, if◌then◌else◌}
 use Rattle.saved_machine.specs.declared.harts.SavedHart.{SavedHart}
-use Rattle.snapshot_form.specs.Forms.{Form, number, within, and_then, ◌⨾◌, made, always, listed}
+use Rattle.snapshot_form.specs.Forms.{Form, number, within, and_then, ◌⨾◌, map_form, always, list_form}
 use Rattle.processor.specs.Bytes.{instruction_size, is_ram_address}
 use Rattle.processor.specs.IntegerRegisters.{register_count}
 use Rattle.processor.specs.Requests.{reserved_bytes}
@@ -18,7 +18,7 @@ flag_number true = 1
 flag_number false = 0
 
 unfoldable pub flag : Form Bool
-flag = made (λ n. n == 1) flag_number always (within (λ n. nat_le n 1) number)
+flag = map_form (λ n. n == 1) flag_number always (within (λ n. nat_le n 1) number)
 
 -- 0 kernel, 1 user
 abbrev pub mode_of : Bool → Mode
@@ -30,7 +30,7 @@ is_user Kernel = false
 is_user User = true
 
 unfoldable pub mode : Form Mode
-mode = made mode_of is_user always flag
+mode = map_form mode_of is_user always flag
 
 -- 0 none, else a place among the entries, and 1
 abbrev pub place_number : Option ℕ → ℕ
@@ -41,7 +41,7 @@ abbrev pub place_of : ℕ → Option ℕ
 place_of n = if n == 0 then None else Some (n - 1)
 
 unfoldable pub place : Form (Option ℕ)
-place = made place_of place_number always (within (λ n. nat_le n most_entries) number)
+place = map_form place_of place_number always (within (λ n. nat_le n most_entries) number)
 
 -- 0 none, else an address of RAM that is a multiple of 8
 abbrev pub address_number : Option ℕ → ℕ
@@ -59,11 +59,11 @@ abbrev pub is_reservable : ℕ → ℕ → Bool
 is_reservable ram_pages n = n == 0 || (is_ram_address ram_pages n && n % reserved_bytes == 0)
 
 unfoldable pub reservation : ℕ → Form (Option ℕ)
-reservation ram_pages = made address_of address_number is_nonzero (within (is_reservable ram_pages) number)
+reservation ram_pages = map_form address_of address_number is_nonzero (within (is_reservable ram_pages) number)
 
 -- a multiple of a size, as an instruction's address
-unfoldable pub aligned : ℕ → Form ℕ
-aligned size = within (λ n. n % size == 0) number
+unfoldable pub multiple_of : ℕ → Form ℕ
+multiple_of size = within (λ n. n % size == 0) number
 
 -- a number in which some bits alone may stand
 unfoldable pub legal : (ℕ → ℕ) → Form ℕ
@@ -95,7 +95,7 @@ status = legal legal_status ⨾ (legal legal_interrupts ⨾ (legal legal_tvec �
 
 -- x1 to x31
 unfoldable pub registers : Form (List ℕ)
-registers = listed (λ before. number) [] (register_count - 1)
+registers = list_form (λ before. number) [] (register_count - 1)
 
 abbrev pub HartParts : Type 0
 HartParts = Side × (ℕ × (List ℕ × (Status × (Option ℕ × ℕ))))
@@ -162,8 +162,8 @@ begins_with_0 (n ∷ rest) = n == 0
 -- started, mode, entry, pc, x1 to x31, the supervisor registers, reservation, timer
 unfoldable pub hart : ℕ → Form SavedHart
 hart ram_pages =
-    made hart_of hart_parts (λ h. begins_with_0 h.registers)
-    (side ⨾ (aligned instruction_size ⨾ (registers ⨾ (status ⨾ (reservation ram_pages ⨾ number)))))
+    map_form hart_of hart_parts (λ h. begins_with_0 h.registers)
+    (side ⨾ (multiple_of instruction_size ⨾ (registers ⨾ (status ⨾ (reservation ram_pages ⨾ number)))))
 
 unfoldable pub harts : (ram_pages count : ℕ) → Form (List SavedHart)
-harts ram_pages count = listed (λ before. hart ram_pages) [] count
+harts ram_pages count = list_form (λ before. hart ram_pages) [] count

@@ -2,8 +2,8 @@
 use Rattle.std.specs.Prelude.{ℕ, List, [], ◌∷◌, min, Bool, false, ◌||◌, nat_lt, nat_le, ◌==◌, if◌then◌else◌}
 use Rattle.processor.specs.Bytes.{instruction_size}
 use Rattle.sv_types.specs.Limits.{most_notes}
-use Rattle.snapshot_form.specs.Forms.{Form, number, nothing, within, and_then, ◌⨾◌, made, always, counted}
-use Rattle.snapshot_form.specs.HartForms.{aligned}
+use Rattle.snapshot_form.specs.Forms.{Form, number, nothing, within, and_then, ◌⨾◌, map_form, always, counted_list}
+use Rattle.snapshot_form.specs.HartForms.{multiple_of}
 use Rattle.sv_types.specs.Policies.{is_between}
 use Rattle.sv_types.specs.SbiCodes.{code_word}
 use Rattle.sv_types.specs.declared.sbi.SbiCode.{SbiCode}
@@ -74,7 +74,7 @@ counts_parts c = (
 )
 
 unfoldable pub counts : ℕ → Form Counts
-counts events = made counts_of counts_parts always (event_counts events ⨾ (hart_counts events ⨾ rule_counts events))
+counts events = map_form counts_of counts_parts always (event_counts events ⨾ (hart_counts events ⨾ rule_counts events))
 
 -- ---- small values
 
@@ -93,7 +93,7 @@ found_among [] n = SbiCode.Success
 found_among (c ∷ cs) n = if code_word c == n then c else found_among cs n
 
 unfoldable pub code : Form SbiCode
-code = made (found_among codes_known) code_word always (within (is_among codes_known) number)
+code = map_form (found_among codes_known) code_word always (within (is_among codes_known) number)
 
 -- a hart that is there
 unfoldable pub hart_number : ℕ → Form ℕ
@@ -137,7 +137,7 @@ demote_parts (Note.Unload h turn id c) = (0, (0, (0, 0)))
 demote_parts (Note.Retire h turn c) = (0, (0, (0, 0)))
 
 unfoldable pub demote : ℕ → Form Note
-demote harts = made demote_of demote_parts (is_kind demote_kind) (hart_number harts ⨾ (number ⨾ (aligned instruction_size ⨾ number)))
+demote harts = map_form demote_of demote_parts (is_kind demote_kind) (hart_number harts ⨾ (number ⨾ (multiple_of instruction_size ⨾ number)))
 
 abbrev pub denied_of : ℕ → Note
 denied_of gpa = Note.Denied gpa
@@ -149,8 +149,8 @@ denied_parts (Note.Load h turn id c) = 0
 denied_parts (Note.Unload h turn id c) = 0
 denied_parts (Note.Retire h turn c) = 0
 
-unfoldable pub denied : Form Note
-denied = made denied_of denied_parts (is_kind denied_kind) number
+unfoldable pub denied_note : Form Note
+denied_note = map_form denied_of denied_parts (is_kind denied_kind) number
 
 -- a module's load or unload
 abbrev pub AnswerParts : Type 0
@@ -170,7 +170,7 @@ load_note_parts (Note.Unload h turn id c) = (0, (0, (0, SbiCode.Success)))
 load_note_parts (Note.Retire h turn c) = (0, (0, (0, SbiCode.Success)))
 
 unfoldable pub load_note : ℕ → Form Note
-load_note harts = made load_note_of load_note_parts (is_kind load_kind) (answer harts)
+load_note harts = map_form load_note_of load_note_parts (is_kind load_kind) (answer harts)
 
 abbrev pub unload_of : AnswerParts → Note
 unload_of x = Note.Unload x.0 x.1.0 x.1.1.0 x.1.1.1
@@ -183,7 +183,7 @@ unload_parts (Note.Unload h turn id c) = (h, (turn, (id, c)))
 unload_parts (Note.Retire h turn c) = (0, (0, (0, SbiCode.Success)))
 
 unfoldable pub unload : ℕ → Form Note
-unload harts = made unload_of unload_parts (is_kind unload_kind) (answer harts)
+unload harts = map_form unload_of unload_parts (is_kind unload_kind) (answer harts)
 
 abbrev pub retire_of : ℕ × (ℕ × SbiCode) → Note
 retire_of x = Note.Retire x.0 x.1.0 x.1.1
@@ -196,23 +196,23 @@ retire_parts (Note.Unload h turn id c) = (0, (0, SbiCode.Success))
 retire_parts (Note.Retire h turn c) = (h, (turn, c))
 
 unfoldable pub retire : ℕ → Form Note
-retire harts = made retire_of retire_parts (is_kind retire_kind) (hart_number harts ⨾ (number ⨾ code))
+retire harts = map_form retire_of retire_parts (is_kind retire_kind) (hart_number harts ⨾ (number ⨾ code))
 
 -- the fields behind a kind
 unfoldable pub note_behind : ℕ → ℕ → Form Note
 note_behind harts kind =
     if kind == demote_kind then demote harts
-    else if kind == denied_kind then denied
+    else if kind == denied_kind then denied_note
     else if kind == load_kind then load_note harts
     else if kind == unload_kind then unload harts
     else retire harts
 
 unfoldable pub note : ℕ → Form Note
-note harts = made (λ x. x.1) (λ n. (kind_of n, n)) always (and_then (within (is_between demote_kind retire_kind) number) (note_behind harts))
+note harts = map_form (λ x. x.1) (λ n. (kind_of n, n)) always (and_then (within (is_between demote_kind retire_kind) number) (note_behind harts))
 
 -- those that a journal keeps, or all of them
 unfoldable pub notes : ℕ → ℕ → Form (List Note)
-notes harts all = counted (λ n. n == min most_notes all) (λ before. note harts)
+notes harts all = counted_list (λ n. n == min most_notes all) (λ before. note harts)
 
 -- ---- the verdict: a kind, and the fields of each
 
@@ -247,7 +247,7 @@ entry_parts (Verdict.Stopped (Rule.Entry target) h turn) = (target, (h, turn))
 entry_parts (Verdict.Stopped (Rule.Write pc gpa) h turn) = (0, (0, 0))
 
 unfoldable pub stopped_entry : ℕ → Form Verdict
-stopped_entry harts = made entry_of entry_parts (is_verdict entry_kind) (number ⨾ (hart_number harts ⨾ number))
+stopped_entry harts = map_form entry_of entry_parts (is_verdict entry_kind) (number ⨾ (hart_number harts ⨾ number))
 
 abbrev pub write_of : ℕ × (ℕ × (ℕ × ℕ)) → Verdict
 write_of x = Verdict.Stopped (Rule.Write x.0 x.1.0) x.1.1.0 x.1.1.1
@@ -259,7 +259,7 @@ write_parts (Verdict.Stopped (Rule.Entry target) h turn) = (0, (0, (0, 0)))
 write_parts (Verdict.Stopped (Rule.Write pc gpa) h turn) = (pc, (gpa, (h, turn)))
 
 unfoldable pub stopped_write : ℕ → Form Verdict
-stopped_write harts = made write_of write_parts (is_verdict write_kind) (aligned instruction_size ⨾ (number ⨾ (hart_number harts ⨾ number)))
+stopped_write harts = map_form write_of write_parts (is_verdict write_kind) (multiple_of instruction_size ⨾ (number ⨾ (hart_number harts ⨾ number)))
 
 unfoldable pub verdict_behind : ℕ → ℕ → Form Verdict
 verdict_behind harts kind =
@@ -269,7 +269,7 @@ verdict_behind harts kind =
     else stopped_write harts
 
 unfoldable pub verdict : ℕ → Form Verdict
-verdict harts = made (λ x. x.1) (λ v. (verdict_kind v, v)) always (and_then (within (λ n. nat_le n write_kind) number) (verdict_behind harts))
+verdict harts = map_form (λ x. x.1) (λ v. (verdict_kind v, v)) always (and_then (within (λ n. nat_le n write_kind) number) (verdict_behind harts))
 
 -- ---- counts, notes and verdict
 

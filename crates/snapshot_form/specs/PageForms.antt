@@ -2,8 +2,8 @@
 use Rattle.std.specs.Prelude.{ℕ, ◌-◌, List, [], length, Bool, true, false, not, ◌&&◌, Option, Some, None, option_map, is_some, slice_get, nat_lt, nat_le, ◌==◌, if◌then◌else◌}
 use Rattle.saved_machine.specs.declared.harts.SavedHart.{SavedHart}
 use Rattle.saved_machine.specs.declared.whole.SavedLoad.{SavedLoad}
-use Rattle.snapshot_form.specs.Forms.{Form, number, byte, plain, nothing, within, and_then, ◌⨾◌, made, always, listed, counted}
-use Rattle.snapshot_form.specs.HartForms.{flag, is_user, aligned}
+use Rattle.snapshot_form.specs.Forms.{Form, number, byte, plain, nothing, within, and_then, ◌⨾◌, map_form, always, list_form, counted_list}
+use Rattle.snapshot_form.specs.HartForms.{flag, is_user, multiple_of}
 use Rattle.snapshot_form.specs.declared.whole.TextPage.{TextPage}
 use Rattle.processor.specs.Bytes.{page_size}
 use Rattle.sv_types.specs.Limits.{most_module_pages}
@@ -25,10 +25,10 @@ protection_of n = if n == protection_number Free then Free else if n == protecti
 
 -- one byte, its number
 unfoldable pub protection : Form Protection
-protection = made protection_of protection_number always (within (λ n. nat_le n (protection_number Approved)) byte)
+protection = map_form protection_of protection_number always (within (λ n. nat_le n (protection_number Approved)) byte)
 
 unfoldable pub protections : ℕ → Form (List Protection)
-protections ram_pages = listed (λ before. protection) [] ram_pages
+protections ram_pages = list_form (λ before. protection) [] ram_pages
 
 -- ---- text
 
@@ -49,12 +49,12 @@ text_page_parts t = (t.page, t.digest)
 -- a page in RAM, and its digest
 unfoldable pub text_page : ℕ → List TextPage → Form TextPage
 text_page ram_pages before =
-    made text_page_of text_page_parts always
+    map_form text_page_of text_page_parts always
     (within (λ n. nat_lt n ram_pages && is_above (last_page before) n) number ⨾ plain digest_size)
 
 -- ascending; there are no more than pages of RAM
 unfoldable pub text : ℕ → Form (List TextPage)
-text ram_pages = counted (λ n. nat_le n ram_pages) (text_page ram_pages)
+text ram_pages = counted_list (λ n. nat_le n ram_pages) (text_page ram_pages)
 
 abbrev pub Pages : Type 0
 Pages = List Protection × List TextPage
@@ -74,7 +74,7 @@ abbrev pub module_parts : SavedModule → ModuleParts
 module_parts m = (m.id, (m.gpa, (m.va, m.data_va)))
 
 unfoldable pub module_within : (ℕ → Bool) → Form SavedModule
-module_within good = made module_of module_parts always (within good number ⨾ (aligned page_size ⨾ (aligned page_size ⨾ number)))
+module_within good = map_form module_of module_parts always (within good number ⨾ (multiple_of page_size ⨾ (multiple_of page_size ⨾ number)))
 
 abbrev pub last_id : List SavedModule → Option ℕ
 last_id before = option_map (λ (m : SavedModule). m.id) (slice_get before (length before - 1))
@@ -84,7 +84,7 @@ next_module before = module_within (is_above (last_id before))
 
 -- ascending by id, as many as a policy may name
 unfoldable pub modules : Form (List SavedModule)
-modules = counted modules_count_within next_module
+modules = counted_list modules_count_within next_module
 
 -- ---- the load under way
 
@@ -102,7 +102,7 @@ may_load (Some hart) = hart.started && not (is_user hart.mode)
 -- no more pages are left than a module may have
 unfoldable pub load : List SavedHart → Form SavedLoad
 load harts =
-    made load_of load_parts always
+    map_form load_of load_parts always
     (within (λ h. may_load (slice_get harts h)) number ⨾ (module_within (is_above None) ⨾ within (λ n. nat_le n most_module_pages) number))
 
 abbrev pub some_or : {A : Type 0} → A → Option A → A
@@ -114,15 +114,15 @@ nowhere = record { hart = 0; «module» = record { id = 0; gpa = 0; va = 0; data
 
 -- a load where the flag before it is 1
 unfoldable pub load_behind : List SavedHart → Bool → Form (Option SavedLoad)
-load_behind harts true = made Some (some_or nowhere) is_some (load harts)
+load_behind harts true = map_form Some (some_or nowhere) is_some (load harts)
 load_behind harts false = nothing None (λ o. not (is_some o))
 
-unfoldable pub loading : List SavedHart → Form (Option SavedLoad)
-loading harts = made (λ x. x.1) (λ o. (is_some o, o)) always (and_then flag (load_behind harts))
+unfoldable pub load_under_way : List SavedHart → Form (Option SavedLoad)
+load_under_way harts = map_form (λ x. x.1) (λ o. (is_some o, o)) always (and_then flag (load_behind harts))
 
 -- loaded modules, whether init pages are retired, and the load under way
 abbrev pub Gate : Type 0
 Gate = List SavedModule × (Bool × Option SavedLoad)
 
 unfoldable pub gate : List SavedHart → Form Gate
-gate harts = modules ⨾ (flag ⨾ loading harts)
+gate harts = modules ⨾ (flag ⨾ load_under_way harts)

@@ -5,7 +5,7 @@ use Rattle.saved_machine.specs.declared.harts.SavedHart.{SavedHart}
 use Rattle.saved_machine.specs.declared.whole.SavedLoad.{SavedLoad}
 use Rattle.snapshot_form.specs.DeviceForms.{Devices, devices}
 use Rattle.sv_types.specs.Steps.{◌>>=◌}
-use Rattle.snapshot_form.specs.Forms.{Taken, Form, number, plain, within, and_then, ◌⨾◌, renamed, made, always}
+use Rattle.snapshot_form.specs.Forms.{Taken, Form, number, plain, within, and_then, ◌⨾◌, map_value, map_form, always}
 use Rattle.snapshot_form.specs.HartForms.{harts}
 use Rattle.snapshot_form.specs.JournalForms.{JournalParts, journal}
 use Rattle.snapshot_form.specs.PageForms.{Pages, pages, Gate, gate}
@@ -36,8 +36,8 @@ magic_at bytes =
     if nat_lt (length bytes) magic_size then Err OtherLength
     else if bytes_eq (take magic_size bytes) magic then Ok (take magic_size bytes, drop magic_size bytes) else Err OtherBeginning
 
-abbrev pub beginning : Form (List ℕ)
-beginning = record { spell = λ b. b; has = λ b. bytes_eq b magic; taken = magic_at }
+abbrev pub magic_form : Form (List ℕ)
+magic_form = record { spell = λ b. b; has = λ b. bytes_eq b magic; taken = magic_at }
 
 -- events, harts, pages of RAM, time
 pub record Header : Type 0 where
@@ -69,7 +69,7 @@ abbrev pub page_count : Form ℕ
 page_count = within ram_pages_within number
 
 unfoldable pub header : Form Header
-header = made header_of header_parts always (beginning ⨾ (events_made ⨾ (hart_count ⨾ (page_count ⨾ number))))
+header = map_form header_of header_parts always (magic_form ⨾ (events_made ⨾ (hart_count ⨾ (page_count ⨾ number))))
 
 -- ---- the whole
 
@@ -157,11 +157,11 @@ whole_body s = (
 )
 
 unfoldable pub snapshot : Form Contents
-snapshot = made whole_of (λ s. (whole_header s, whole_body s)) always (and_then header body)
+snapshot = map_form whole_of (λ s. (whole_header s, whole_body s)) always (and_then header body)
 
 -- what stands behind a header
 abbrev pub behind : Header → List ℕ → Taken Contents
-behind h bytes = (body h).taken bytes >>= renamed (λ b. whole_of (h, b))
+behind h bytes = (body h).taken bytes >>= map_value (λ b. whole_of (h, b))
 
 -- ---- files
 
@@ -169,9 +169,9 @@ abbrev pub most_snapshot_bytes : ℕ
 most_snapshot_bytes = 1300 * 2 ^ 20
 
 -- nothing stands behind it
-abbrev pub ended : Contents × List ℕ → Result Contents SnapRefusal
-ended x = if length x.1 == 0 then Ok x.0 else Err OtherLength
+abbrev pub if_at_end : Contents × List ℕ → Result Contents SnapRefusal
+if_at_end x = if length x.1 == 0 then Ok x.0 else Err OtherLength
 
 -- what bytes are: a snapshot, or why they are none
 unfoldable pub snapshot_read : List ℕ → Result Contents SnapRefusal
-snapshot_read bytes = if nat_lt most_snapshot_bytes (length bytes) then Err TooLong else snapshot.taken bytes >>= ended
+snapshot_read bytes = if nat_lt most_snapshot_bytes (length bytes) then Err TooLong else snapshot.taken bytes >>= if_at_end

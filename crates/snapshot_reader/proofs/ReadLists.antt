@@ -10,8 +10,8 @@ use Rattle.snapshot_reader.specs.Reading.{Gives, Reads}
 use Rattle.sv_types.specs.Steps.{◌>>=◌}
 use Rattle.snapshot_form.specs.Forms.{Form, Taken, put_first, all_taken}
 
-abbrev given : {A : Type 0} → List A → List ℕ → Taken (List A)
-given values rest = Ok (values, rest)
+abbrev values_and_rest : {A : Type 0} → List A → List ℕ → Taken (List A)
+values_and_rest values rest = Ok (values, rest)
 
 abbrev behind : {A : Type 0} → List A → List A × List ℕ → Taken (List A)
 behind front x = Ok (front ++ x.0, x.1)
@@ -21,7 +21,7 @@ abbrev pub with_front : {A : Type 0} → List A → Taken (List A) → Taken (Li
 with_front front read = read >>= behind front
 
 regroup : {A : Type 0} (front : List A) (a : A) (read : Taken (List A)) → with_front front (read >>= put_first a) ≡ with_front (front ++ a ∷ []) read
-regroup {A = A} front a (Ok x) = ap (λ (values : List A). given values x.1) (sym (append_assoc front (a ∷ []) x.0))
+regroup {A = A} front a (Ok x) = ap (λ (values : List A). values_and_rest values x.1) (sym (append_assoc front (a ∷ []) x.0))
 regroup front a (Err e) = refl
 
 -- ---- a loop that reads so many values: before it, at a step, at a refusal, behind it
@@ -53,7 +53,7 @@ pub is_done : {A : Type 0} (f : List A → Form A) (front : List A) (count i : �
 unfolding all_taken
 is_done {A = A} f front count i bytes total le so_far =
     let k : count - i ≡ 0 = omega arith in
-    let one : with_front front (all_taken f front (count - i) bytes) ≡ Ok (front, bytes) = rw k (ap (λ (values : List A). given values bytes) (append-nil front)) in
+    let one : with_front front (all_taken f front (count - i) bytes) ≡ Ok (front, bytes) = rw k (ap (λ (values : List A). values_and_rest values bytes) (append-nil front)) in
     sym so_far ∙ one
 
 -- ---- what the exit of a `?` in a loop returns

@@ -2,7 +2,7 @@
 
 ghost use Rattle.std.specs.Prelude.{◌≡◌, ◌<◌, ◌==◌, ◌^◌};
 ghost use Rattle.snapshot_reader.specs.Reading.{Gives};
-ghost use Rattle.snapshot_form.specs.DeviceForms.{block, busy, goes_with, has_beats, holds_transfer, standing, status_of, transfer};
+ghost use Rattle.snapshot_form.specs.DeviceForms.{block, busy, goes_with, has_beats, holds_transfer, standing_status, status_of, transfer};
 
 use crate::values::{in_range, read_number};
 use snapshot_form::SnapRefusal;
@@ -29,10 +29,10 @@ pub(crate) fn read_block(bytes: &[u8]) -> Result<(BlockState, &[u8]), SnapRefusa
 }
 
 // How the device stands, from its three numbers.
-#[tactic(auto, unfolding(snapshot_form::specs::DeviceForms::standing))]
+#[tactic(auto, unfolding(snapshot_form::specs::DeviceForms::standing_status))]
 fn read_standing(bytes: &[u8], gpa: u64, count: u64) -> Result<(BlockStatus, &[u8]), SnapRefusal>
     requires { count < 2 ^ 32 }
-    ensures { Gives (λ x. (x.0, x.1.now)) result ((standing gpa count).taken bytes.now) }
+    ensures { Gives (λ x. (x.0, x.1.now)) result ((standing_status gpa count).taken bytes.now) }
 {
     let (transfer, rest) = read_transfer(bytes, gpa, count)?;
     Ok((transfer.status(), rest))

@@ -2,8 +2,8 @@
 
 ghost use Rattle.std.specs.Prelude.{◌≡◌, ◌≤◌, [], length, slice_get};
 ghost use Rattle.sv_types.specs.Limits.{most_harts};
-ghost use Rattle.snapshot_form.specs.Forms.{listed, number, within};
-ghost use Rattle.snapshot_form.specs.PageForms.{gate, is_above, last_id, load, loading, may_load, module_within, modules, next_module};
+ghost use Rattle.snapshot_form.specs.Forms.{list_form, number, within};
+ghost use Rattle.snapshot_form.specs.PageForms.{gate, is_above, last_id, load, load_under_way, may_load, module_within, modules, next_module};
 ghost use Rattle.snapshot_reader.specs.Reading.{Gives, Reads};
 ghost use Rattle.snapshot_reader.specs.Views.{gate_parts};
 
@@ -61,7 +61,7 @@ fn read_loaded(
     bytes: &[u8],
     count: u64,
 ) -> Result<(Vec<SavedModule>, &[u8]), ReadError>
-    ensures { Reads (λ x. (x.0.items, x.1.now)) result ((listed next_module [] count).taken bytes.now) }
+    ensures { Reads (λ x. (x.0.items, x.1.now)) result ((list_form next_module [] count).taken bytes.now) }
 {
     let mut read = Vec::new(alloc);
     let mut rest = bytes;
@@ -101,13 +101,13 @@ fn read_module(bytes: &[u8], last: Option<u64>) -> Result<(SavedModule, &[u8]), 
     ))
 }
 
-#[tactic(auto, unfolding(snapshot_form::specs::PageForms::loading, snapshot_form::specs::PageForms::load_behind))]
+#[tactic(auto, unfolding(snapshot_form::specs::PageForms::load_under_way, snapshot_form::specs::PageForms::load_behind))]
 fn read_loading<'a>(
     bytes: &'a [u8],
     harts: &[SavedHart],
 ) -> Result<(Option<SavedLoad>, &'a [u8]), SnapRefusal>
     requires { length harts.now ≤ most_harts }
-    ensures { Gives (λ x. (x.0, x.1.now)) result ((loading harts.now).taken bytes.now) }
+    ensures { Gives (λ x. (x.0, x.1.now)) result ((load_under_way harts.now).taken bytes.now) }
 {
     let (is_under_way, rest) = read_flag(bytes)?;
     if !is_under_way {

@@ -1,8 +1,8 @@
 // The bytes of notes: a kind, and the fields of each.
 
 ghost use Rattle.std.specs.Prelude.{◌≡◌, [], Some, None, if◌then◌else◌};
-ghost use Rattle.snapshot_form.specs.Forms.{listed};
-ghost use Rattle.snapshot_form.specs.JournalForms.{answer, code, codes_known, demote, denied, found_among, is_among, load_note, note, note_behind, notes, retire, unload};
+ghost use Rattle.snapshot_form.specs.Forms.{list_form};
+ghost use Rattle.snapshot_form.specs.JournalForms.{answer, code, codes_known, demote, denied_note, found_among, is_among, load_note, note, note_behind, notes, retire, unload};
 ghost use Rattle.snapshot_reader.specs.Reading.{Gives, Reads};
 
 use crate::read_error::ReadError;
@@ -33,7 +33,7 @@ fn read_kept(
     count: u64,
     harts: u8,
 ) -> Result<(Vec<Note>, &[u8]), ReadError>
-    ensures { Reads (λ x. (x.0.items, x.1.now)) result ((listed (λ before. note harts) [] count).taken bytes.now) }
+    ensures { Reads (λ x. (x.0.items, x.1.now)) result ((list_form (λ before. note harts) [] count).taken bytes.now) }
 {
     let mut read = Vec::new(alloc);
     let mut rest = bytes;
@@ -55,7 +55,7 @@ fn read_note(bytes: &[u8], harts: u8) -> Result<(Note, &[u8]), SnapRefusal>
 }
 
 // The fields behind a kind.
-#[tactic(auto, unfolding(snapshot_form::specs::JournalForms::note_behind, snapshot_form::specs::JournalForms::denied))]
+#[tactic(auto, unfolding(snapshot_form::specs::JournalForms::note_behind, snapshot_form::specs::JournalForms::denied_note))]
 fn read_note_behind(bytes: &[u8], harts: u8, kind: u64) -> Result<(Note, &[u8]), SnapRefusal>
     ensures { Gives (λ x. (x.0, x.1.now)) result ((note_behind harts kind).taken bytes.now) }
 {
@@ -91,9 +91,9 @@ fn read_demote(bytes: &[u8], harts: u8) -> Result<(Note, &[u8]), SnapRefusal>
     ))
 }
 
-#[tactic(auto, unfolding(snapshot_form::specs::JournalForms::denied))]
+#[tactic(auto, unfolding(snapshot_form::specs::JournalForms::denied_note))]
 fn read_denied(bytes: &[u8]) -> Result<(Note, &[u8]), SnapRefusal>
-    ensures { Gives (λ x. (x.0, x.1.now)) result (denied.taken bytes.now) }
+    ensures { Gives (λ x. (x.0, x.1.now)) result (denied_note.taken bytes.now) }
 {
     let (gpa, rest) = read_number(bytes)?;
     Ok((Note::Denied { gpa }, rest))

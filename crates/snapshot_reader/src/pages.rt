@@ -1,7 +1,7 @@
 // The bytes of protections and of the kernel's text.
 
 ghost use Rattle.std.specs.Prelude.{◌≡◌, []};
-ghost use Rattle.snapshot_form.specs.Forms.{listed};
+ghost use Rattle.snapshot_form.specs.Forms.{list_form};
 ghost use Rattle.snapshot_form.specs.PageForms.{is_above, last_page, pages, protection, protections, text, text_page};
 ghost use Rattle.snapshot_reader.specs.Reading.{Gives, Reads};
 ghost use Rattle.snapshot_reader.specs.Views.{pages_parts};
@@ -82,7 +82,7 @@ fn read_text_pages(
     count: u64,
     ram_pages: u32,
 ) -> Result<(Vec<TextPage>, &[u8]), ReadError>
-    ensures { Reads (λ x. (x.0.items, x.1.now)) result ((listed (text_page ram_pages) [] count).taken bytes.now) }
+    ensures { Reads (λ x. (x.0.items, x.1.now)) result ((list_form (text_page ram_pages) [] count).taken bytes.now) }
 {
     let mut read = Vec::new(alloc);
     let mut rest = bytes;

@@ -2,7 +2,7 @@
 
 ghost use Rattle.std.specs.Prelude.{◌≡◌, ◌<◌, Ok, Err, if◌then◌else◌};
 ghost use Rattle.snapshot_form.specs.Forms.{byte, number, plain};
-ghost use Rattle.snapshot_form.specs.HartForms.{aligned, flag, place};
+ghost use Rattle.snapshot_form.specs.HartForms.{multiple_of, flag, place};
 ghost use Rattle.snapshot_form.specs.JournalForms.{hart_number};
 ghost use Rattle.snapshot_form.specs.declared.refusal.SnapRefusal.TheVariants.{OutOfRange};
 ghost use Rattle.snapshot_reader.specs.Reading.{Gives};
@@ -62,10 +62,10 @@ pub(crate) fn read_flag(bytes: &[u8]) -> Result<(bool, &[u8]), SnapRefusal>
 }
 
 // A multiple of a size.
-#[tactic(auto, unfolding(snapshot_form::specs::HartForms::aligned))]
+#[tactic(auto, unfolding(snapshot_form::specs::HartForms::multiple_of))]
 pub(crate) fn read_aligned(bytes: &[u8], size: u64) -> Result<(u64, &[u8]), SnapRefusal>
     requires { 0 < size }
-    ensures { Gives (λ x. (x.0, x.1.now)) result ((aligned size).taken bytes.now) }
+    ensures { Gives (λ x. (x.0, x.1.now)) result ((multiple_of size).taken bytes.now) }
 {
     let (n, rest) = read_number(bytes)?;
     in_range(n % size == 0)?;
@@ -86,7 +86,7 @@ pub(crate) fn read_place(bytes: &[u8]) -> Result<(Option<u8>, &[u8]), SnapRefusa
 
 // An instruction's address.
 pub(crate) fn read_pc(bytes: &[u8]) -> Result<(u64, &[u8]), SnapRefusal>
-    ensures { Gives (λ x. (x.0, x.1.now)) result ((aligned 4).taken bytes.now) }
+    ensures { Gives (λ x. (x.0, x.1.now)) result ((multiple_of 4).taken bytes.now) }
 {
     read_aligned(bytes, INSTRUCTION_BYTES)
 }

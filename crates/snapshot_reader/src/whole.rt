@@ -4,7 +4,7 @@ ghost use Rattle.std.specs.Prelude.{◌≡◌, ◌≤◌, ◌*◌, true, Ok, IfO
 ghost use Rattle.processor.specs.Bytes.{page_size};
 ghost use Rattle.sv_types.specs.Limits.{most_harts};
 ghost use Rattle.snapshot_form.specs.Forms.{plain};
-ghost use Rattle.snapshot_form.specs.Snapshots.{Contents, beginning, body, contents, hart_count, header, magic, page_count, snapshot, snapshot_read, whole_of};
+ghost use Rattle.snapshot_form.specs.Snapshots.{Contents, magic_form, body, contents, hart_count, header, magic, page_count, snapshot, snapshot_read, whole_of};
 ghost use Rattle.snapshot_reader.specs.Reading.{Gives, Reads};
 ghost use Rattle.snapshot_reader.specs.Views.{body_parts, header_view};
 
@@ -138,7 +138,7 @@ fn read_header(bytes: &[u8]) -> Result<(Header, &[u8]), SnapRefusal>
 
 #[tactic(auto, unfolding(snapshot_form::specs::Snapshots::magic_at))]
 fn read_magic(bytes: &[u8]) -> Result<&[u8], SnapRefusal>
-    ensures { Gives (λ rest. (magic, rest.now)) result (beginning.taken bytes.now) }
+    ensures { Gives (λ rest. (magic, rest.now)) result (magic_form.taken bytes.now) }
 {
     let Some((front, rest)) = bytes.split_first_chunk::<8>() else {
         return Err(SnapRefusal::OtherLength);

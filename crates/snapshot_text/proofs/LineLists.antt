@@ -5,29 +5,29 @@ use Rattle.std.proofs.lemmas.List.{append-nil, drop_all}
 use Rattle.snapshot_text.specs.Lines.{lines_of, named_line}
 
 -- the lines that are left
-abbrev pub left : {A : Type 0} → (ℕ → A → List ℕ) → List A → ℕ → List ℕ
-left line xs i = lines_of line i (drop i xs)
+abbrev pub lines_from : {A : Type 0} → (ℕ → A → List ℕ) → List A → ℕ → List ℕ
+lines_from line xs i = lines_of line i (drop i xs)
 
 behind : (i : ℕ) → suc i ≡ i + 1
 behind i = omega arith
 
 left_is : {A : Type 0} (line : ℕ → A → List ℕ) (xs : List A) (i : ℕ) (d : A) → i < length xs →
-    left line xs i ≡ line i (get_or xs i d) ++ left line xs (i + 1)
+    lines_from line xs i ≡ line i (get_or xs i d) ++ lines_from line xs (i + 1)
 unfolding lines_of
 left_is line xs i d inside =
     ap (lines_of line i) (drop-cons xs i d inside)
     ∙ ap (λ n. line i (get_or xs i d) ++ lines_of line (i + 1) (drop n xs)) (behind i)
 
 pub one_more : {A : Type 0} (d : A) (line : ℕ → A → List ℕ) (xs : List A) (i : ℕ) (whole out next : List ℕ) → i < length xs →
-    out ++ left line xs i ≡ whole → next ≡ out ++ line i (get_or xs i d) → next ++ left line xs (i + 1) ≡ whole
+    out ++ lines_from line xs i ≡ whole → next ≡ out ++ line i (get_or xs i d) → next ++ lines_from line xs (i + 1) ≡ whole
 one_more d line xs i whole out next inside so_far pushed =
-    ap (λ bytes. bytes ++ left line xs (i + 1)) pushed
-    ∙ append_assoc out (line i (get_or xs i d)) (left line xs (i + 1))
+    ap (λ bytes. bytes ++ lines_from line xs (i + 1)) pushed
+    ∙ append_assoc out (line i (get_or xs i d)) (lines_from line xs (i + 1))
     ∙ ap (λ bytes. out ++ bytes) (sym (left_is line xs i d inside))
     ∙ so_far
 
 pub all_written : {A : Type 0} (line : ℕ → A → List ℕ) (xs : List A) (i : ℕ) (whole out : List ℕ) → length xs ≤ i →
-    out ++ left line xs i ≡ whole → out ≡ whole
+    out ++ lines_from line xs i ≡ whole → out ≡ whole
 unfolding lines_of
 all_written line xs i whole out end so_far =
     sym (append-nil out) ∙ ap (λ rest. out ++ lines_of line i rest) (sym (drop_all i xs end)) ∙ so_far
@@ -41,9 +41,9 @@ name_at f (x ∷ xs) (suc i) d e inside = name_at f xs i d e (omega arith)
 -- the line of a value more, by the name at its place
 pub named_more : {A : Type 0} (f : A → List ℕ) (names : List A) (values : List ℕ) (i : ℕ) (d : A) (e : ℕ) (whole out next text line : List ℕ) →
     length values ≤ length names → i < length values →
-    out ++ left (λ place value. named_line (get_or (map f names) place []) value) values i ≡ whole →
+    out ++ lines_from (λ place value. named_line (get_or (map f names) place []) value) values i ≡ whole →
     next ≡ out ++ text → text ≡ line → line ≡ named_line (f (get_or names i d)) (get_or values i e) →
-    next ++ left (λ place value. named_line (get_or (map f names) place []) value) values (i + 1) ≡ whole
+    next ++ lines_from (λ place value. named_line (get_or (map f names) place []) value) values (i + 1) ≡ whole
 named_more f names values i d e whole out next text line enough inside so_far pushed text_is line_is =
     one_more e (λ place value. named_line (get_or (map f names) place []) value) values i whole out next inside so_far
     (pushed ∙ ap (λ bytes. out ++ bytes) (text_is ∙ line_is

@@ -28,7 +28,7 @@ fn beats_done(status: BlockStatus) -> u64
     }
 }
 
-#[tactic(auto, unfolding(snapshot_form::specs::DeviceForms::block, snapshot_form::specs::DeviceForms::standing, snapshot_form::specs::DeviceForms::transfer))]
+#[tactic(auto, unfolding(snapshot_form::specs::DeviceForms::block, snapshot_form::specs::DeviceForms::standing_status, snapshot_form::specs::DeviceForms::transfer))]
 pub(crate) fn write_block(out: &mut Vec<u8>, state: &BlockState) -> Result<(), AllocError>
     ensures { OnOk result (out.new.items ≡ out.old.items ++ block.spell state.now) }
 {

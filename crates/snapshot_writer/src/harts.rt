@@ -21,7 +21,7 @@ pub(crate) fn write_harts(out: &mut Vec<u8>, saved: &[SavedHart]) -> Result<(), 
     Ok(())
 }
 
-#[tactic(auto, unfolding(snapshot_form::specs::HartForms::hart, snapshot_form::specs::HartForms::aligned, snapshot_form::specs::HartForms::reservation))]
+#[tactic(auto, unfolding(snapshot_form::specs::HartForms::hart, snapshot_form::specs::HartForms::multiple_of, snapshot_form::specs::HartForms::reservation))]
 fn write_hart(out: &mut Vec<u8>, h: &SavedHart) -> Result<(), AllocError>
     ensures spelled { (ram_pages : ℕ) → OnOk result (out.new.items ≡ out.old.items ++ (hart ram_pages).spell h.now) }
     ensures typed { OnOk result (is_typed_hart h.now ≡ true) }

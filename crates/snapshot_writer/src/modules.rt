@@ -3,7 +3,7 @@
 ghost use Rattle.std.specs.Prelude.{◌≡◌, ℕ, Bool, List, ◌++◌, true, Some, OnOk};
 ghost use Rattle.std.specs.List.{list_all};
 ghost use Rattle.saved_machine.specs.declared.harts.SavedHart.{SavedHart};
-ghost use Rattle.snapshot_form.specs.PageForms.{gate, load, loading, module_within, modules};
+ghost use Rattle.snapshot_form.specs.PageForms.{gate, load, load_under_way, module_within, modules};
 ghost use Rattle.snapshot_form.specs.Typed.{are_words, is_typed_module, load_numbers};
 
 use crate::values::{write_flag, write_number};
@@ -33,7 +33,7 @@ fn write_modules(out: &mut Vec<u8>, loaded: &[SavedModule]) -> Result<(), AllocE
     Ok(())
 }
 
-#[tactic(auto, unfolding(snapshot_form::specs::PageForms::module_within, snapshot_form::specs::HartForms::aligned))]
+#[tactic(auto, unfolding(snapshot_form::specs::PageForms::module_within, snapshot_form::specs::HartForms::multiple_of))]
 fn write_module(out: &mut Vec<u8>, m: &SavedModule) -> Result<(), AllocError>
     ensures spelled { (good : ℕ → Bool) → OnOk result (out.new.items ≡ out.old.items ++ (module_within good).spell m.now) }
     ensures typed { OnOk result (is_typed_module m.now ≡ true) }
@@ -44,9 +44,9 @@ fn write_module(out: &mut Vec<u8>, m: &SavedModule) -> Result<(), AllocError>
     write_number(out, m.data_va)
 }
 
-#[tactic(auto, unfolding(snapshot_form::specs::PageForms::loading, snapshot_form::specs::PageForms::load_behind))]
+#[tactic(auto, unfolding(snapshot_form::specs::PageForms::load_under_way, snapshot_form::specs::PageForms::load_behind))]
 fn write_loading(out: &mut Vec<u8>, under_way: Option<SavedLoad>) -> Result<(), AllocError>
-    ensures spelled { (harts : List SavedHart) → OnOk result (out.new.items ≡ out.old.items ++ (loading harts).spell under_way) }
+    ensures spelled { (harts : List SavedHart) → OnOk result (out.new.items ≡ out.old.items ++ (load_under_way harts).spell under_way) }
     ensures typed { OnOk result (are_words (load_numbers under_way) ≡ true) }
 {
     let Some(under_way) = under_way else {

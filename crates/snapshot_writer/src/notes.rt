@@ -23,7 +23,7 @@ pub(crate) fn write_notes(out: &mut Vec<u8>, kept: &[Note]) -> Result<(), AllocE
     Ok(())
 }
 
-#[tactic(auto, unfolding(snapshot_form::specs::JournalForms::note, snapshot_form::specs::JournalForms::note_behind, snapshot_form::specs::JournalForms::demote, snapshot_form::specs::JournalForms::denied, snapshot_form::specs::JournalForms::load_note, snapshot_form::specs::JournalForms::unload, snapshot_form::specs::JournalForms::retire, snapshot_form::specs::JournalForms::answer, snapshot_form::specs::JournalForms::code, snapshot_form::specs::JournalForms::hart_number, snapshot_form::specs::HartForms::aligned))]
+#[tactic(auto, unfolding(snapshot_form::specs::JournalForms::note, snapshot_form::specs::JournalForms::note_behind, snapshot_form::specs::JournalForms::demote, snapshot_form::specs::JournalForms::denied_note, snapshot_form::specs::JournalForms::load_note, snapshot_form::specs::JournalForms::unload, snapshot_form::specs::JournalForms::retire, snapshot_form::specs::JournalForms::answer, snapshot_form::specs::JournalForms::code, snapshot_form::specs::JournalForms::hart_number, snapshot_form::specs::HartForms::multiple_of))]
 fn write_note(out: &mut Vec<u8>, n: Note) -> Result<(), AllocError>
     ensures spelled { (harts : ℕ) → OnOk result (out.new.items ≡ out.old.items ++ (note harts).spell n) }
     ensures typed { OnOk result (is_typed_note n ≡ true) }

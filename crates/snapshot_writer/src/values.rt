@@ -1,7 +1,7 @@
 // Numbers, and what is spelled as one.
 
 ghost use Rattle.std.specs.Prelude.{◌≡◌, ◌++◌, true, OnOk};
-ghost use Rattle.snapshot_form.specs.Forms.{measured, spell_number};
+ghost use Rattle.snapshot_form.specs.Forms.{counted_bytes, spell_number};
 ghost use Rattle.snapshot_form.specs.HartForms.{address_number, flag, place};
 
 use std::alloc::AllocError;
@@ -39,7 +39,7 @@ pub(crate) fn write_address(out: &mut Vec<u8>, address: Option<u64>) -> Result<(
 
 // The number of bytes, and the bytes.
 pub(crate) fn write_measured(out: &mut Vec<u8>, bytes: &[u8]) -> Result<(), AllocError>
-    ensures { OnOk result (out.new.items ≡ out.old.items ++ (measured (λ _. true)).spell bytes.now) }
+    ensures { OnOk result (out.new.items ≡ out.old.items ++ (counted_bytes (λ _. true)).spell bytes.now) }
 {
     write_number(out, bytes.len() as u64)?;
     out.extend_from_slice(bytes)

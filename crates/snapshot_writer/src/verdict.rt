@@ -10,7 +10,7 @@ use snapshot_form::verdict_kind::{RUNNING, SHUTDOWN, STOPPED_ENTRY, STOPPED_WRIT
 use std::alloc::AllocError;
 use sv_types::{Rule, Verdict};
 
-#[tactic(auto, unfolding(snapshot_form::specs::JournalForms::verdict, snapshot_form::specs::JournalForms::verdict_behind, snapshot_form::specs::JournalForms::stopped_entry, snapshot_form::specs::JournalForms::stopped_write, snapshot_form::specs::JournalForms::hart_number, snapshot_form::specs::HartForms::aligned))]
+#[tactic(auto, unfolding(snapshot_form::specs::JournalForms::verdict, snapshot_form::specs::JournalForms::verdict_behind, snapshot_form::specs::JournalForms::stopped_entry, snapshot_form::specs::JournalForms::stopped_write, snapshot_form::specs::JournalForms::hart_number, snapshot_form::specs::HartForms::multiple_of))]
 pub(crate) fn write_verdict(out: &mut Vec<u8>, v: Verdict) -> Result<(), AllocError>
     ensures spelled { (harts : ℕ) → OnOk result (out.new.items ≡ out.old.items ++ (verdict harts).spell v) }
     ensures typed { OnOk result (are_words (verdict_numbers v) ≡ true) }

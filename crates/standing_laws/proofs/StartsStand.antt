@@ -3,7 +3,7 @@ use Rattle.std.proofs.Common.{◌≡◌, ℕ, zero, suc, ◌+◌, ◌-◌, ◌*�
 use Rattle.std.specs.Prelude.{Option, Some, None, if◌then◌else◌, is_some, IsTrue}
 use Rattle.std.proofs.lemmas.List.{length-map, length-replicate}
 use Rattle.sv_types.specs.Boot.{flat_ram_pages}
-use Rattle.processor.specs.Bytes.{padded, page_bytes, page_size, ram_base}
+use Rattle.processor.specs.Bytes.{with_padding, page_bytes, page_size, ram_base}
 use Rattle.sv_types.specs.ApprovedPages.{approved_pages, numbers_from}
 use Rattle.processor.specs.HypervisorRegisters.{registers_at_boot}
 use Rattle.sv_types.specs.Kernel.{header_entry, kernel_refusal, kernel_segments, segments_ram, text_pages}
@@ -146,9 +146,9 @@ flat_new : (tables pages digest : List ℕ) → length pages ≤ page_size * fla
     → IsNew (flat_machine tables pages digest) (flat_start pages digest)
 unfolding flat_machine flat_start
 flat_new tables pages digest fits guarded =
-    given_new tables (flat_rules digest) (padded pages (page_size * flat_ram_pages)) (numbers_from 0 (length pages / page_size)) ram_base (block_disk []) (flat_protections pages)
+    given_new tables (flat_rules digest) (with_padding pages (page_size * flat_ram_pages)) (numbers_from 0 (length pages / page_size)) ram_base (block_disk []) (flat_protections pages)
     (flat_can pages digest fits) (block_quiet [])
-    (start_protections (flat_rules digest) (padded pages (page_size * flat_ram_pages)) (numbers_from 0 (length pages / page_size)) ram_base (block_disk [])
+    (start_protections (flat_rules digest) (with_padding pages (page_size * flat_ram_pages)) (numbers_from 0 (length pages / page_size)) ram_base (block_disk [])
     ∙ sym (held_and_approved flat_ram_pages (length pages / page_size))) guarded
 
 image_new : (tables : List ℕ) (rules : Rules) (file : List ℕ) (disk : Disk)

@@ -1,7 +1,7 @@
 -- The machine before its first event, and that it stands for the start of the reference machine. This project's own.
 use Rattle.std.specs.Prelude.{◌≡◌, ℕ, ◌-◌, ◌*◌, ◌/◌, ◌≤◌, Bool, true, false, List, [], ◌∷◌, length, map, replicate, None, IsTrue}
 use Rattle.sv_types.specs.Boot.{no_counts, flat_ram_pages}
-use Rattle.processor.specs.Bytes.{padded, page_size, ram_base}
+use Rattle.processor.specs.Bytes.{with_padding, page_size, ram_base}
 use Rattle.sv_types.specs.Clock.{clock_at_boot}
 use Rattle.processor.specs.HypervisorRegisters.{registers_at_boot}
 use Rattle.sv_types.specs.Kernel.{LoadedSegment, header_entry, kernel_refusal, kernel_segments, segments_ram, text_pages}
@@ -74,7 +74,7 @@ abbrev pub flat_protections : List ℕ → List Protection
 flat_protections pages = first_approved (length pages / page_size)
 
 abbrev pub flat_ram : List ℕ → List ℕ
-flat_ram pages = padded pages (page_size * flat_ram_pages)
+flat_ram pages = with_padding pages (page_size * flat_ram_pages)
 
 -- pages at the start of RAM, where the hart begins; no disk
 unfoldable pub flat_machine : (tables pages digest : List ℕ) → Machine

@@ -59,12 +59,12 @@ after_register_load queue (Some Data) = without_first queue
 after_register_load queue (Some Status) = queue
 
 -- what a load gives, none where there is no such register, and the queue behind it
-abbrev pub loaded : List ℕ → ℕ → ℕ → Option ℕ
-loaded queue offset width = option_map (register_value queue) (loaded_register offset width)
+abbrev pub console_load : List ℕ → ℕ → ℕ → Option ℕ
+console_load queue offset width = option_map (register_value queue) (loaded_register offset width)
 
 abbrev pub after_load : List ℕ → ℕ → ℕ → List ℕ
 after_load queue offset width = after_register_load queue (loaded_register offset width)
 
 -- the byte that a store prints, none where there is no such register
-abbrev pub stored : ℕ → ℕ → ℕ → Option ℕ
-stored offset width value = if offset == data_offset && width == 1 then Some (value % 256) else None
+abbrev pub stored_byte : ℕ → ℕ → ℕ → Option ℕ
+stored_byte offset width value = if offset == data_offset && width == 1 then Some (value % 256) else None

@@ -3,7 +3,7 @@
 use Rattle.std.specs.Prelude.{ℕ, ◌+◌, ◌-◌, ◌*◌, ◌%◌, Bool, false, not, ◌&&◌, ◌||◌, List, [], ◌∷◌, ◌++◌, length, replicate, map, filter, flat_map, fold, find, ◌==◌, if◌then◌else◌, nat_le, nat_lt, Option, Some, None}
 use Rattle.std.specs.List.{list_any}
 use Rattle.processor.specs.Bits.{bit}
-use Rattle.processor.specs.Bytes.{word, part, padded, overwrite, ram_place, page_size, page_of, is_in_ram}
+use Rattle.processor.specs.Bytes.{word, part, with_padding, overwrite, ram_place, page_size, page_of, is_in_ram}
 use Rattle.sv_types.specs.ApprovedPages.{numbers_from}
 use Rattle.processor.specs.Regions.{most_ram_pages}
 use Rattle.sv_types.specs.Elf.{file_header_size, ei_class, ei_data, ei_version, e_type, e_machine, e_version, e_entry, e_phoff, e_flags, e_phentsize, e_phnum, elf_magic, elfclass64, elfdata2lsb, ev_current, et_exec, em_riscv, ef_riscv_tso, program_header_size, p_flags, p_offset, p_vaddr, p_paddr, p_filesz, p_memsz, pt_load, pf_x_bit, pf_w_bit}
@@ -145,7 +145,7 @@ kernel_segments file = map (loaded_segment file) (loaded_headers file)
 
 -- RAM with a segment's bytes and zeros at its place
 abbrev pub with_segment : List ℕ → LoadedSegment → List ℕ
-with_segment ram s = overwrite ram (ram_place s.gpa) (padded s.bytes s.memory)
+with_segment ram s = overwrite ram (ram_place s.gpa) (with_padding s.bytes s.memory)
 
 -- zeros, with each segment at its place; the later one wins
 unfoldable pub segments_ram : List LoadedSegment → ℕ → List ℕ
@@ -169,7 +169,7 @@ filled_part page s = part s.bytes (page_size * (page - page_of s.gpa)) page_size
 -- a page of text, with zeros behind the file's bytes; nothing where the page is none
 abbrev pub text_page_in : ℕ → Option LoadedSegment → List ℕ
 text_page_in page None = []
-text_page_in page (Some s) = padded (filled_part page s) page_size
+text_page_in page (Some s) = with_padding (filled_part page s) page_size
 
 abbrev pub text_page : List LoadedSegment → ℕ → List ℕ
 text_page ss page = text_page_in page (find (is_text_of page) ss)

@@ -1,5 +1,5 @@
 // The name of a file, of a module or of an export.
-ghost use Rattle.processor.specs.Bytes.{padded};
+ghost use Rattle.processor.specs.Bytes.{with_padding};
 ghost use Rattle.std.specs.Prelude.{◌≡◌, ◌<◌, ◌≤◌, length, IsSome, IfSome};
 ghost use Rattle.sv_types.specs.Limits.{most_name_bytes};
 
@@ -37,7 +37,7 @@ impl Model for Name {
 
 fn with_zeros(text: &[u8]) -> [u8; MOST_NAME_BYTES]
     requires { length text.now ≤ most_name_bytes }
-    ensures { result ≡ padded text.now most_name_bytes }
+    ensures { result ≡ with_padding text.now most_name_bytes }
 {
     let mut bytes = [0u8; MOST_NAME_BYTES];
     bytes[..text.len()].copy_from_slice(text);

@@ -5,7 +5,7 @@ use Rattle.processor.specs.declared.exit.Exit.{Exit}
 use Rattle.processor.specs.declared.mode.Mode.{Mode}
 use Rattle.hart.specs.declared.hart.Hart.{Hart}
 use Rattle.reference.specs.States.{Binding}
-use Rattle.machine_model.specs.Served.{Seen, transformed, plain_answer, entry_answer, is_fetch_exit}
+use Rattle.machine_model.specs.Served.{Seen, transformed_effect, plain_answer, entry_answer, is_fetch_exit}
 use Rattle.machine_model.specs.declared.exits.ExitAnswer.{ExitAnswer}
 
 abbrev pub seen_on : (ram : List ℕ) → Hart → Mode → (entry : Option Binding) → Exit → Seen
@@ -14,7 +14,7 @@ seen_on ram hart mode entry exit = record {
   mode = mode;
   pc = hart.core.pc;
   entry = entry;
-  effect = transformed exit.htinst hart.core.regs hart.core.pc;
+  effect = transformed_effect exit.htinst hart.core.regs hart.core.pc;
 }
 
 -- the answer, where the address of the entry is known

@@ -10,6 +10,7 @@ ghost use Rattle.page_guard.specs.Sides.{mode_of, entry_of};
 ghost use Rattle.hart_answers.specs.Hosts.{host_at};
 ghost use Rattle.trap_answers.specs.Possible.{IsPossible};
 ghost use Rattle.trap_answers.specs.Seen.{answer_at, seen_on};
+ghost use Rattle.processor.specs.Bytes.{instruction_size};
 
 use crate::accesses::{load_answer, write_answer};
 use crate::fetches::{entry_answer, fetch_answer, is_fetch, raises, virtual_answer};
@@ -24,7 +25,7 @@ use processor::{Cause, Exit, ExitCause, Mode};
 /// The answer to an exit. In an entry a refused fetch is the end of the hart's stay there; else the guest takes its interrupts,
 /// and those exceptions that have no answer of their own.
 pub fn exit_answer(mem: &HostMem, seat: &Seat, entries: &Entries, exit: &Exit) -> ExitAnswer
-    requires aligned { seat.now.hart.core.pc % 4 ≡ 0 }
+    requires aligned { seat.now.hart.core.pc % instruction_size ≡ 0 }
     ensures answer { (rules : Rules) → rules.entries ≡ entries.now.entries → rules.bound ≡ entries.now.bound → result ≡ exit_answer (host_seen mem.now.ram rules (host_at seat.now) (mode_of seat.now.side) exit.now) exit.now }
     ensures possible { IsPossible (mode_of seat.now.side) result }
 {
@@ -51,7 +52,7 @@ fn answer_at(
     address: Option<u64>,
     exit: &Exit,
 ) -> ExitAnswer
-    requires aligned { hart.now.core.pc % 4 ≡ 0 }
+    requires aligned { hart.now.core.pc % instruction_size ≡ 0 }
     ensures answer { (entry : Option Binding) → result ≡ answer_at (seen_on mem.now.ram hart.now mode entry exit.now) exit.now address }
     ensures possible { IsPossible mode result }
 {
@@ -71,7 +72,7 @@ fn answer_at(
 #[tactic(auto, unfolding(machine_model::specs::Served::plain_answer))]
 #[inline(always)]
 fn plain_answer(mem: &HostMem, hart: &Hart, mode: Mode, exit: &Exit) -> ExitAnswer
-    requires aligned { hart.now.core.pc % 4 ≡ 0 }
+    requires aligned { hart.now.core.pc % instruction_size ≡ 0 }
     ensures answer { (entry : Option Binding) → result ≡ plain_answer (seen_on mem.now.ram hart.now mode entry exit.now) exit.now }
     ensures possible { IsPossible mode result }
 {

@@ -4,7 +4,8 @@ ghost use Rattle.std.specs.Prelude.{◌≡◌, ◌%◌, IfSome, IsTrue};
 ghost use Rattle.processor.specs.Encoding.{fits};
 ghost use Rattle.processor.specs.Effects.{effect_of};
 ghost use Rattle.processor.specs.Requests.{IsRequest};
-ghost use Rattle.machine_model.specs.Served.{transformed};
+ghost use Rattle.machine_model.specs.Served.{transformed_effect};
+ghost use Rattle.processor.specs.Bytes.{instruction_size};
 
 use hart::Hart;
 use processor::Effect;
@@ -14,7 +15,7 @@ use rv64_exec::effect;
 // What an instruction asks on a hart.
 #[tactic(auto, using(processor_laws::proofs::EffectRequests::is_request))]
 fn asked(hart: &Hart, instr: &Instr) -> Effect
-    requires aligned { hart.now.core.pc % 4 ≡ 0 }
+    requires aligned { hart.now.core.pc % instruction_size ≡ 0 }
     requires fits { IsTrue (fits instr.now) }
     ensures effect { result ≡ effect_of instr.now hart.now.core.regs hart.now.core.pc }
     ensures request { IsRequest result }
@@ -23,10 +24,10 @@ fn asked(hart: &Hart, instr: &Instr) -> Effect
 }
 
 /// What the transformed instruction of an exit asks, of which the address doesn't count.
-#[tactic(auto, unfolding(machine_model::specs::Served::transformed))]
+#[tactic(auto, unfolding(machine_model::specs::Served::transformed_effect))]
 pub(crate) fn transformed(hart: &Hart, htinst: u32) -> Option<Effect>
-    requires aligned { hart.now.core.pc % 4 ≡ 0 }
-    ensures effect { result ≡ transformed htinst hart.now.core.regs hart.now.core.pc }
+    requires aligned { hart.now.core.pc % instruction_size ≡ 0 }
+    ensures effect { result ≡ transformed_effect htinst hart.now.core.regs hart.now.core.pc }
     ensures request { IfSome result IsRequest }
 {
     match decode(htinst) {

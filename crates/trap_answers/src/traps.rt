@@ -10,6 +10,7 @@ ghost use Rattle.reference.specs.States.{Journal as Records};
 ghost use Rattle.page_guard.specs.Sides.{mode_of};
 ghost use Rattle.hart_answers.specs.Hosts.{host_at};
 ghost use Rattle.trap_answers.specs.Answered.{with_hart};
+ghost use Rattle.processor.specs.Bytes.{instruction_size};
 
 use hart_answers::{Seat, Trap, demote, return_from_trap, send_again, take_trap};
 use journal_records::Journal;
@@ -19,22 +20,22 @@ use sv_types::Rule;
 /// A trap of the guest: it comes to its handler, or, from user mode to a target that isn't permitted, the machine stops.
 #[inline(always)]
 pub fn guest_trap(
-    which: u8,
+    hart: u8,
     seat: &mut Seat,
     guard: &Guard,
     entries: &Entries,
     journal: &mut Journal,
     trap: Trap,
 )
-    requires aligned { seat.old.hart.core.pc % 4 ≡ 0 }
+    requires aligned { seat.old.hart.core.pc % instruction_size ≡ 0 }
     requires counts { MayCount journal.old.counts }
-    ensures machine { (m : Machine) → m.rules.entries ≡ entries.now.entries → m.rules.bound ≡ entries.now.bound → with_hart m which (host_at seat.new) journal.new ≡ host_trap (with_hart m which (host_at seat.old) journal.old) which (host_at seat.old) (mode_of seat.old.side) (is_interrupt trap.cause) (guest_number trap.cause) trap.tval }
+    ensures machine { (m : Machine) → m.rules.entries ≡ entries.now.entries → m.rules.bound ≡ entries.now.bound → with_hart m hart (host_at seat.new) journal.new ≡ host_trap (with_hart m hart (host_at seat.old) journal.old) hart (host_at seat.old) (mode_of seat.old.side) (is_interrupt trap.cause) (guest_number trap.cause) trap.tval }
 {
     let from = seat.side.mode();
     match take_trap(&mut seat.hart, &mut seat.side, guard, entries, trap) {
         Ok(()) => journal.count_trap(from),
         Err(forbidden) => journal.stop(
-            which,
+            hart,
             Rule::Entry {
                 target: forbidden.target,
             },
@@ -55,11 +56,11 @@ pub fn guest_return(seat: &mut Seat, guard: &Guard, journal: &mut Journal)
 
 /// Kernel mode is left, with a note.
 #[tactic(auto, using(crate::proofs::Places::update_there))]
-pub fn guest_demotion(which: u8, seat: &mut Seat, guard: &Guard, journal: &mut Journal, gpa: u64)
+pub fn guest_demotion(hart: u8, seat: &mut Seat, guard: &Guard, journal: &mut Journal, gpa: u64)
     requires counts { MayCount journal.old.counts }
-    ensures machine { (m : Machine) → with_hart m which (host_at seat.new) journal.new ≡ host_demote (with_hart m which (host_at seat.old) journal.old) which (host_at seat.old) gpa }
+    ensures machine { (m : Machine) → with_hart m hart (host_at seat.new) journal.new ≡ host_demote (with_hart m hart (host_at seat.old) journal.old) hart (host_at seat.old) gpa }
 {
-    journal.demote(which, seat.hart.core.pc, gpa);
+    journal.demote(hart, seat.hart.core.pc, gpa);
     demote(&mut seat.hart, &mut seat.side, guard);
 }
 
@@ -72,11 +73,11 @@ pub fn leave_entry(seat: &mut Seat, guard: &Guard)
 }
 
 /// The machine stops, since a hart was to write a protected page.
-pub fn stop_at_write(which: u8, seat: &Seat, journal: &mut Journal, gpa: u64)
-    ensures machine { (m : Machine) → with_hart m which (host_at seat.now) journal.new ≡ host_write_stopped (with_hart m which (host_at seat.now) journal.old) which (host_at seat.now) gpa }
+pub fn stop_at_write(hart: u8, seat: &Seat, journal: &mut Journal, gpa: u64)
+    ensures machine { (m : Machine) → with_hart m hart (host_at seat.now) journal.new ≡ host_write_stopped (with_hart m hart (host_at seat.now) journal.old) hart (host_at seat.now) gpa }
 {
     journal.stop(
-        which,
+        hart,
         Rule::Write {
             pc: seat.hart.core.pc,
             gpa,

@@ -3,6 +3,7 @@
 ghost use Rattle.std.specs.Prelude.{◌≡◌, ◌%◌};
 ghost use Rattle.processor.specs.HypervisorRegisters.{registers_at_trap, registers_at_return, registers_at_exit};
 ghost use Rattle.processor.specs.Traps.{is_interrupt, guest_number, trap_target, trap_cause, status_at_trap, status_at_return, mode_at_return};
+ghost use Rattle.processor.specs.Bytes.{instruction_size};
 
 use csr_file::{Csrs, SIE, SIE_PLACE, SPIE, SPIE_PLACE, SPP, SPP_PLACE};
 use processor::{Exit, ExitCause, Mode, has_bit, with_bits};
@@ -70,7 +71,7 @@ pub fn target(csrs: &Csrs, cause: ExitCause) -> u64
 /// Enters the guest's kernel from a mode by a trap at a pc. Gives where it goes on, in kernel mode.
 #[tactic(auto, unfolding(processor::specs::HypervisorRegisters::registers_at_trap))]
 pub fn into_guest(csrs: &mut Csrs, from: Mode, cause: ExitCause, tval: u64, pc: u64) -> u64
-    requires { pc % 4 ≡ 0 }
+    requires { pc % instruction_size ≡ 0 }
     ensures target { result ≡ trap_target csrs.old.vstvec (is_interrupt cause) (guest_number cause) }
     ensures aligned { result % 4 ≡ 0 }
     ensures registers { csrs.new ≡ registers_at_trap csrs.old from pc (is_interrupt cause) (guest_number cause) tval }
@@ -86,7 +87,7 @@ pub fn into_guest(csrs: &mut Csrs, from: Mode, cause: ExitCause, tval: u64, pc: 
 #[tactic(auto, unfolding(processor::specs::HypervisorRegisters::registers_at_exit))]
 #[inline(always)]
 pub fn into_hypervisor(csrs: &mut Csrs, exit: Exit) -> Exit
-    requires { exit.pc % 4 ≡ 0 }
+    requires { exit.pc % instruction_size ≡ 0 }
     ensures exit { result ≡ exit }
     ensures registers { csrs.new ≡ registers_at_exit csrs.old exit }
 {

@@ -28,33 +28,33 @@ place_more q placed before =
 
 -- ---- a part is passed
 
-abbrev pub passed : VirtioRequest → VirtioRequest
-passed q = record q { part = q.part + 1; offset = 0 }
+abbrev pub at_next_part : VirtioRequest → VirtioRequest
+at_next_part q = record q { part = q.part + 1; offset = 0 }
 
-passed_place : (q : VirtioRequest) → IsPlaced q → q.part < last_place q → q.offset ≡ (part_at q q.part).len → disk_place (passed q) ≡ disk_place q
+passed_place : (q : VirtioRequest) → IsPlaced q → q.part < last_place q → q.offset ≡ (part_at q q.part).len → disk_place (at_next_part q) ≡ disk_place q
 passed_place q placed before all =
     let more = place_more q placed before in
     omega (arith, more, all)
 
-passed_moves : (accepted : ℕ) (q : VirtioRequest) → IsPlaced q → q.part < last_place q → q.offset ≡ (part_at q q.part).len → moves_left accepted (passed q) ≡ moves_left accepted q
+passed_moves : (accepted : ℕ) (q : VirtioRequest) → IsPlaced q → q.part < last_place q → q.offset ≡ (part_at q q.part).len → moves_left accepted (at_next_part q) ≡ moves_left accepted q
 unfolding moves_left
 passed_moves accepted q placed before all =
     let place = passed_place q placed before all in
     let old : data_moves (disk_place q) (data_left q) ≡ data_moves (disk_place q) (rest_of q) =
     ap (data_moves (disk_place q)) (left_first q.offset q placed.most placed.parts before) ∙ data_moves_passed (disk_place q) q.offset (part_at q q.part) (rest_of q) (sym all) in
-    let new : data_moves (disk_place (passed q)) (data_left (passed q)) ≡ data_moves (disk_place q) (rest_of q) =
-    ap (data_moves (disk_place (passed q))) (behind_none (rest_of q)) ∙ ap (λ (n : ℕ). data_moves n (rest_of q)) place in
+    let new : data_moves (disk_place (at_next_part q)) (data_left (at_next_part q)) ≡ data_moves (disk_place q) (rest_of q) =
+    ap (data_moves (disk_place (at_next_part q))) (behind_none (rest_of q)) ∙ ap (λ (n : ℕ). data_moves n (rest_of q)) place in
     ap (λ (moves : List VirtioMove). moves ++ last_left accepted q) (new ∙ sym old)
 
-passed_disk : (n : ℕ) (q : VirtioRequest) → IsPlaced q → q.part < last_place q → q.offset ≡ (part_at q q.part).len → IsOnDisk n q → IsOnDisk n (passed q)
+passed_disk : (n : ℕ) (q : VirtioRequest) → IsPlaced q → q.part < last_place q → q.offset ≡ (part_at q q.part).len → IsOnDisk n q → IsOnDisk n (at_next_part q)
 passed_disk n q placed before all on next =
     let place = passed_place q placed before all in
     let left : bytes_in (data_left q) ≡ (part_at q q.part).len - q.offset + bytes_in (rest_of q) = ap bytes_in (left_first q.offset q placed.most placed.parts before) in
-    let new : bytes_in (data_left (passed q)) ≡ bytes_in (rest_of q) = ap bytes_in (behind_none (rest_of q)) in
+    let new : bytes_in (data_left (at_next_part q)) ≡ bytes_in (rest_of q) = ap bytes_in (behind_none (rest_of q)) in
     let there = on before in
     omega (arith, place, left, new, there)
 
-pub passed_placed : (q : VirtioRequest) → IsPlaced q → q.part < last_place q → IsPlaced (passed q)
+pub passed_placed : (q : VirtioRequest) → IsPlaced q → q.part < last_place q → IsPlaced (at_next_part q)
 passed_placed q placed before = record {
   parts = placed.parts;
   least = placed.least;
@@ -72,7 +72,7 @@ passed_placed q placed before = record {
   used = placed.used;
 }
 
-pub passed_same : (start q : VirtioRequest) → IsSame start q → IsPlaced q → q.part < last_place q → q.offset ≡ (part_at q q.part).len → IsSame start (passed q)
+pub passed_same : (start q : VirtioRequest) → IsSame start q → IsPlaced q → q.part < last_place q → q.offset ≡ (part_at q q.part).len → IsSame start (at_next_part q)
 passed_same start q same placed before all = record {
   moves = λ accepted. passed_moves accepted q placed before all ∙ same.moves accepted;
   disk = λ n on. passed_disk n q placed before all (same.disk n on);
@@ -81,31 +81,31 @@ passed_same start q same placed before all = record {
 
 -- ---- a piece is moved
 
-abbrev pub moved : VirtioRequest → ℕ → VirtioRequest
-moved q size = record q { offset = q.offset + size }
+abbrev pub with_offset_raised : VirtioRequest → ℕ → VirtioRequest
+with_offset_raised q size = record q { offset = q.offset + size }
 
-pub moved_moves : (accepted : ℕ) (q : VirtioRequest) (n : ℕ) → IsPlaced q → q.part < last_place q → q.offset < (part_at q q.part).len → n ≡ piece_size ((part_at q q.part).gpa + q.offset) ((part_at q q.part).len - q.offset) → moves_left accepted q ≡ piece (part_at q q.part).write ((part_at q q.part).gpa + q.offset) (disk_place q) n ∷ moves_left accepted (moved q n)
+pub moved_moves : (accepted : ℕ) (q : VirtioRequest) (n : ℕ) → IsPlaced q → q.part < last_place q → q.offset < (part_at q q.part).len → n ≡ piece_size ((part_at q q.part).gpa + q.offset) ((part_at q q.part).len - q.offset) → moves_left accepted q ≡ piece (part_at q q.part).write ((part_at q q.part).gpa + q.offset) (disk_place q) n ∷ moves_left accepted (with_offset_raised q n)
 unfolding moves_left
 moved_moves accepted q n placed before some is =
     let x = part_at q q.part in
     let cut : VirtioPart = record x { gpa = x.gpa + q.offset; len = x.len - q.offset } in
     let first = data_moves_first (disk_place q) n cut (rest_of q) (omega (arith, some)) is in
     let left : data_left q ≡ cut ∷ rest_of q = left_first q.offset q placed.most placed.parts before in
-    let next : behind n (cut ∷ rest_of q) ≡ data_left (moved q n) = behind_more q.offset n (x ∷ rest_of q) ∙ sym (left_first (q.offset + n) q placed.most placed.parts before) in
-    let place : disk_place q + n ≡ disk_place (moved q n) = omega arith in
-    let all_data : data_moves (disk_place q) (data_left q) ≡ piece x.write (x.gpa + q.offset) (disk_place q) n ∷ data_moves (disk_place (moved q n)) (data_left (moved q n)) =
+    let next : behind n (cut ∷ rest_of q) ≡ data_left (with_offset_raised q n) = behind_more q.offset n (x ∷ rest_of q) ∙ sym (left_first (q.offset + n) q placed.most placed.parts before) in
+    let place : disk_place q + n ≡ disk_place (with_offset_raised q n) = omega arith in
+    let all_data : data_moves (disk_place q) (data_left q) ≡ piece x.write (x.gpa + q.offset) (disk_place q) n ∷ data_moves (disk_place (with_offset_raised q n)) (data_left (with_offset_raised q n)) =
     ap (data_moves (disk_place q)) left ∙ first
     ∙ ap (λ (parts : List VirtioPart). piece x.write (x.gpa + q.offset) (disk_place q) n ∷ data_moves (disk_place q + n) parts) next
-    ∙ ap (λ (at : ℕ). piece x.write (x.gpa + q.offset) (disk_place q) n ∷ data_moves at (data_left (moved q n))) place in
+    ∙ ap (λ (at : ℕ). piece x.write (x.gpa + q.offset) (disk_place q) n ∷ data_moves at (data_left (with_offset_raised q n))) place in
     ap (λ (moves : List VirtioMove). moves ++ last_left accepted q) all_data
 
-moved_bytes : (q : VirtioRequest) (n : ℕ) → IsPlaced q → q.part < last_place q → bytes_in (data_left (moved q n)) ≡ (part_at q q.part).len - (q.offset + n) + bytes_in (rest_of q)
+moved_bytes : (q : VirtioRequest) (n : ℕ) → IsPlaced q → q.part < last_place q → bytes_in (data_left (with_offset_raised q n)) ≡ (part_at q q.part).len - (q.offset + n) + bytes_in (rest_of q)
 moved_bytes q n placed before = ap bytes_in (left_first (q.offset + n) q placed.most placed.parts before)
 
 left_bytes : (q : VirtioRequest) → IsPlaced q → q.part < last_place q → bytes_in (data_left q) ≡ (part_at q q.part).len - q.offset + bytes_in (rest_of q)
 left_bytes q placed before = ap bytes_in (left_first q.offset q placed.most placed.parts before)
 
-pub moved_disk : (disk_size : ℕ) (q : VirtioRequest) (n : ℕ) → IsPlaced q → q.part < last_place q → n ≤ (part_at q q.part).len - q.offset → IsOnDisk disk_size q → IsOnDisk disk_size (moved q n)
+pub moved_disk : (disk_size : ℕ) (q : VirtioRequest) (n : ℕ) → IsPlaced q → q.part < last_place q → n ≤ (part_at q q.part).len - q.offset → IsOnDisk disk_size q → IsOnDisk disk_size (with_offset_raised q n)
 moved_disk disk_size q n placed before most on next =
     let new = moved_bytes q n placed before in
     let old = left_bytes q placed before in

@@ -4,11 +4,11 @@ ghost use Rattle.std.specs.Prelude.{◌≡◌, ℕ, ◌++◌, ◌+◌, ◌-◌, 
 ghost use Rattle.processor.specs.Bytes.{ram_place};
 ghost use Rattle.reference.specs.VirtioStores.{is_size};
 ghost use Rattle.processor.specs.Regions.{Region};
-ghost use Rattle.dma_guard.specs.Transfers.{told, after_move};
+ghost use Rattle.dma_guard.specs.Transfers.{beat_of, after_move};
 ghost use Rattle.reference.specs.VirtioQueue.{rings_in_ram, available_index, next_head};
 ghost use Rattle.reference.specs.VirtioChain.{no_part, data_of, result_of, chain, most_parts};
 ghost use Rattle.reference.specs.VirtioRequests.{type_of, sector_of, result_by, moves_by, last_moves};
-ghost use Rattle.reference.specs.VirtioBeats.{accepted, accept, look};
+ghost use Rattle.reference.specs.VirtioBeats.{accept_request, accept, look};
 ghost use Rattle.saved_machine.specs.VirtioStates.{request_of};
 ghost use Rattle.virtio_blk.specs.Held.{HaveRings, HasHeader, IsPlaced, IsOnDisk, device_of, padded_parts, new_of};
 ghost use Rattle.reference.specs.VirtioDevice.{index_values};
@@ -177,7 +177,7 @@ impl Virtio {
     }
 
     // The device accepts the request that a chain asks for.
-    #[tactic(auto, unfolding(reference::specs::VirtioBeats::accepted))]
+    #[tactic(auto, unfolding(reference::specs::VirtioBeats::accept_request))]
     fn begin(&mut self, ram: &[u8], head: u64, parts: &[VirtioPart])
         requires header { HasHeader ram.now parts.now }
         requires most { length parts.now ≤ most_parts }
@@ -185,7 +185,7 @@ impl Virtio {
         requires ready { self.old.state.ready ≡ true }
         requires rings { HaveRings (device_of self.old) ram.now }
         requires small { length ram.now < 2 ^ 62 }
-        ensures { device_of self.new ≡ accepted (device_of self.old) ram.now head parts.now }
+        ensures { device_of self.new ≡ accept_request (device_of self.old) ram.now head parts.now }
     {
         let state = &self.state;
         let request = next_request(ram, self.bytes.len(), state.used, state.size, head, parts);
@@ -201,7 +201,7 @@ impl Virtio {
         requires rings { HaveRings (device_of self.old) ram.now }
         requires small { length ram.now < 2 ^ 62 }
         ensures device { device_of self.new ≡ (accept (device_of self.old) ram.now head (chain most_parts ram.now (ram_place self.old.state.descriptors) self.old.state.size head)).device }
-        ensures told { result ≡ told (accept (device_of self.old) ram.now head (chain most_parts ram.now (ram_place self.old.state.descriptors) self.old.state.size head)).move }
+        ensures told { result ≡ beat_of (accept (device_of self.old) ram.now head (chain most_parts ram.now (ram_place self.old.state.descriptors) self.old.state.size head)).move }
         ensures still { (region : Region) → after_move region (accept (device_of self.old) ram.now head (chain most_parts ram.now (ram_place self.old.state.descriptors) self.old.state.size head)).move ≡ region }
     {
         let table = ram_place(self.state.descriptors) as usize;
@@ -223,7 +223,7 @@ impl Virtio {
     pub(crate) fn look(&mut self, mem: &HostMem) -> Beaten
         requires ready { self.old.state.ready ≡ true }
         ensures device { device_of self.new ≡ (look (device_of self.old) mem.now.ram).device }
-        ensures told { result ≡ told (look (device_of self.old) mem.now.ram).move }
+        ensures told { result ≡ beat_of (look (device_of self.old) mem.now.ram).move }
         ensures still { (region : Region) → after_move region (look (device_of self.old) mem.now.ram).move ≡ region }
     {
         // RAM's size is known after this call.

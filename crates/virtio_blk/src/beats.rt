@@ -5,8 +5,8 @@ ghost use Rattle.processor.specs.Bytes.{page_size, overwrite, low_bytes};
 ghost use Rattle.reference.specs.BlockDisk.{beat_size};
 ghost use Rattle.reference.specs.Disk.{is_writable};
 ghost use Rattle.reference.specs.Move.{OutsideRam};
-ghost use Rattle.dma_guard.specs.Transfers.{told, after_move};
-ghost use Rattle.reference.specs.VirtioBeats.{broken, refused, with_written, with_request, finished, is_last, make, make_first, to_memory, to_disk, put_last, is_live, virtio_beat};
+ghost use Rattle.dma_guard.specs.Transfers.{beat_of, after_move};
+ghost use Rattle.reference.specs.VirtioBeats.{broken_beat, last_moves_alone, with_written, with_request, finish_request, is_last, make, make_first, to_memory, to_disk, put_last, is_live, virtio_beat};
 ghost use Rattle.saved_machine.specs.VirtioStates.{request_of, moves_left};
 ghost use Rattle.virtio_blk.specs.Held.{IsPlaced, IsOnDisk, CanBeMade, device_of};
 
@@ -44,7 +44,7 @@ fn with_written(request: &VirtioRequest, size: u64) -> VirtioRequest
 fn without_data(request: &VirtioRequest) -> VirtioRequest
     requires placed { IsPlaced request.now }
     requires first { request.now.tail ≡ 0 }
-    ensures request { (accepted : ℕ) → request_of accepted result ≡ refused (request_of accepted request.now) }
+    ensures request { (accepted : ℕ) → request_of accepted result ≡ last_moves_alone (request_of accepted request.now) }
     ensures placed { IsPlaced result }
     ensures on_disk { (disk_size : ℕ) → IsOnDisk disk_size result }
 {
@@ -94,7 +94,7 @@ impl Virtio {
 
     // The device is broken until its reset.
     pub(crate) fn break_down(&mut self)
-        ensures { device_of self.new ≡ (broken (device_of self.old) OutsideRam).device }
+        ensures { device_of self.new ≡ (broken_beat (device_of self.old) OutsideRam).device }
     {
         self.state.status |= NEEDS_RESET;
         self.state.interrupt |= STATE_CHANGED;
@@ -112,7 +112,7 @@ impl Virtio {
 
     // The request is done.
     fn finish(&mut self)
-        ensures { device_of self.new ≡ finished (device_of self.old) }
+        ensures { device_of self.new ≡ finish_request (device_of self.old) }
     {
         self.state.request = None;
         self.state.interrupt |= REQUEST_DONE;
@@ -137,7 +137,7 @@ impl Virtio {
         requires on_disk { IsOnDisk (length self.old.bytes) request.now }
         requires first { request.now.tail ≡ 0 }
         ensures device { device_of self.new ≡ (to_memory (device_of self.old) (request_of self.old.state.accepted request.now) gpa place size mem.old.ram (is_writable guard.now)).device }
-        ensures told { result ≡ told (to_memory (device_of self.old) (request_of self.old.state.accepted request.now) gpa place size mem.old.ram (is_writable guard.now)).move }
+        ensures told { result ≡ beat_of (to_memory (device_of self.old) (request_of self.old.state.accepted request.now) gpa place size mem.old.ram (is_writable guard.now)).move }
         ensures memory { mem.new ≡ after_move mem.old (to_memory (device_of self.old) (request_of self.old.state.accepted request.now) gpa place size mem.old.ram (is_writable guard.now)).move }
     {
         let from = place as usize;
@@ -175,7 +175,7 @@ impl Virtio {
         requires placed { IsPlaced request.now }
         requires on_disk { IsOnDisk (length self.old.bytes) request.now }
         ensures device { device_of self.new ≡ (put_last (device_of self.old) (with_request (device_of self.old) (request_of self.old.state.accepted request.now)) gpa bytes.now mem.old.ram (is_writable guard.now)).device }
-        ensures told { result ≡ told (put_last (device_of self.old) (with_request (device_of self.old) (request_of self.old.state.accepted request.now)) gpa bytes.now mem.old.ram (is_writable guard.now)).move }
+        ensures told { result ≡ beat_of (put_last (device_of self.old) (with_request (device_of self.old) (request_of self.old.state.accepted request.now)) gpa bytes.now mem.old.ram (is_writable guard.now)).move }
         ensures memory { mem.new ≡ after_move mem.old (put_last (device_of self.old) (with_request (device_of self.old) (request_of self.old.state.accepted request.now)) gpa bytes.now mem.old.ram (is_writable guard.now)).move }
     {
         match guard.write(mem, gpa, bytes) {
@@ -207,9 +207,9 @@ impl Virtio {
         mem: &mut HostMem,
     ) -> Beaten
         requires one_page { gpa % page_size + 2 ≤ page_size }
-        ensures device { device_of self.new ≡ (put_last (device_of self.old) (finished (device_of self.old)) gpa bytes.now mem.old.ram (is_writable guard.now)).device }
-        ensures told { result ≡ told (put_last (device_of self.old) (finished (device_of self.old)) gpa bytes.now mem.old.ram (is_writable guard.now)).move }
-        ensures memory { mem.new ≡ after_move mem.old (put_last (device_of self.old) (finished (device_of self.old)) gpa bytes.now mem.old.ram (is_writable guard.now)).move }
+        ensures device { device_of self.new ≡ (put_last (device_of self.old) (finish_request (device_of self.old)) gpa bytes.now mem.old.ram (is_writable guard.now)).device }
+        ensures told { result ≡ beat_of (put_last (device_of self.old) (finish_request (device_of self.old)) gpa bytes.now mem.old.ram (is_writable guard.now)).move }
+        ensures memory { mem.new ≡ after_move mem.old (put_last (device_of self.old) (finish_request (device_of self.old)) gpa bytes.now mem.old.ram (is_writable guard.now)).move }
     {
         match guard.write(mem, gpa, bytes) {
             Ok(()) => {
@@ -250,7 +250,7 @@ impl Virtio {
         requires placed { IsPlaced request.now }
         requires on_disk { IsOnDisk (length self.old.bytes) request.now }
         ensures device { device_of self.new ≡ (to_disk (device_of self.old) (request_of self.old.state.accepted request.now) gpa place size mem.now.ram).device }
-        ensures told { result ≡ told (to_disk (device_of self.old) (request_of self.old.state.accepted request.now) gpa place size mem.now.ram).move }
+        ensures told { result ≡ beat_of (to_disk (device_of self.old) (request_of self.old.state.accepted request.now) gpa place size mem.now.ram).move }
         ensures memory { after_move mem.now (to_disk (device_of self.old) (request_of self.old.state.accepted request.now) gpa place size mem.now.ram).move ≡ mem.now }
     {
         let ram = mem.ram();
@@ -278,7 +278,7 @@ impl Virtio {
         requires made { CanBeMade (length self.old.bytes) next }
         requires data_first { is_last next ≡ false → request.now.tail ≡ 0 }
         ensures device { device_of self.new ≡ (make (device_of self.old) (request_of self.old.state.accepted request.now) next mem.old.ram (is_writable guard.now)).device }
-        ensures told { result ≡ told (make (device_of self.old) (request_of self.old.state.accepted request.now) next mem.old.ram (is_writable guard.now)).move }
+        ensures told { result ≡ beat_of (make (device_of self.old) (request_of self.old.state.accepted request.now) next mem.old.ram (is_writable guard.now)).move }
         ensures memory { mem.new ≡ after_move mem.old (make (device_of self.old) (request_of self.old.state.accepted request.now) next mem.old.ram (is_writable guard.now)).move }
     {
         match next {
@@ -310,7 +310,7 @@ impl Virtio {
         requires fits { IsOnDisk (2 ^ 63) request }
         requires under_way { self.old.state.request ≡ Some request }
         ensures device { device_of self.new ≡ (make_first (device_of self.old) (request_of self.old.state.accepted request) (moves_left self.old.state.accepted request) mem.old.ram (is_writable guard.now)).device }
-        ensures told { result ≡ told (make_first (device_of self.old) (request_of self.old.state.accepted request) (moves_left self.old.state.accepted request) mem.old.ram (is_writable guard.now)).move }
+        ensures told { result ≡ beat_of (make_first (device_of self.old) (request_of self.old.state.accepted request) (moves_left self.old.state.accepted request) mem.old.ram (is_writable guard.now)).move }
         ensures memory { mem.new ≡ after_move mem.old (make_first (device_of self.old) (request_of self.old.state.accepted request) (moves_left self.old.state.accepted request) mem.old.ram (is_writable guard.now)).move }
     {
         let Some(next) = take_move(&mut request, self.state.accepted) else {
@@ -323,7 +323,7 @@ impl Virtio {
     #[tactic(auto, unfolding(reference::specs::VirtioBeats::virtio_beat))]
     pub(crate) fn make_beat(&mut self, guard: &DmaGuard, mem: &mut HostMem) -> Beaten
         ensures device { device_of self.new ≡ (virtio_beat (device_of self.old) mem.old.ram (is_writable guard.now)).device }
-        ensures told { result ≡ told (virtio_beat (device_of self.old) mem.old.ram (is_writable guard.now)).move }
+        ensures told { result ≡ beat_of (virtio_beat (device_of self.old) mem.old.ram (is_writable guard.now)).move }
         ensures memory { mem.new ≡ after_move mem.old (virtio_beat (device_of self.old) mem.old.ram (is_writable guard.now)).move }
     {
         if !self.is_live() {

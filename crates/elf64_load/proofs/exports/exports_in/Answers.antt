@@ -9,7 +9,7 @@ use Rattle.elf64_sections.specs.Sections.{Tables}
 use Rattle.elf64_sections.specs.Views.{tables_view}
 use Rattle.elf64_load.specs.Addresses as at_name
 use Rattle.elf64_load.specs.Exports.{address_of, export_at, export_of}
-use Rattle.elf64_load.specs.Refusals.{Judged, Refuses, answered}
+use Rattle.elf64_load.specs.Refusals.{Judged, Refuses, as_answer}
 use Rattle.elf64_load.specs.declared.read.ElfRefusal.TheVariants.{Fault, Memory}
 use Rattle.elf64_load.proofs.exports.exports_in.Goals as goal
 
@@ -42,25 +42,25 @@ module _ (tables : Tables) (exports : List Export) (names : List (List ℕ)) (i 
       → ((wanted : List ℕ) → look wanted ≡ address_of tables wanted) → Err fault ≡ export_at name (look name)
       → each (export_of tables) exports (drop i names) ≡ each (export_of tables) [] names → Refuses (each (export_of tables) [] names) (Fault fault)
   refused_next fault name within item known is so_far not_memory =
-      ap (λ (judged : Judged (List Export)). answered judged) (sym so_far ∙ at_next name (Err fault) within item known is)
+      ap (λ (judged : Judged (List Export)). as_answer judged) (sym so_far ∙ at_next name (Err fault) within item known is)
 
 pub names-preserved : goal.names-preserved
 names-preserved c =
     let l = c.names in
-    export_more (tables_view c.args.tables.now) l.exports.items c.args.names.now l.name-index (at_name.found c.in_ok-addresses.addresses) c.push.new.self.items c.in_ok-export.export
+    export_more (tables_view c.args.tables.now) l.exports.items c.args.names.now l.name-index (at_name.address_by_name c.in_ok-addresses.addresses) c.push.new.self.items c.in_ok-export.export
     c.name-item.result c.names-test.true c.name-item.is c.in_ok-addresses.ensures c.in_ok-export.ensures c.in_ok-push.ensures.items l.invariant
 
 pub returns-clause-ok : goal.returns-clause-ok
 returns-clause-ok c =
     let l = c.names in
-    all_found (tables_view c.args.tables.now) l.exports.items c.args.names.now l.name-index (at_name.found c.in_ok-addresses.addresses) c.names-test.false l.invariant
+    all_found (tables_view c.args.tables.now) l.exports.items c.args.names.now l.name-index (at_name.address_by_name c.in_ok-addresses.addresses) c.names-test.false l.invariant
 
 pub returns-in_err-export-clause-refused : goal.returns-in_err-export-clause-refused
 returns-in_err-export-clause-refused c =
     let l = c.names in
     refusal_known (Refuses (each (export_of (tables_view c.args.tables.now)) [] c.args.names.now)) c.from_residual-in_err-export.result (Fault c.in_err-export.field-0.0)
     c.from_residual-in_err-export.ensures.1
-    (refused_next (tables_view c.args.tables.now) l.exports.items c.args.names.now l.name-index (at_name.found c.in_ok-addresses.addresses) c.in_err-export.field-0.0
+    (refused_next (tables_view c.args.tables.now) l.exports.items c.args.names.now l.name-index (at_name.address_by_name c.in_ok-addresses.addresses) c.in_err-export.field-0.0
     c.name-item.result c.names-test.true c.name-item.is c.in_ok-addresses.ensures c.in_err-export.ensures l.invariant)
 
 pub returns-in_err-push-clause-refused : goal.returns-in_err-push-clause-refused

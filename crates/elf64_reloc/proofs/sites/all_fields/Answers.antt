@@ -5,7 +5,7 @@ use Rattle.elf64_sections.proofs.Refusals.{refusal_known}
 use Rattle.sv_types.specs.Steps.{◌>>=◌}
 use Rattle.elf64_reloc.specs.JudgingViews.{judging_view}
 use Rattle.elf64_reloc.specs.Modules.{Judging, each_judged, fields_judged, found_sites}
-use Rattle.elf64_reloc.specs.Refusals.{Judged, Refuses, answered}
+use Rattle.elf64_reloc.specs.Refusals.{Judged, Refuses, as_answer}
 use Rattle.elf64_reloc.specs.declared.fault.ObjectFault.{ObjectFault}
 use Rattle.elf64_reloc.specs.declared.refusal.RelocRefusal.TheVariants.{Fault, Memory}
 use Rattle.elf64_reloc.specs.declared.relocations.Relocation.{Relocation}
@@ -18,7 +18,7 @@ refused_next : (j : Judging) (sites : List Site) (fault : ObjectFault) (relocati
     → Err fault ≡ fields_judged j (get_or relocations i d) → each_judged j sites (drop i relocations) ≡ each_judged j [] relocations
     → Refuses (each_judged j [] relocations) (Fault fault)
 refused_next j sites fault relocations i d within bad so_far not_memory =
-    ap (λ (judged : Judged (List Site)). answered judged)
+    ap (λ (judged : Judged (List Site)). as_answer judged)
     (sym so_far
     ∙ ap (λ (rs : List Relocation). each_judged j sites rs) (drop_more relocations i d within)
     ∙ ap (λ (judged : Judged Found). judged >>= λ f. each_judged j (sites ++ found_sites f) (drop (i + 1) relocations)) (sym bad))

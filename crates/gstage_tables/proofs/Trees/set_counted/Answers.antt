@@ -4,7 +4,7 @@ use Rattle.processor.specs.Regions.{Region}
 use Rattle.sv_types.specs.Views.{protect}
 use Rattle.sv_types.specs.declared.protection.Protection.{Protection}
 use Rattle.sv_types.specs.Protections.{is_free}
-use Rattle.gstage_tables.specs.Blocks.{is_whole_by, lies_in_ram, recounted, CountsTaken}
+use Rattle.gstage_tables.specs.Blocks.{is_whole_by, lies_in_ram, count_after, CountsTaken}
 use Rattle.gstage_tables.specs.Layout.{Shape, AreDrawn, leaf_tables, tree_count, table_pages, sight_in, middle_word, HoldsTrees}
 use Rattle.gstage_tables.specs.Written.{Wrote}
 use Rattle.gstage_tables.specs.Protecting.{Protects}
@@ -15,11 +15,11 @@ use Rattle.gstage_tables.proofs.Writes.{holds_pages_set}
 use Rattle.gstage_tables.proofs.Trees.set_counted.Goals as goal
 
 -- the count as the definition has it
-count_is : (count block page : ℕ) (was x w y : Bool) (counts : List ℕ) → count ≡ recounted (slice_index_or counts block 0) w y → block ≡ page / 512 → w ≡ was → y ≡ x
-    → count ≡ recounted (slice_index_or counts (page / 512) 0) was x
+count_is : (count block page : ℕ) (was x w y : Bool) (counts : List ℕ) → count ≡ count_after (slice_index_or counts block 0) w y → block ≡ page / 512 → w ≡ was → y ≡ x
+    → count ≡ count_after (slice_index_or counts (page / 512) 0) was x
 count_is count block page was x w y counts e b f g =
-    e ∙ ap (λ (i : ℕ). recounted (slice_index_or counts i 0) w y) b ∙ ap (λ (v : Bool). recounted (slice_index_or counts (page / 512) 0) v y) f
-    ∙ ap (recounted (slice_index_or counts (page / 512) 0) was) g
+    e ∙ ap (λ (i : ℕ). count_after (slice_index_or counts i 0) w y) b ∙ ap (λ (v : Bool). count_after (slice_index_or counts (page / 512) 0) v y) f
+    ∙ ap (count_after (slice_index_or counts (page / 512) 0) was) g
 
 -- what is drawn is seen and mapped
 protects_by : (before after : Region) (trees new : Shape) (page : ℕ) (protection : Protection) → new ≡ record trees { counts = new.counts } → after.ram ≡ before.ram
@@ -49,7 +49,7 @@ returns-clause-protects g c =
     let seen : c.self.inside.counts ≡ counts = ap (λ (trees : Shape). trees.counts) c.self.view_is in
     let reach : page / 512 < length counts = subst (λ (b : ℕ). b < length counts) block c.block_of-block.ensures.counted in
     let count = count_is c.recounted-count.result c.block_of-block.result page (is_free (old page)) (is_free c.args.protection) c.is_free-was_free.result c.is_free.result counts
-    (c.recounted-count.ensures ∙ ap (λ (list : List ℕ). recounted (slice_index_or list c.block_of-block.result 0) c.is_free-was_free.result c.is_free.result) seen) block (c.is_free-was_free.ensures old h) c.is_free.ensures in
+    (c.recounted-count.ensures ∙ ap (λ (list : List ℕ). count_after (slice_index_or list c.block_of-block.result 0) c.is_free-was_free.result c.is_free.result) seen) block (c.is_free-was_free.ensures old h) c.is_free.ensures in
     let holds : HoldsTrees c.set_block.new.mem.tables pages bound (protect old page c.args.protection) =
     holds_pages_set c.args.mem.now.tables c.set_leaves.new.mem.tables c.set_block.new.mem.tables pages bound old page c.args.protection
     c.is_whole-before.result c.is_whole_with-after.result h c.requires.may.inside c.set_leaves.ensures.words

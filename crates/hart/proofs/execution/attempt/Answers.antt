@@ -1,6 +1,6 @@
 use Rattle.std.proofs.Common.{ap}
 use Rattle.processor.specs.Hardware.{Step, Attempted}
-use Rattle.processor.specs.HardwareMemory.{translated}
+use Rattle.processor.specs.HardwareMemory.{translation_result}
 use Rattle.processor.specs.declared.access.Access.TheVariants.{Fetch}
 use Rattle.processor_laws.proofs.HardwareWrites.{interrupt_writes, fetch_writes}
 use Rattle.hart.specs.Cores.{core_of}
@@ -13,4 +13,4 @@ returns-in-Some-clause-written g c =
 pub returns-in-None-clause-written : goal.returns-in-None-clause-written
 returns-in-None-clause-written g c =
     rw (ap (λ (a : Attempted). a.region) c.fetch.ensures.attempted, ap (λ (a : Attempted). a.outcome) c.fetch.ensures.attempted)
-    (fetch_writes c.args.mem.now (core_of c.args.core.now c.args.regs.now) (g.W.Wires.seen c.args.wires.now) (translated c.args.mem.now (core_of c.args.core.now c.args.regs.now) Fetch c.args.core.now.pc 0))
+    (fetch_writes c.args.mem.now (core_of c.args.core.now c.args.regs.now) (g.W.Wires.seen c.args.wires.now) (translation_result c.args.mem.now (core_of c.args.core.now c.args.regs.now) Fetch c.args.core.now.pc 0))

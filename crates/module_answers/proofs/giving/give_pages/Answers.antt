@@ -88,7 +88,7 @@ returns-in-BeginsLoad-clause-machine c = λ m.
     let may : MayBegin law c.args.mem.now.ram c.args.guard.now.pages modules c.in-BeginsLoad.about c.in-BeginsLoad.pages =
     subst (MayDo law c.args.mem.now.ram c.args.guard.now.pages modules) c.in-BeginsLoad.is (may_do law c.args.mem.now.ram c.args.guard.now.pages modules c.args.beside.now c.requires.given) in
     rw (c.in-BeginsLoad.is, c.begin_load.ensures.guard, c.begin_load.ensures.modules, c.begin_load.ensures.theirs.ram)
-    (begins m law c.args.mem.now c.args.which c.args.guard.now.pages modules c.begin_load.new.mem.tables c.in-BeginsLoad.about
+    (begins m law c.args.mem.now c.args.hart c.args.guard.now.pages modules c.begin_load.new.mem.tables c.in-BeginsLoad.about
     (pages_in_rule (slice_get law.modules c.in-BeginsLoad.about.id)) c.in-BeginsLoad.pages (ap pages_in_rule may.known ∙ may.number))
 
 pub returns-in-ApprovesModule-clause-machine : goal.returns-in-ApprovesModule-clause-machine
@@ -99,7 +99,7 @@ returns-in-ApprovesModule-clause-machine c = λ m.
     subst (MayDo law c.args.mem.now.ram c.args.guard.now.pages modules) c.in-ApprovesModule.is (may_do law c.args.mem.now.ram c.args.guard.now.pages modules c.args.beside.now c.requires.given) in
     let u = may.under_way in
     rw (c.in-ApprovesModule.is, sym may.about_it, at_load _ modules.loading u may.there c.approve_load.ensures.guard, at_load _ modules.loading u may.there c.approve_load.ensures.modules, c.approve_load.ensures.theirs.ram)
-    (approves m law c.args.mem.now c.args.which c.args.guard.now.pages modules c.approve_load.new.mem.tables u.load (takes_its_pages law modules u c.requires.joined may.there))
+    (approves m law c.args.mem.now c.args.hart c.args.guard.now.pages modules c.approve_load.new.mem.tables u.load (takes_its_pages law modules u c.requires.joined may.there))
 
 pub returns-in-ApprovesModule-clause-joined : goal.returns-in-ApprovesModule-clause-joined
 returns-in-ApprovesModule-clause-joined c =
@@ -117,7 +117,7 @@ returns-in-ReleasesModule-clause-machine c = λ m.
     subst (MayDo law c.args.mem.now.ram c.args.guard.now.pages modules) c.in-ReleasesModule.is (may_do law c.args.mem.now.ram c.args.guard.now.pages modules c.args.beside.now c.requires.given) in
     let u = may.under_way in
     rw (c.in-ReleasesModule.is, sym may.about_it, at_load _ modules.loading u may.there c.release_load.ensures.guard, at_load _ modules.loading u may.there c.release_load.ensures.modules, c.release_load.ensures.theirs.ram)
-    (releases m law c.args.mem.now c.args.which c.args.guard.now.pages modules c.release_load.new.mem.tables u.load (takes_its_pages law modules u c.requires.joined may.there))
+    (releases m law c.args.mem.now c.args.hart c.args.guard.now.pages modules c.release_load.new.mem.tables u.load (takes_its_pages law modules u c.requires.joined may.there))
 
 pub returns-in-ReleasesModule-clause-joined : goal.returns-in-ReleasesModule-clause-joined
 returns-in-ReleasesModule-clause-joined c =

@@ -1,10 +1,10 @@
 use Rattle.std.proofs.Common.{rules, ◌≡◌, ◌≤◌, arith, true, false, refl, get_or, length, sym}
 use Rattle.std.specs.Prelude.{◌==◌}
-use Rattle.page_guard.proofs.Places.{missed, missed_more, found_there, none_there}
+use Rattle.page_guard.proofs.Places.{is_not_among, missed_more, found_there, none_there}
 use Rattle.page_guard.proofs.entries.first_place.Goals as goal
 
 pub sought-init : goal.sought-init
-unfolding missed
+unfolding is_not_among
 sought-init c = refl
 
 pub returns-then-list-place : goal.returns-then-list-place

@@ -5,10 +5,10 @@ use Rattle.toml.specs.View.{table_view}
 use Rattle.policy.proofs.Texts.{table_of_valid, table_of_invalid}
 use Rattle.policy.proofs.text.table.Goals as goal
 use Rattle.policy_limits.specs.declared.policy_fault.PolicyFault.{PolicyFault}
-use Rattle.policy.specs.Refusals.{Judged, answered}
+use Rattle.policy.specs.Refusals.{Judged, as_answer}
 
 pub returns-in-Err-clause-refused : goal.returns-in-Err-clause-refused
-returns-in-Err-clause-refused c = λ _. ap (λ (j : Judged Members). answered j) (table_of_invalid c.args.bytes.now c.in-Err.ensures.cases.0)
+returns-in-Err-clause-refused c = λ _. ap (λ (j : Judged Members). as_answer j) (table_of_invalid c.args.bytes.now c.in-Err.ensures.cases.0)
 
 pub returns-in-Ok-table_from_str-clause-ok : goal.returns-in-Ok-table_from_str-clause-ok
 returns-in-Ok-table_from_str-clause-ok c =

@@ -7,7 +7,7 @@ use Rattle.sv_types.specs.Policies.{ModuleRule, module_rule}
 use Rattle.sv_types.specs.declared.policy.Export.{Export}
 use Rattle.sv_types.specs.declared.policy.ModulePolicy.{ModulePolicy}
 use Rattle.policy_making.specs.Making.{module_made, modules_made, file_of}
-use Rattle.policy_making.specs.Refusals.{Judged, Refuses, answered}
+use Rattle.policy_making.specs.Refusals.{Judged, Refuses, as_answer}
 use Rattle.policy_making.specs.declared.object_file.ObjectFile.{ObjectFile}
 use Rattle.policy_making.specs.declared.refusal.MakingRefusal.{MakingRefusal}
 use Rattle.policy_making.specs.declared.refusal.MakingRefusal.TheVariants.{Memory}
@@ -45,7 +45,7 @@ module _ (exports : List Export) (before : List ModulePolicy) (objects : List Ob
   refused_next : (object : ObjectFile) (refusal : MakingRefusal) → i < length objects → object ≡ get_or objects i object → Refuses (module_made exports (file_of object)) refusal
       → behind before (drop i objects) ≡ modules_made exports (map file_of objects) → Refuses (modules_made exports (map file_of objects)) refusal
   refused_next object refusal within is why so_far not_memory =
-      ap (λ (judged : Judged (List ModuleRule)). answered judged) (sym so_far ∙ at_next object within is)
+      ap (λ (judged : Judged (List ModuleRule)). as_answer judged) (sym so_far ∙ at_next object within is)
       ∙ refused_on (module_made exports (file_of object)) behind_next refusal (why not_memory)
 
 pub objects-preserved : goal.objects-preserved

@@ -15,8 +15,8 @@ use Rattle.policy_printing.proofs.printing.modules.Goals as goal
 abbrev print : ModulePolicy → Data
 print m = module_data (module_rule m)
 
-abbrev typed : ModulePolicy → Type 0
-typed m = IsModule (module_rule m)
+abbrev HasModuleRule : ModulePolicy → Type 0
+HasModuleRule m = IsModule (module_rule m)
 
 pub loop-item-preserved : goal.loop-item-preserved
 loop-item-preserved c =
@@ -25,7 +25,7 @@ loop-item-preserved c =
     let x = c.item-item.result in
     record {
       printed = rw c.in_ok-push.ensures.items (printed_more print c.loop-item.values.items c.in_ok-value.value xs i x c.loop-item-test.true c.item-item.is c.in_ok-value.ensures.printed c.loop-item.invariant.printed);
-      typed = All-more typed xs i x c.loop-item-test.true c.loop-item.invariant.typed (subst typed c.item-item.is c.in_ok-value.ensures.typed);
+      typed = All-more HasModuleRule xs i x c.loop-item-test.true c.loop-item.invariant.typed (subst HasModuleRule c.item-item.is c.in_ok-value.ensures.typed);
     }
 
 pub returns-clause-printed : goal.returns-clause-printed
@@ -35,4 +35,4 @@ returns-clause-printed c =
 
 pub returns-clause-typed : goal.returns-clause-typed
 returns-clause-typed c =
-    All-map IsModule module_rule c.args.modules.now (subst (All typed) (take_all c.loop-item.item-index c.args.modules.now c.loop-item-test.false) c.loop-item.invariant.typed)
+    All-map IsModule module_rule c.args.modules.now (subst (All HasModuleRule) (take_all c.loop-item.item-index c.args.modules.now c.loop-item-test.false) c.loop-item.invariant.typed)

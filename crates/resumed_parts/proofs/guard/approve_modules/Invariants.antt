@@ -2,11 +2,11 @@ use Rattle.std.proofs.Common.{◌≡◌, drop}
 use Rattle.sv_types.specs.Policies.{rules_of}
 use Rattle.sv_types.specs.declared.protection.Protection.TheVariants.{Approved}
 use Rattle.page_guard.specs.Guarded.{StaysTheirs}
-use Rattle.resumption.specs.Judgements.{loaded_pages, taken}
+use Rattle.resumption.specs.Judgements.{loaded_pages, take_pages}
 use Rattle.resumed_parts.proofs.guard.approve_modules.Given as goal
 
 -- the rest is to be approved behind those that were
 abbrev pub invariant-modules : goal.invariant-modules
 invariant-modules l =
-    (taken Approved l.fn.guard.pages (loaded_pages (rules_of l.policy) l.modules) ≡ taken Approved l.guard.pages (loaded_pages (rules_of l.policy) (drop l.about-index l.modules)))
+    (take_pages Approved l.fn.guard.pages (loaded_pages (rules_of l.policy) l.modules) ≡ take_pages Approved l.guard.pages (loaded_pages (rules_of l.policy) (drop l.about-index l.modules)))
     × StaysTheirs l.fn.mem l.mem l.fn.guard l.guard

@@ -12,7 +12,7 @@ use Rattle.resumed_start.specs.Resuming.{host_resumed, load_resumed}
 use Rattle.resumed_parts.specs.Seating.{CanAllSit}
 use Rattle.resumed_parts.proofs.Accepted.{known}
 use Rattle.resumed_parts.proofs.Approved.{guard_is, load_free}
-use Rattle.resumed_parts.proofs.Assembled.{devices_by, listed, pages_guarded, tables_stay}
+use Rattle.resumed_parts.proofs.Assembled.{devices_by, permitted_of, pages_guarded, tables_stay}
 use Rattle.resumed_parts.proofs.parts.assemble.Goals as goal
 
 pub copied_parts-requires-clause-each : goal.copied_parts-requires-clause-each
@@ -20,7 +20,7 @@ copied_parts-requires-clause-each c =
     let rules = rules_of c.args.policy.now in
     let s = contents c.args.snapshot in
     let k = known rules s c.requires.within c.requires.form c.requires.accepted in
-    subst (λ (n : ℕ). CanAllSit n (listed rules.entries rules.bound) s.harts) (sym (pages_guarded rules s c.args.guard.pages c.requires.guard)) k.sits
+    subst (λ (n : ℕ). CanAllSit n (permitted_of rules.entries rules.bound) s.harts) (sym (pages_guarded rules s c.args.guard.pages c.requires.guard)) k.sits
 
 pub copied_parts-requires-clause-notes : goal.copied_parts-requires-clause-notes
 copied_parts-requires-clause-notes c = (known (rules_of c.args.policy.now) (contents c.args.snapshot) c.requires.within c.requires.form c.requires.accepted).notes

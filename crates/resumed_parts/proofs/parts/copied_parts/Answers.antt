@@ -8,7 +8,7 @@ use Rattle.module_gate.specs.Ascending.{AscendsFrom}
 use Rattle.page_guard.specs.Permitted.{Permitted}
 use Rattle.resumed_start.specs.Resuming.{host_resumed}
 use Rattle.resumed_parts.specs.Seating.{CanAllSit}
-use Rattle.resumed_parts.proofs.Assembled.{gate_by, journal_by, listed}
+use Rattle.resumed_parts.proofs.Assembled.{gate_by, journal_by, permitted_of}
 use Rattle.resumed_parts.proofs.parts.copied_parts.Goals as goal
 use Rattle.sv_types.proofs.PolicyLimits.{bound_along, bound_few}
 
@@ -29,10 +29,10 @@ pub seats_of-requires-clause-each : goal.seats_of-requires-clause-each
 seats_of-requires-clause-each c =
     let rules = rules_of c.args.policy.now in
     let pages = length c.args.guard.now.pages in
-    let entries : c.in_ok-entries.entries ≡ listed rules.entries rules.bound =
+    let entries : c.in_ok-entries.entries ≡ permitted_of rules.entries rules.bound =
     c.in_ok-entries.ensures
-    ∙ ap (λ (xs : List ℕ). listed xs c.deref-2.result.now) c.deref.ensures.value
-    ∙ ap (listed rules.entries) c.deref-2.ensures.value in
+    ∙ ap (λ (xs : List ℕ). permitted_of xs c.deref-2.result.now) c.deref.ensures.value
+    ∙ ap (permitted_of rules.entries) c.deref-2.ensures.value in
     subst (λ (hs : List SavedHart). CanAllSit pages c.in_ok-entries.entries hs) (sym c.deref-3.ensures.value)
     (subst (λ (e : Permitted). CanAllSit pages e c.args.machine.now.harts.items) (sym entries) c.requires.each)
 
@@ -46,8 +46,8 @@ pub returns-clause-entries : goal.returns-clause-entries
 returns-clause-entries c =
     let rules = rules_of c.args.policy.now in
     c.in_ok-entries.ensures
-    ∙ ap (λ (xs : List ℕ). listed xs c.deref-2.result.now) c.deref.ensures.value
-    ∙ ap (listed rules.entries) c.deref-2.ensures.value
+    ∙ ap (λ (xs : List ℕ). permitted_of xs c.deref-2.result.now) c.deref.ensures.value
+    ∙ ap (permitted_of rules.entries) c.deref-2.ensures.value
 
 pub returns-clause-hosts : goal.returns-clause-hosts
 returns-clause-hosts c = c.in_ok-seats.ensures.hosts ∙ ap (λ (hs : List SavedHart). map (host_resumed c.args.tables) hs) c.deref-3.ensures.value

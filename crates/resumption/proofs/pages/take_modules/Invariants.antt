@@ -1,10 +1,10 @@
 use Rattle.std.proofs.Common.{◌≡◌, drop}
 use Rattle.sv_types.specs.Policies.{rules_of}
 use Rattle.sv_types.specs.declared.protection.Protection.TheVariants.{Approved}
-use Rattle.resumption.specs.Judgements.{loaded_pages, taken}
+use Rattle.resumption.specs.Judgements.{loaded_pages, take_pages}
 use Rattle.resumption.proofs.pages.take_modules.Given as goal
 
 -- the rest is to be taken behind those that were
 abbrev pub invariant-modules : goal.invariant-modules
 invariant-modules l =
-    taken Approved l.fn.guard (loaded_pages (rules_of l.policy) l.modules) ≡ taken Approved l.guard (loaded_pages (rules_of l.policy) (drop l.about-index l.modules))
+    take_pages Approved l.fn.guard (loaded_pages (rules_of l.policy) l.modules) ≡ take_pages Approved l.guard (loaded_pages (rules_of l.policy) (drop l.about-index l.modules))

@@ -1,11 +1,11 @@
 use Rattle.std.proofs.Common.{ℕ, ◌+◌, [], ◌∷◌, ap, subst}
-use Rattle.resumption.specs.Judgements.{taken}
+use Rattle.resumption.specs.Judgements.{take_pages}
 use Rattle.resumption.specs.Taking.{Takes}
 use Rattle.resumption.proofs.TakenLoops.{span_begins, span_goes_on, span_breaks, span_ends}
 use Rattle.resumption.proofs.pages.take_span.Goals as goal
 
 pub pages-init : goal.pages-init
-pages-init c = ap (taken c.args.protection c.args.guard.now) (span_begins c.args.first c.args.count)
+pages-init c = ap (take_pages c.args.protection c.args.guard.now) (span_begins c.args.first c.args.count)
 
 pub pages-preserved : goal.pages-preserved
 pages-preserved c =

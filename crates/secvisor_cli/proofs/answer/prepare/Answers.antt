@@ -1,6 +1,6 @@
 use Rattle.std.proofs.Common.{◌∙◌, map, string_bytes}
 use Rattle.secvisor_cli.specs.declared.ready.Stop.TheVariants.{Refused, Memory}
-use Rattle.secvisor_cli.specs.CommandLine.{judged}
+use Rattle.secvisor_cli.specs.CommandLine.{judgement_of_words}
 use Rattle.secvisor_cli.specs.Words.{command_of}
 use Rattle.secvisor_cli.specs.Plans.{plan_of}
 use Rattle.secvisor_cli.specs.Ready.{Prepares}
@@ -11,7 +11,7 @@ use Rattle.secvisor_cli.proofs.answer.prepare.Goals as goal
 
 pub returns-in_err-judge : goal.returns-in_err-judge
 returns-in_err-judge g c =
-    err_by _ (Refused c.in_err-judge.field-0.0) (λ r. Prepares (plan_of (judged (map string_bytes c.args.words.now))) (g.F.Files.state c.args.files.now) (g.F.Files.state c.args.files.now) r)
+    err_by _ (Refused c.in_err-judge.field-0.0) (λ r. Prepares (plan_of (judgement_of_words (map string_bytes c.args.words.now))) (g.F.Files.state c.args.files.now) (g.F.Files.state c.args.files.now) r)
     c.from_residual.ensures.1
     (words_refused _ c.in_err-judge.field-0.0 _ c.in_err-judge.ensures)
 
@@ -20,7 +20,7 @@ split-requires g c = has_command (map string_bytes c.args.words.now) c.in_ok-jud
 
 pub returns-in_err-words : goal.returns-in_err-words
 returns-in_err-words g c =
-    err_by _ Memory (λ r. Prepares (plan_of (judged (map string_bytes c.args.words.now))) (g.F.Files.state c.args.files.now) (g.F.Files.state c.args.files.now) r)
+    err_by _ Memory (λ r. Prepares (plan_of (judgement_of_words (map string_bytes c.args.words.now))) (g.F.Files.state c.args.files.now) (g.F.Files.state c.args.files.now) r)
     c.from_residual-in_err-words.ensures.1
     (words_want _ _ c.in_ok-judge.ensures)
 
@@ -29,7 +29,7 @@ read_words-requires g c = has_module_names (map string_bytes c.args.words.now) _
 
 pub returns-in_err-command : goal.returns-in_err-command
 returns-in_err-command g c =
-    err_by _ (Refused c.in_err-command.field-0.0) (λ r. Prepares (plan_of (judged (map string_bytes c.args.words.now))) (g.F.Files.state c.args.files.now) (g.F.Files.state c.args.files.now) r)
+    err_by _ (Refused c.in_err-command.field-0.0) (λ r. Prepares (plan_of (judgement_of_words (map string_bytes c.args.words.now))) (g.F.Files.state c.args.files.now) (g.F.Files.state c.args.files.now) r)
     c.from_residual-in_err-command.ensures.1
     (words_refused _ c.in_err-command.field-0.0 _ (judged_by_name (map string_bytes c.args.words.now) _ c.in_ok-words.ensures ∙ c.in_err-command.ensures.read))
 

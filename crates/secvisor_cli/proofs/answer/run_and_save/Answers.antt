@@ -1,7 +1,7 @@
 use Rattle.std.proofs.Common.{ℕ, List, sym, subst}
 use Rattle.std.specs.Option.{option_copied}
 use Rattle.sv_types.specs.Schedule.{first_events}
-use Rattle.secvisor_cli.specs.Plans.{saving}
+use Rattle.secvisor_cli.specs.Plans.{saving_of_bytes}
 use Rattle.secvisor_cli.specs.Reading.{MaySave}
 use Rattle.secvisor_cli.specs.Answers.{RunsAndSaves}
 use Rattle.secvisor_cli.proofs.ReadyLemmas.{err_by}
@@ -11,7 +11,7 @@ use Rattle.secvisor_cli.proofs.answer.run_and_save.Goals as goal
 pub save_disk-requires-clause-permitted : goal.save_disk-requires-clause-permitted
 save_disk-requires-clause-permitted g c =
     let it = c.requires.permitted in
-    subst (λ (bytes : List ℕ). MaySave (saving bytes (option_copied c.args.save)) (g.F.Files.state c.args.files.now)) (sym (c.in_ok-status.ensures.disk it.start it.new)) it.may
+    subst (λ (bytes : List ℕ). MaySave (saving_of_bytes bytes (option_copied c.args.save)) (g.F.Files.state c.args.files.now)) (sym (c.in_ok-status.ensures.disk it.start it.new)) it.may
 
 pub returns-in_err-status : goal.returns-in_err-status
 returns-in_err-status g c = λ start new.

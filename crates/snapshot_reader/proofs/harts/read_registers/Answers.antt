@@ -3,7 +3,7 @@ use Rattle.std.proofs.lemmas.List.{take-set-le, length-set}
 use Rattle.snapshot_form.specs.Forms.{all_taken, number}
 use Rattle.snapshot_form.specs.HartForms.{registers}
 use Rattle.snapshot_reader.proofs.ReadLists.{gives_refusal, ends}
-use Rattle.snapshot_reader.proofs.ReadRegisters.{filled, register_read, registers_done}
+use Rattle.snapshot_reader.proofs.ReadRegisters.{registers_up_to, register_read, registers_done}
 use Rattle.snapshot_reader.proofs.harts.read_registers.Goals as goal
 
 pub registers-preserved : goal.registers-preserved
@@ -19,7 +19,7 @@ pub returns-in_err-value-clause-values : goal.returns-in_err-value-clause-values
 unfolding registers
 returns-in_err-value-clause-values c =
     gives_refusal _ c.from_residual.result c.in_err-value.field-0.0 _ c.from_residual.ensures.1
-    (ends (λ before. number) c.in_err-value.field-0.0 (filled c.registers.i c.registers.registers) 31 c.registers.i c.registers.rest.now (all_taken (λ before. number) [] 31 c.args.bytes.now) c.registers-test.true c.in_err-value.ensures c.registers.invariant.so_far)
+    (ends (λ before. number) c.in_err-value.field-0.0 (registers_up_to c.registers.i c.registers.registers) 31 c.registers.i c.registers.rest.now (all_taken (λ before. number) [] 31 c.args.bytes.now) c.registers-test.true c.in_err-value.ensures c.registers.invariant.so_far)
 
 pub returns-clause-values : goal.returns-clause-values
 unfolding registers

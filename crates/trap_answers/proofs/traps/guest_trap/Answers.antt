@@ -10,7 +10,7 @@ returns-in-Ok c = record {
   machine = λ m same bound.
       rw (
         c.in-Ok.ensures.permitted m.rules same,
-        update_there m.harts c.args.which (host_at c.args.seat.now) (host_at_trap m.rules (is_interrupt c.args.trap.cause) (guest_number c.args.trap.cause) c.args.trap.tval),
+        update_there m.harts c.args.hart (host_at c.args.seat.now) (host_at_trap m.rules (is_interrupt c.args.trap.cause) (guest_number c.args.trap.cause) c.args.trap.tval),
         c.in-Ok.ensures.hart m.rules same bound,
         c.count_trap.ensures,
         c.mode-from.ensures,

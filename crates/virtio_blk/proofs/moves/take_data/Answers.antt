@@ -4,7 +4,7 @@ use Rattle.saved_machine.specs.VirtioStates.{part_at, disk_place, moves_left}
 use Rattle.virtio_blk.specs.Held.{CanBeMade}
 use Rattle.sv_types.specs.declared.virtio.VirtioMove.{VirtioMove}
 use Rattle.virtio_blk.proofs.DataMoves.{piece_size_most}
-use Rattle.virtio_blk.proofs.Places.{moved, moved_moves, moved_disk, piece_on_disk, piece_made}
+use Rattle.virtio_blk.proofs.Places.{with_offset_raised, moved_moves, moved_disk, piece_on_disk, piece_made}
 use Rattle.virtio_blk.proofs.moves.take_data.Goals as goal
 
 pub returns-clause-moves : goal.returns-clause-moves
@@ -15,7 +15,7 @@ returns-clause-moves c = λ accepted.
     let is : n ≡ piece_size (x.gpa + q.offset) (x.len - q.offset) = c.piece_size-size.ensures in
     let made : c.piece.result ≡ piece x.write (x.gpa + q.offset) (disk_place q) n = c.piece.ensures ∙ ap (λ (at : ℕ). piece x.write (x.gpa + q.offset) at n) c.disk_place-place.ensures in
     moved_moves accepted q n c.requires.placed c.requires.before c.requires.some is
-    ∙ ap (λ (move : VirtioMove). move ∷ moves_left accepted (moved q n)) (sym made)
+    ∙ ap (λ (move : VirtioMove). move ∷ moves_left accepted (with_offset_raised q n)) (sym made)
 
 pub returns-clause-disk : goal.returns-clause-disk
 returns-clause-disk c = λ disk_size on.

@@ -9,7 +9,7 @@ use Rattle.machine.proofs.machine.Machine.hart_turns.Goals as goal
 
 pub returns-then-made-most : goal.returns-then-made-most
 returns-then-made-most c = record {
-  chain = subst (λ (made : ℕ). Repeats made c.args.self.now (Turn c.args.which) c.row-row.new.self) (sym c.turns-made.ensures) c.row-row.ensures.chain;
+  chain = subst (λ (made : ℕ). Repeats made c.args.self.now (Turn c.args.hart) c.row-row.new.self) (sym c.turns-made.ensures) c.row-row.ensures.chain;
   counts = subst (λ (made : ℕ). (n : ℕ) → CountsAtMost n c.args.self.now.journal.counts → CountsAtMost (n + made) c.row-row.new.self.journal.counts)
       (sym c.turns-made.ensures) c.row-row.ensures.counts;
   some = search rules;
@@ -24,8 +24,8 @@ make-requires-clause-counts c =
 
 pub returns : goal.returns
 returns c = record {
-  chain = repeats_more c.turns-made.result c.args.self.now c.row-row.new.self c.make.new.self (Turn c.args.which)
-      (subst (λ (made : ℕ). Repeats made c.args.self.now (Turn c.args.which) c.row-row.new.self) (sym c.turns-made.ensures) c.row-row.ensures.chain)
+  chain = repeats_more c.turns-made.result c.args.self.now c.row-row.new.self c.make.new.self (Turn c.args.hart)
+      (subst (λ (made : ℕ). Repeats made c.args.self.now (Turn c.args.hart) c.row-row.new.self) (sym c.turns-made.ensures) c.row-row.ensures.chain)
       c.row-row.ensures.quiet c.make.ensures.makes;
   counts = counts_more c.turns-made.result c.args.self.now.journal.counts c.row-row.new.self.journal.counts c.make.new.self.journal.counts
       (subst (λ (made : ℕ). (n : ℕ) → CountsAtMost n c.args.self.now.journal.counts → CountsAtMost (n + made) c.row-row.new.self.journal.counts)

@@ -13,27 +13,27 @@ use Rattle.machine.specs.Rows.{MayRow}
 use Rattle.machine.proofs.machine.Machine.one_row.Goals as goal
 
 pub row-row-requires-clause-may : goal.row-row-requires-clause-may
-row-row-requires-clause-may c = subst (λ (m : Machine). MayRow m c.args.which) (sym c.self.view_is) c.requires.may
+row-row-requires-clause-may c = subst (λ (m : Machine). MayRow m c.args.hart) (sym c.self.view_is) c.requires.may
 
 pub row-row-requires-clause-ready : goal.row-row-requires-clause-ready
 row-row-requires-clause-ready c =
-    let may : MayRow c.self.inside.parts c.args.which = subst (λ (m : Machine). MayRow m c.args.which) (sym c.self.view_is) c.requires.may in
-    ready_at c.self.inside.parts c.self.invariant.state c.args.which c.self.invariant.stands may.running may.attempts
+    let may : MayRow c.self.inside.parts c.args.hart = subst (λ (m : Machine). MayRow m c.args.hart) (sym c.self.view_is) c.requires.may in
+    ready_at c.self.inside.parts c.self.invariant.state c.args.hart c.self.invariant.stands may.running may.attempts
 
 pub answer_leaving-requires-clause-hart : goal.answer_leaving-requires-clause-hart
 answer_leaving-requires-clause-hart c =
-    let may : MayRow c.self.inside.parts c.args.which = subst (λ (m : Machine). MayRow m c.args.which) (sym c.self.view_is) c.requires.may in
-    may_trap c.row-row.result.left c.row-row.result.made c.self.inside.parts c.row-row.new.self c.args.which may c.row-row.ensures.ends c.row-row.ensures.aligned
+    let may : MayRow c.self.inside.parts c.args.hart = subst (λ (m : Machine). MayRow m c.args.hart) (sym c.self.view_is) c.requires.may in
+    may_trap c.row-row.result.left c.row-row.result.made c.self.inside.parts c.row-row.new.self c.args.hart may c.row-row.ensures.ends c.row-row.ensures.aligned
 
 pub answer_leaving-requires-clause-mode : goal.answer_leaving-requires-clause-mode
 answer_leaving-requires-clause-mode c =
-    let may : MayRow c.self.inside.parts c.args.which = subst (λ (m : Machine). MayRow m c.args.which) (sym c.self.view_is) c.requires.may in
-    in_kernel c.row-row.result.left c.row-row.result.made c.self.inside.parts c.row-row.new.self c.args.which may c.row-row.ensures.ends
+    let may : MayRow c.self.inside.parts c.args.hart = subst (λ (m : Machine). MayRow m c.args.hart) (sym c.self.view_is) c.requires.may in
+    in_kernel c.row-row.result.left c.row-row.result.made c.self.inside.parts c.row-row.new.self c.args.hart may c.row-row.ensures.ends
 
 pub answer_leaving-requires-clause-counts : goal.answer_leaving-requires-clause-counts
 answer_leaving-requires-clause-counts c =
-    let may : MayRow c.self.inside.parts c.args.which = subst (λ (m : Machine). MayRow m c.args.which) (sym c.self.view_is) c.requires.may in
-    let begins : Begins c.self.inside.parts c.args.which = record {
+    let may : MayRow c.self.inside.parts c.args.hart = subst (λ (m : Machine). MayRow m c.args.hart) (sym c.self.view_is) c.requires.may in
+    let begins : Begins c.self.inside.parts c.args.hart = record {
       state = c.self.invariant.state;
       may = may;
       stands = c.self.invariant.stands;
@@ -43,14 +43,14 @@ answer_leaving-requires-clause-counts c =
     let counts : CountsAtMost (most_counts - c.args.most) c.self.inside.parts.journal.counts =
     subst (λ (m : Machine). CountsAtMost (most_counts - c.args.most) m.journal.counts) (sym c.self.view_is) c.requires.counts in
     let behind : CountsAtMost most_counts c.row-row.new.self.journal.counts =
-    behind_counts c.row-row.result.left c.row-row.result.made c.args.most c.self.inside.parts c.row-row.new.self c.args.which begins c.row-row.ensures.ends c.requires.few
+    behind_counts c.row-row.result.left c.row-row.result.made c.args.most c.self.inside.parts c.row-row.new.self c.args.hart begins c.row-row.ensures.ends c.requires.few
     c.row-row.ensures.most counts in
     may_count c.row-row.new.self behind
 
 pub answer_leaving-requires-clause-turns : goal.answer_leaving-requires-clause-turns
 answer_leaving-requires-clause-turns c =
-    let may : MayRow c.self.inside.parts c.args.which = subst (λ (m : Machine). MayRow m c.args.which) (sym c.self.view_is) c.requires.may in
-    let begins : Begins c.self.inside.parts c.args.which = record {
+    let may : MayRow c.self.inside.parts c.args.hart = subst (λ (m : Machine). MayRow m c.args.hart) (sym c.self.view_is) c.requires.may in
+    let begins : Begins c.self.inside.parts c.args.hart = record {
       state = c.self.invariant.state;
       may = may;
       stands = c.self.invariant.stands;
@@ -60,14 +60,14 @@ answer_leaving-requires-clause-turns c =
     let counts : CountsAtMost (most_counts - c.args.most) c.self.inside.parts.journal.counts =
     subst (λ (m : Machine). CountsAtMost (most_counts - c.args.most) m.journal.counts) (sym c.self.view_is) c.requires.counts in
     let behind : CountsAtMost most_counts c.row-row.new.self.journal.counts =
-    behind_counts c.row-row.result.left c.row-row.result.made c.args.most c.self.inside.parts c.row-row.new.self c.args.which begins c.row-row.ensures.ends c.requires.few
+    behind_counts c.row-row.result.left c.row-row.result.made c.args.most c.self.inside.parts c.row-row.new.self c.args.hart begins c.row-row.ensures.ends c.requires.few
     c.row-row.ensures.most counts in
     let turns = behind.turns in omega (arith, turns)
 
 pub answer_leaving-requires-clause-attempts : goal.answer_leaving-requires-clause-attempts
 answer_leaving-requires-clause-attempts c =
-    let may : MayRow c.self.inside.parts c.args.which = subst (λ (m : Machine). MayRow m c.args.which) (sym c.self.view_is) c.requires.may in
-    let begins : Begins c.self.inside.parts c.args.which = record {
+    let may : MayRow c.self.inside.parts c.args.hart = subst (λ (m : Machine). MayRow m c.args.hart) (sym c.self.view_is) c.requires.may in
+    let begins : Begins c.self.inside.parts c.args.hart = record {
       state = c.self.invariant.state;
       may = may;
       stands = c.self.invariant.stands;
@@ -77,17 +77,17 @@ answer_leaving-requires-clause-attempts c =
     let counts : CountsAtMost (most_counts - c.args.most) c.self.inside.parts.journal.counts =
     subst (λ (m : Machine). CountsAtMost (most_counts - c.args.most) m.journal.counts) (sym c.self.view_is) c.requires.counts in
     let behind : CountsAtMost most_counts c.row-row.new.self.journal.counts =
-    behind_counts c.row-row.result.left c.row-row.result.made c.args.most c.self.inside.parts c.row-row.new.self c.args.which begins c.row-row.ensures.ends c.requires.few
+    behind_counts c.row-row.result.left c.row-row.result.made c.args.most c.self.inside.parts c.row-row.new.self c.args.hart begins c.row-row.ensures.ends c.requires.few
     c.row-row.ensures.most counts in
     let turns = behind.turns in
-    let bounded = behind_bounded c.row-row.result.left c.row-row.result.made c.self.inside.parts c.row-row.new.self c.args.which begins c.row-row.ensures.ends in
+    let bounded = behind_bounded c.row-row.result.left c.row-row.result.made c.self.inside.parts c.row-row.new.self c.args.hart begins c.row-row.ensures.ends in
     let two = bounded.attempts in
     omega (arith, turns, two)
 
 pub invariant_of-self : goal.invariant_of-self
 invariant_of-self c =
-    let may : MayRow c.self.inside.parts c.args.which = subst (λ (m : Machine). MayRow m c.args.which) (sym c.self.view_is) c.requires.may in
-    let begins : Begins c.self.inside.parts c.args.which = record {
+    let may : MayRow c.self.inside.parts c.args.hart = subst (λ (m : Machine). MayRow m c.args.hart) (sym c.self.view_is) c.requires.may in
+    let begins : Begins c.self.inside.parts c.args.hart = record {
       state = c.self.invariant.state;
       may = may;
       stands = c.self.invariant.stands;
@@ -96,8 +96,8 @@ invariant_of-self c =
     } in
     let counts : CountsAtMost (most_counts - c.args.most) c.self.inside.parts.journal.counts =
     subst (λ (m : Machine). CountsAtMost (most_counts - c.args.most) m.journal.counts) (sym c.self.view_is) c.requires.counts in
-    let rowed : Rowed (turns_of c.row-row.result) c.self.inside.parts c.args.which c.answer_leaving.new.self =
-    ends_rowed c.row-row.result.left c.row-row.result.made c.self.inside.parts c.row-row.new.self c.answer_leaving.new.self c.args.which begins c.row-row.ensures.ends
+    let rowed : Rowed (turns_of c.row-row.result) c.self.inside.parts c.args.hart c.answer_leaving.new.self =
+    ends_rowed c.row-row.result.left c.row-row.result.made c.self.inside.parts c.row-row.new.self c.answer_leaving.new.self c.args.hart begins c.row-row.ensures.ends
     c.answer_leaving.ensures in
     let after = rowed.counts (most_counts - c.args.most) counts in
     record {
@@ -107,27 +107,27 @@ invariant_of-self c =
       attempts = rowed.bounded.attempts;
       few = let two = rowed.bounded.attempts in let turns = after.turns in omega (arith, two, turns, c.row-row.ensures.most, c.requires.few);
       free = free_where c.self.inside.none_reserved c.answer_leaving.new.self.harts
-          (leaving_free c.row-row.result.left c.row-row.new.self c.args.which c.answer_leaving.new.self c.row-row.ensures.free c.answer_leaving.ensures);
+          (leaving_free c.row-row.result.left c.row-row.new.self c.args.hart c.answer_leaving.new.self c.row-row.ensures.free c.answer_leaving.ensures);
       printed = rowed.bounded.printed;
     }
 
 pub returns : goal.returns
 returns c =
-    let may : MayRow c.self.inside.parts c.args.which = subst (λ (m : Machine). MayRow m c.args.which) (sym c.self.view_is) c.requires.may in
-    let begins : Begins c.self.inside.parts c.args.which = record {
+    let may : MayRow c.self.inside.parts c.args.hart = subst (λ (m : Machine). MayRow m c.args.hart) (sym c.self.view_is) c.requires.may in
+    let begins : Begins c.self.inside.parts c.args.hart = record {
       state = c.self.invariant.state;
       may = may;
       stands = c.self.invariant.stands;
       addresses = c.self.invariant.addresses;
       bounded = record { attempts = c.self.invariant.attempts; printed = c.self.invariant.printed };
     } in
-    let rowed : Rowed (turns_of c.row-row.result) c.self.inside.parts c.args.which c.answer_leaving.new.self =
-    ends_rowed c.row-row.result.left c.row-row.result.made c.self.inside.parts c.row-row.new.self c.answer_leaving.new.self c.args.which begins c.row-row.ensures.ends
+    let rowed : Rowed (turns_of c.row-row.result) c.self.inside.parts c.args.hart c.answer_leaving.new.self =
+    ends_rowed c.row-row.result.left c.row-row.result.made c.self.inside.parts c.row-row.new.self c.answer_leaving.new.self c.args.hart begins c.row-row.ensures.ends
     c.answer_leaving.ensures in
-    let made : MadeInRow (turns_of c.row-row.result) c.args.most c.self.inside.parts (Turn c.args.which) c.answer_leaving.new.self = record {
+    let made : MadeInRow (turns_of c.row-row.result) c.args.most c.self.inside.parts (Turn c.args.hart) c.answer_leaving.new.self = record {
       chain = rowed.chain;
       quiet = rowed.quiet;
       counts = rowed.counts;
       most = c.row-row.ensures.most;
     } in
-    subst (λ (m : Machine). MadeInRow (turns_of c.row-row.result) c.args.most m (Turn c.args.which) c.answer_leaving.new.self) c.self.view_is made
+    subst (λ (m : Machine). MadeInRow (turns_of c.row-row.result) c.args.most m (Turn c.args.hart) c.answer_leaving.new.self) c.self.view_is made

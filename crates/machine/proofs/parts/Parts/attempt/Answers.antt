@@ -17,9 +17,9 @@ invariant_of-wires c =
 
 pub attempt-requires-clause-ready : goal.attempt-requires-clause-ready
 attempt-requires-clause-ready c =
-    subst (λ (seats : List Seat). IsReady c.self.inside.mem (hart_in (hosts_of seats) c.args.which) (lines_at c.self.inside.devices c.args.which))
+    subst (λ (seats : List Seat). IsReady c.self.inside.mem (hart_in (hosts_of seats) c.args.hart) (lines_at c.self.inside.devices c.args.hart))
     (sym c.deref_mut.ensures.value)
-    (subst (λ (m : Machine). IsReady m.region (hart_in m.harts c.args.which) (lines_at m.devices c.args.which)) (sym c.self.view_is) c.requires.ready)
+    (subst (λ (m : Machine). IsReady m.region (hart_in m.harts c.args.hart) (lines_at m.devices c.args.hart)) (sym c.self.view_is) c.requires.ready)
 
 pub attempt-requires-clause-may : goal.attempt-requires-clause-may
 attempt-requires-clause-may c =

@@ -9,7 +9,7 @@ use Rattle.machine.proofs.parts.Parts.call_answer.Goals as goal
 pub returns-then-is_about_modules-clause-answer : goal.returns-then-is_about_modules-clause-answer
 returns-then-is_about_modules-clause-answer c =
     let facts = host_facts (machine_of_parts c.self.inside) in
-    answered_there c.self.inside c.args.which c.index.result.now c.by-asked.result c.module_answer.result c.args.self.now c.index.ensures
+    answered_there c.self.inside c.args.hart c.index.result.now c.by-asked.result c.module_answer.result c.args.self.now c.index.ensures
     c.self.view_is c.requires.there c.by-asked.ensures
     (c.module_answer.ensures facts.started facts.input ∙ sym (c.is_about_modules.ensures.modules facts c.if-is_about_modules.true))
 
@@ -20,4 +20,4 @@ returns-then-is_about_modules-clause-starts c =
     (c.law_starts.ensures.calls facts c.by-asked.result (length c.args.self.now.harts))
 
 pub index-requires : goal.index-requires
-index-requires c = seat_indexed c.self.inside c.args.which c.args.self.now c.self.view_is c.requires.there
+index-requires c = seat_indexed c.self.inside c.args.hart c.args.self.now c.self.view_is c.requires.there

@@ -9,22 +9,22 @@ use Rattle.machine.proofs.parts.Parts.device_store.Goals as goal
 pub returns : goal.returns
 unfolding host_exit_answered
 returns c =
-    answers c.self.inside c.args.which c.index_mut-seat.result.now c.index_mut-seat.ensures.value
-    (λ m host mode. host_exit_answered m c.args.which host mode (StoresDevice c.args.store.address c.args.store.gpa c.args.store.width c.args.store.value))
+    answers c.self.inside c.args.hart c.index_mut-seat.result.now c.index_mut-seat.ensures.value
+    (λ m host mode. host_exit_answered m c.args.hart host mode (StoresDevice c.args.store.address c.args.store.gpa c.args.store.width c.args.store.value))
     c.device_store.new.seat c.device_store.new.devices c.device_store.new.journal c.args.self.now c.self.view_is c.requires.hart.there c.self.invariant.theirs
     c.self.invariant.pages c.self.invariant.places
     (c.device_store.ensures.machine (machine_of_parts c.self.inside) c.self.invariant.entries c.self.invariant.bound)
 
 pub index_mut-seat-requires : goal.index_mut-seat-requires
-index_mut-seat-requires c = seat_indexed c.self.inside c.args.which c.args.self.now c.self.view_is c.requires.hart.there
+index_mut-seat-requires c = seat_indexed c.self.inside c.args.hart c.args.self.now c.self.view_is c.requires.hart.there
 
 pub device_store-requires-clause-aligned : goal.device_store-requires-clause-aligned
 device_store-requires-clause-aligned c =
-    aligned_there c.self.inside c.args.which c.index_mut-seat.result.now c.index_mut-seat.ensures.value c.args.self.now c.self.view_is c.requires.hart.there c.requires.hart.aligned
+    aligned_there c.self.inside c.args.hart c.index_mut-seat.result.now c.index_mut-seat.ensures.value c.args.self.now c.self.view_is c.requires.hart.there c.requires.hart.aligned
 
 pub invariant_of-self : goal.invariant_of-self
 invariant_of-self c =
-    let number = length-set c.self.inside.seats.items c.args.which c.device_store.new.seat in
+    let number = length-set c.self.inside.seats.items c.args.hart c.device_store.new.seat in
     record {
       entries = c.self.invariant.entries;
       bound = c.self.invariant.bound;

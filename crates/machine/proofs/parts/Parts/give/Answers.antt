@@ -52,18 +52,18 @@ returns c =
     let pages = c.give_pages-changed in
     let answer = c.args.answer.now in
     let same = with_items_is c.self.inside.seats c.give.new.seats (c.give.ensures.number ∙ c.deref_mut.ensures.len) in
-    subst (λ (seats : List Seat). WithTables c.args.self.now (host_given c.args.self.now c.args.which answer)
+    subst (λ (seats : List Seat). WithTables c.args.self.now (host_given c.args.self.now c.args.hart answer)
     (left_parts c.self.inside seats c.give.new.devices c.give.new.journal pages.new.mem pages.new.guard.pages pages.new.modules)) (sym same)
-    (gives c.self.inside c.args.which answer c.give.new.seats c.give.new.devices c.give.new.journal pages.new.mem pages.new.guard pages.new.modules
+    (gives c.self.inside c.args.hart answer c.give.new.seats c.give.new.devices c.give.new.journal pages.new.mem pages.new.guard pages.new.modules
     c.args.self.now c.self.view_is
-    (c.give.ensures.hosts ∙ ap (λ (seats : List Seat). hosts_beside answer.beside (update (hosts_of seats) c.args.which (host_replied answer.reply))) c.deref_mut.ensures.value)
+    (c.give.ensures.hosts ∙ ap (λ (seats : List Seat). hosts_beside answer.beside (update (hosts_of seats) c.args.hart (host_replied answer.reply))) c.deref_mut.ensures.value)
     c.give.ensures.devices c.give.ensures.journal (pages.ensures.machine (machine_of_parts c.self.inside))
     c.self.invariant.theirs pages.ensures.theirs c.self.invariant.pages c.self.invariant.places)
 
 pub give-requires-clause-there : goal.give-requires-clause-there
 give-requires-clause-there c =
-    subst (λ (seats : List Seat). c.args.which < length seats) (sym c.deref_mut.ensures.value)
-    (seat_below c.self.inside c.args.which c.args.self.now c.self.view_is c.requires.there)
+    subst (λ (seats : List Seat). c.args.hart < length seats) (sym c.deref_mut.ensures.value)
+    (seat_below c.self.inside c.args.hart c.args.self.now c.self.view_is c.requires.there)
 
 pub give-requires-clause-few : goal.give-requires-clause-few
 give-requires-clause-few c = subst (λ (seats : List Seat). length seats ≤ 4) (sym c.deref_mut.ensures.value) c.self.invariant.few

@@ -12,30 +12,30 @@ use Rattle.machine.proofs.parts.Parts.leave_entry.Goals as goal
 pub returns-clause-answer : goal.returns-clause-answer
 unfolding host_exit_answered
 returns-clause-answer c =
-    answers c.self.inside c.args.which c.index_mut-seat.result.now c.index_mut-seat.ensures.value
-    (λ m host mode. host_exit_answered m c.args.which host mode LeavesEntry)
+    answers c.self.inside c.args.hart c.index_mut-seat.result.now c.index_mut-seat.ensures.value
+    (λ m host mode. host_exit_answered m c.args.hart host mode LeavesEntry)
     c.leave_entry.new.seat c.self.inside.devices c.self.inside.journal c.args.self.now c.self.view_is c.requires.there c.self.invariant.theirs
     c.self.invariant.pages c.self.invariant.places
-    (c.leave_entry.ensures.machine (machine_of_parts c.self.inside) c.args.which c.self.inside.journal)
+    (c.leave_entry.ensures.machine (machine_of_parts c.self.inside) c.args.hart c.self.inside.journal)
 
 pub returns-clause-left : goal.returns-clause-left
 returns-clause-left c =
-    leaves c.self.inside c.args.which c.index_mut-seat.result.now c.index_mut-seat.ensures.value c.leave_entry.new.seat c.args.self.now c.self.view_is
-    (c.leave_entry.ensures.machine (machine_of_parts c.self.inside) c.args.which c.self.inside.journal)
+    leaves c.self.inside c.args.hart c.index_mut-seat.result.now c.index_mut-seat.ensures.value c.leave_entry.new.seat c.args.self.now c.self.view_is
+    (c.leave_entry.ensures.machine (machine_of_parts c.self.inside) c.args.hart c.self.inside.journal)
 
 pub returns-clause-number : goal.returns-clause-number
 returns-clause-number c =
     ap (λ (m : Machine). length m.harts)
-    (leaves c.self.inside c.args.which c.index_mut-seat.result.now c.index_mut-seat.ensures.value c.leave_entry.new.seat c.args.self.now c.self.view_is
-    (c.leave_entry.ensures.machine (machine_of_parts c.self.inside) c.args.which c.self.inside.journal))
-    ∙ length_update c.args.self.now.harts c.args.which host_outside
+    (leaves c.self.inside c.args.hart c.index_mut-seat.result.now c.index_mut-seat.ensures.value c.leave_entry.new.seat c.args.self.now c.self.view_is
+    (c.leave_entry.ensures.machine (machine_of_parts c.self.inside) c.args.hart c.self.inside.journal))
+    ∙ length_update c.args.self.now.harts c.args.hart host_outside
 
 pub index_mut-seat-requires : goal.index_mut-seat-requires
-index_mut-seat-requires c = seat_indexed c.self.inside c.args.which c.args.self.now c.self.view_is c.requires.there
+index_mut-seat-requires c = seat_indexed c.self.inside c.args.hart c.args.self.now c.self.view_is c.requires.there
 
 pub invariant_of-self : goal.invariant_of-self
 invariant_of-self c =
-    let number = length-set c.self.inside.seats.items c.args.which c.leave_entry.new.seat in
+    let number = length-set c.self.inside.seats.items c.args.hart c.leave_entry.new.seat in
     record {
       entries = c.self.invariant.entries;
       bound = c.self.invariant.bound;

@@ -9,11 +9,11 @@ attempt-outcome-requires-clause-ready c = c.requires.ready.first
 
 pub conclude-requires-clause-again : goal.conclude-requires-clause-again
 conclude-requires-clause-again c =
-    subst (λ (m : Machine). MayAttemptAgain c.attempt-outcome.result m c.args.which) (sym c.attempt-outcome.ensures.machine)
-    (may_again c.args.self.now c.args.which c.attempt-outcome.result c.requires.ready c.attempt-outcome.ensures.outcome)
+    subst (λ (m : Machine). MayAttemptAgain c.attempt-outcome.result m c.args.hart) (sym c.attempt-outcome.ensures.machine)
+    (may_again c.args.self.now c.args.hart c.attempt-outcome.result c.requires.ready c.attempt-outcome.ensures.outcome)
 
 pub returns : goal.returns
 returns c =
-    turn_attempts c.args.self.now c.conclude.new.self c.args.which c.attempt-outcome.result c.requires.there
+    turn_attempts c.args.self.now c.conclude.new.self c.args.hart c.attempt-outcome.result c.requires.there
     c.requires.attempts.started c.requires.attempts.free c.requires.ready c.attempt-outcome.ensures.outcome
-    (subst (λ (m : Machine). Concluded c.attempt-outcome.result m c.args.which c.conclude.new.self) c.attempt-outcome.ensures.machine c.conclude.ensures)
+    (subst (λ (m : Machine). Concluded c.attempt-outcome.result m c.args.hart c.conclude.new.self) c.attempt-outcome.ensures.machine c.conclude.ensures)

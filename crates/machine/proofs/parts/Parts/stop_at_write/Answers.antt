@@ -8,10 +8,10 @@ use Rattle.machine.proofs.parts.Parts.stop_at_write.Goals as goal
 pub returns : goal.returns
 unfolding host_exit_answered
 returns c =
-    journal_answers c.self.inside c.args.which c.index.result.now c.index.ensures
-    (λ m host mode. host_exit_answered m c.args.which host mode (StopsAtWrite c.args.gpa))
+    journal_answers c.self.inside c.args.hart c.index.result.now c.index.ensures
+    (λ m host mode. host_exit_answered m c.args.hart host mode (StopsAtWrite c.args.gpa))
     c.stop_at_write.new.journal c.args.self.now c.self.view_is c.requires.there c.self.invariant.theirs c.self.invariant.pages c.self.invariant.places
     (c.stop_at_write.ensures.machine (machine_of_parts c.self.inside))
 
 pub index-requires : goal.index-requires
-index-requires c = seat_indexed c.self.inside c.args.which c.args.self.now c.self.view_is c.requires.there
+index-requires c = seat_indexed c.self.inside c.args.hart c.args.self.now c.self.view_is c.requires.there
