@@ -1,5 +1,5 @@
 // The answer to the words of `live`.
-ghost use Rattle.std.specs.Prelude.{◌≡◌, ◌≢◌, ◌<◌, ◌≤◌, ◌-◌, ◌^◌, ◌⊎◌, ◌∷◌, ℕ, [], true, false, List, map, string_bytes, Result, Some, None, IsTrue};
+ghost use Rattle.std.specs.Prelude.{◌≡◌, ◌≢◌, ◌<◌, ◌≤◌, ◌-◌, ◌⊎◌, ◌∷◌, ℕ, [], true, false, List, map, string_bytes, Result, Some, None, IsTrue};
 ghost use Rattle.std.specs.Result.{is_ok};
 ghost use Rattle.sv_types.specs.Limits.{most_events};
 ghost use Rattle.sv_types.specs.Schedule.{first_events};
@@ -17,7 +17,7 @@ ghost use Rattle.live_cli.specs.LiveWords.{live_judged, live_plan};
 ghost use Rattle.live_cli.specs.LiveReady.{IsLiveFresh, out_of, MaySaveUnder};
 ghost use Rattle.live_cli.specs.LiveAnswers.{live_outside, SavesScript, after_reading, is_refusal, Reports, RunsLive, PerformsLive, LiveHeadline};
 ghost use Rattle.live_cli.specs.Replays.{LiveLine, live_line, HasEnded, Replays};
-ghost use Rattle.outside.specs.Outside.{MayWrite};
+ghost use Rattle.outside.specs.Outside.{MayWrite, CanCount};
 
 use crate::ready::{LiveReady, prepare_live};
 use live_drive::{LiveEnd, LiveRun};
@@ -37,7 +37,7 @@ fn report_and_save<F: Files, O: Sink>(
     out: &mut O,
 ) -> Result<Status, Trouble>
     requires sink { MayWrite (O.state out.old) }
-    requires saves { (F.state files.old).save_faults < 2 ^ 64 - 1 }
+    requires saves { CanCount (F.state files.old).save_faults }
     requires permitted { MaySaveUnder name.now (F.state files.old) }
     requires way { IsUnderWay live.now }
     requires autos { live.now.journal.autos ≤ most_events }
@@ -53,7 +53,7 @@ fn report_and_save<F: Files, O: Sink>(
 #[tactic(auto, using(secvisor_cli::proofs::SaveLemmas::saved_exactly, secvisor_cli::proofs::SaveLemmas::broke_exactly))]
 fn save_text<F: Files>(name: &str, text: &str, files: &mut F) -> Result<(), Trouble>
     requires permitted { IsTrue ((F.state files.old).permits_save ((name.now, text.now) ∷ [])) }
-    requires count { (F.state files.old).save_faults < 2 ^ 64 - 1 }
+    requires count { CanCount (F.state files.old).save_faults }
     ensures { AfterSave (Some (record { name = name.now; content = Exactly text.now })) (F.state files.old) (F.state files.new) result }
 {
     Ok(files.save(name, text.as_bytes())?)
@@ -78,7 +78,7 @@ fn report<F: Files, O: Sink>(
     out: &mut O,
 ) -> Result<Status, Trouble>
     requires sink { end.write_failed ≡ false → MayWrite (O.state out.old) }
-    requires saves { (F.state files.old).save_faults < 2 ^ 64 - 1 }
+    requires saves { CanCount (F.state files.old).save_faults }
     requires permitted { MaySaveUnder name.now (F.state files.old) }
     requires way { IsUnderWay live.now }
     requires autos { live.now.journal.autos ≤ most_events }
@@ -106,8 +106,8 @@ fn carry_out<R: Threads + Wait + Sync, F: Files, K: Keys + Send, O: Sink, P: Pac
     requires fresh { IsLiveFresh ready }
     requires state { (start : State) × IsNew ready.live.machine start }
     requires sink { MayWrite (O.state out.old) }
-    requires reads { (K.state keys.old).faults < 2 ^ 64 - 1 }
-    requires saves { (F.state files.old).save_faults < 2 ^ 64 - 1 }
+    requires reads { CanCount (K.state keys.old).faults }
+    requires saves { CanCount (F.state files.old).save_faults }
     requires permitted { MaySaveUnder ready.out.now (F.state files.old) }
     ensures { (start : State) → IsNew ready.entry.live.machine start → RunsLive start (first_events ready.entry.live.events ready.entry.live.script) ready.entry.out.now
         (live_outside (F.state files.old) (O.state out.old) (K.state keys.old) bench.old.machine)
@@ -139,9 +139,9 @@ fn answer<R: Threads + Wait + Sync, F: Files, K: Keys + Send, O: Sink, P: Pace +
     requires permitted { MayFollow (live_plan (live_judged (map string_bytes words.now))) (F.state files.old) }
     requires script { MaySaveUnder (out_of (live_judged (map string_bytes words.now))) (F.state files.old) }
     requires sink { MayWrite (O.state out.old) }
-    requires reads { (F.state files.old).read_faults < 2 ^ 64 - 1 }
-    requires saves { (F.state files.old).save_faults < 2 ^ 64 - 1 }
-    requires keys { (K.state keys.old).faults < 2 ^ 64 - 1 }
+    requires reads { CanCount (F.state files.old).read_faults }
+    requires saves { CanCount (F.state files.old).save_faults }
+    requires keys { CanCount (K.state keys.old).faults }
     ensures { PerformsLive (live_judged (map string_bytes words.now))
         (live_outside (F.state files.old) (O.state out.old) (K.state keys.old) bench.old.machine)
         (live_outside (F.state files.new) (O.state out.new) (K.state keys.new) bench.new.machine) result }
@@ -171,9 +171,9 @@ pub fn secvisor_live<R: Threads + Wait + Sync, F: Files, K: Keys + Send, O: Sink
     requires permitted { MayFollow (live_plan (live_judged (map string_bytes words.now))) (F.state files.old) }
     requires script { MaySaveUnder (out_of (live_judged (map string_bytes words.now))) (F.state files.old) }
     requires sink { MayWrite (O.state out.old) }
-    requires reads { (F.state files.old).read_faults < 2 ^ 64 - 1 }
-    requires saves { (F.state files.old).save_faults < 2 ^ 64 - 1 }
-    requires keys { (K.state keys.old).faults < 2 ^ 64 - 1 }
+    requires reads { CanCount (F.state files.old).read_faults }
+    requires saves { CanCount (F.state files.old).save_faults }
+    requires keys { CanCount (K.state keys.old).faults }
     // For every file, words, number of events and keys, and however the threads run, there is one list of events of which all that
     // was written and saved is.
     ensures headline { LiveHeadline (live_judged (map string_bytes words.now))

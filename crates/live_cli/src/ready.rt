@@ -1,8 +1,9 @@
 // What is ready of `live`.
-ghost use Rattle.std.specs.Prelude.{◌≡◌, ◌<◌, ◌-◌, ◌^◌, map, string_bytes, IfOk};
+ghost use Rattle.std.specs.Prelude.{◌≡◌, ◌<◌, ◌-◌, map, string_bytes, IfOk};
 ghost use Rattle.secvisor_cli.specs.Reading.{MayFollow};
 ghost use Rattle.live_cli.specs.LiveWords.{live_judged, live_plan};
 ghost use Rattle.live_cli.specs.LiveReady.{PreparesLive, out_of};
+ghost use Rattle.outside.specs.Outside.{CanCount};
 
 use crate::words::read_live;
 use live_drive::{KeySource, LiveRun};
@@ -29,7 +30,7 @@ pub fn prepare_live<'a, R: Threads + Sync, F: Files>(
     files: &mut F,
 ) -> Result<LiveReady<'a>, Stop>
     requires permitted { MayFollow (live_plan (live_judged (map string_bytes words.now))) (F.state files.old) }
-    requires reads { (F.state files.old).read_faults < 2 ^ 64 - 1 }
+    requires reads { CanCount (F.state files.old).read_faults }
     ensures prepares { PreparesLive (live_plan (live_judged (map string_bytes words.now))) (F.state files.old) (F.state files.new) result }
     ensures name { IfOk result (λ ready. ready.out.now ≡ out_of (live_judged (map string_bytes words.now))) }
 {

@@ -1,5 +1,5 @@
 // The two threads of a live run: one reads the keys, the other drives the machine.
-ghost use Rattle.std.specs.Prelude.{◌≡◌, ◌≢◌, ◌<◌, ◌≤◌, ◌-◌, ◌^◌, ◌⊎◌, [], true, false, length, IsErr, OnOk, OnErr};
+ghost use Rattle.std.specs.Prelude.{◌≡◌, ◌≢◌, ◌<◌, ◌≤◌, ◌-◌, ◌⊎◌, [], true, false, length, IsErr, OnOk, OnErr};
 ghost use Rattle.sv_types.specs.Limits.{most_printed};
 ghost use Rattle.sv_types.specs.declared.event.Verdict.TheVariants.{Running};
 ghost use Rattle.sv_types.specs.Schedule.{Schedule, first_events};
@@ -9,7 +9,7 @@ ghost use Rattle.live_keys.specs.Placed.{keys_among, others_among};
 ghost use Rattle.live_drive.specs.LiveRuns.{harts_of, events_made, IsUnderWay, MakesFew};
 ghost use Rattle.live_drive.specs.Drives.{WentOn, BrokeOff, Drives, MayDrive, StaysUnderWay};
 ghost use Rattle.live_drive.specs.Inputs.{HasKeys};
-ghost use Rattle.outside.specs.Outside.{MayWrite};
+ghost use Rattle.outside.specs.Outside.{MayWrite, CanCount};
 
 use crate::live_run::LiveRun;
 use live_keys::{Fed, Feeder, KeyLine, Keys, Pace, law_journal_events};
@@ -73,7 +73,7 @@ impl LiveRun {
         pace: &P,
     ) -> (Fed, Result<(), Failed>)
         requires feeder { (feeder.line ≡ line.now) × (feeder.bytes ≡ []) }
-        requires reads { (K.state keys.old).faults < 2 ^ 64 - 1 }
+        requires reads { CanCount (K.state keys.old).faults }
         requires may { MayDrive self.old line.now (O.state out.old) }
         requires few { MakesFew self.old }
         ensures fed { Feeds line.now (K.state keys.old) (K.state keys.new) result.0.feeder result.0.failed }
@@ -101,7 +101,7 @@ impl LiveRun {
         pace: &P,
     ) -> LiveEnd
         requires source { (source.feeder.line ≡ source.line) × (source.feeder.bytes ≡ []) }
-        requires reads { (K.state keys.old).faults < 2 ^ 64 - 1 }
+        requires reads { CanCount (K.state keys.old).faults }
         requires may { MayDrive self.old source.line (O.state out.old) }
         requires few { MakesFew self.old }
         // However the threads run, the machine has run over the events of the journal, and the sink took the console's bytes.

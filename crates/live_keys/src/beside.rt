@@ -1,6 +1,7 @@
 // Keys that a second thread reads.
-ghost use Rattle.std.specs.Prelude.{◌≡◌, ◌<◌, ◌-◌, ◌^◌, []};
+ghost use Rattle.std.specs.Prelude.{◌≡◌, ◌<◌, ◌-◌, []};
 ghost use Rattle.live_keys.specs.Feeding.{IsFresh, Feeds};
+ghost use Rattle.outside.specs.Outside.{CanCount};
 
 use crate::keys::{Keys, Pace};
 use crate::line::{Fed, Feeder, KeyLine};
@@ -16,7 +17,7 @@ fn feed_from<R: Wait, K: Keys, P: Pace>(
     pace: &P,
 ) -> Fed
     requires fresh { IsFresh line.now place.old }
-    requires count { (K.state keys.old).faults < 2 ^ 64 - 1 }
+    requires count { CanCount (K.state keys.old).faults }
     ensures { Feeds line.now (K.state keys.old) (K.state keys.new) result.feeder result.failed }
 {
     let Some(feeder) = place.take() else {
@@ -36,7 +37,7 @@ impl KeyLine {
     >(&self, rt: &R, feeder: Feeder, keys: &mut K, pace: &P, work: &mut F) -> (Fed, T)
         requires line { feeder.line ≡ self.now }
         requires fresh { feeder.bytes ≡ [] }
-        requires count { (K.state keys.old).faults < 2 ^ 64 - 1 }
+        requires count { CanCount (K.state keys.old).faults }
         requires work { F.pre work.old }
         ensures fed { Feeds self.now (K.state keys.old) (K.state keys.new) result.0.feeder result.0.failed }
         ensures worked { F.step work.old result.1 work.new }

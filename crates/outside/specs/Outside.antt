@@ -5,6 +5,10 @@ use Rattle.std.specs.declared.alloc.Global.{Global}
 use Rattle.outside.specs.declared.FileRefusal.{FileRefusal}
 use Rattle.outside.specs.declared.FileRefusal.TheVariants.{Absent, Failed, TooLong, Memory}
 
+-- one more can be counted, in 64 bits
+abbrev pub CanCount : ℕ → Type 0
+CanCount n = n < 2 ^ 64 - 1
+
 -- ---- files
 
 pub record FilesState : Type 0 where
@@ -59,7 +63,7 @@ pub record SinkState : Type 0 where
 -- the sink may be written to, and a failure counted
 pub record MayWrite (sink : SinkState) : Type 0 where
   pub is_open : IsTrue sink.is_open
-  pub count : sink.faults < 2 ^ 64 - 1
+  pub count : CanCount sink.faults
 
 abbrev pub append_bytes : Option (List ℕ) → List ℕ → Option (List ℕ)
 append_bytes None bytes = None

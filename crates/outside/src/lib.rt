@@ -1,8 +1,8 @@
 //! The outside of the program: files by name, and a sink for what is printed.
 #![tactic(auto)]
 
-ghost use Rattle.std.specs.Prelude.{◌≡◌, ◌≢◌, ◌<◌, ◌≤◌, ◌-◌, ◌^◌, ℕ, List, [], ◌∷◌, Some, length, take, OnOk, OnErr, IfOk, IsTrue};
-ghost use Rattle.outside.specs.Outside.{FilesState, SinkState, ReadLeaves, ReadTells, after_saving, after_taking, WriteFails};
+ghost use Rattle.std.specs.Prelude.{◌≡◌, ◌≢◌, ◌<◌, ◌≤◌, ◌-◌, ℕ, List, [], ◌∷◌, Some, length, take, OnOk, OnErr, IfOk, IsTrue};
+ghost use Rattle.outside.specs.Outside.{FilesState, SinkState, ReadLeaves, ReadTells, after_saving, after_taking, WriteFails, CanCount};
 
 mod calls;
 mod memory_files;
@@ -45,7 +45,7 @@ pub trait Files {
     /// this limit.
     fn read(&mut self, alloc: Global, name: &str, limit: usize) -> Result<Vec<u8>, FileRefusal>
         requires permitted { IsTrue ((state self.old).permits ((name.now, limit) ∷ [])) }
-        requires count { (state self.old).read_faults < 2 ^ 64 - 1 }
+        requires count { CanCount (state self.old).read_faults }
         ensures tells { ReadTells (state self.old) name.now limit result }
         ensures leaves { ReadLeaves (state self.old) (state self.new) name.now limit result };
 
@@ -53,7 +53,7 @@ pub trait Files {
     /// stay.
     fn save(&mut self, name: &str, bytes: &[u8]) -> Result<(), SaveFailed>
         requires permitted { IsTrue ((state self.old).permits_save ((name.now, bytes.now) ∷ [])) }
-        requires count { (state self.old).save_faults < 2 ^ 64 - 1 }
+        requires count { CanCount (state self.old).save_faults }
         ensures saved { OnOk result (IsTrue (state self.old).tells → (state self.new).held name.now ≡ Some bytes.now) }
         ensures others { (other : List ℕ) → other ≢ name.now → (state self.new).held other ≡ (state self.old).held other }
         ensures fault { OnErr result ((state self.old).save_faults < (state self.new).save_faults) }
@@ -69,7 +69,7 @@ pub trait Sink {
     /// Takes the first bytes of a piece, and says how many: at least one of a piece that isn't empty.
     fn write(&mut self, piece: &[u8]) -> Result<usize, Failed>
         requires is_open { IsTrue (state self.old).is_open }
-        requires count { (state self.old).faults < 2 ^ 64 - 1 }
+        requires count { CanCount (state self.old).faults }
         ensures took { IfOk result (λ n. state self.new ≡ after_taking (state self.old) (take n piece.now)) }
         ensures within { IfOk result (λ n. n ≤ length piece.now) }
         ensures progress { IfOk result (λ n. 0 < length piece.now → 0 < n) }

@@ -1,8 +1,8 @@
 // Files in memory.
-ghost use Rattle.std.specs.Prelude.{◌≡◌, ◌≢◌, ◌<◌, ◌-◌, ◌^◌, ℕ, List, Option, ◌+◌, ◌↔◌, IfOk, OnOk, OnErr, IsErrOf, IfErr, AllPairs, IsTrue, ◌≤◌, Some, length, vec_len, vec_capacity, ◌&&◌, not, ◌==◌, false};
+ghost use Rattle.std.specs.Prelude.{◌≡◌, ◌≢◌, ◌<◌, ◌-◌, ℕ, List, Option, ◌+◌, ◌↔◌, IfOk, OnOk, OnErr, IsErrOf, IfErr, AllPairs, IsTrue, ◌≤◌, Some, length, vec_len, vec_capacity, ◌&&◌, not, ◌==◌, false};
 ghost use Rattle.std.specs.Option.{option_copied};
 ghost use Rattle.std.specs.Result.{is_err};
-ghost use Rattle.outside.specs.Outside.{ReadTells, ReadLeaves, after_saving};
+ghost use Rattle.outside.specs.Outside.{ReadTells, ReadLeaves, after_saving, CanCount};
 ghost use Rattle.outside.specs.Held.{contents, held_in, memory_state, call_number, is_to_fail, is_name_text, save_fails, HaveRoom, IsTooLongOrMemory};
 
 use crate::calls::{call_number, is_to_fail};
@@ -103,7 +103,7 @@ impl Files for MemFiles {
     ghost state = { λ f. memory_state f.files.items f.read_faults f.save_faults };
 
     fn read(&mut self, alloc: Global, name: &str, limit: usize) -> Result<Vec<u8>, FileRefusal>
-        requires count { self.old.read_faults < 2 ^ 64 - 1 }
+        requires count { CanCount self.old.read_faults }
         ensures tells { ReadTells (memory_state self.old.files.items self.old.read_faults self.old.save_faults) name.now limit result }
         ensures leaves { ReadLeaves (memory_state self.old.files.items self.old.read_faults self.old.save_faults) (memory_state self.new.files.items self.new.read_faults self.new.save_faults) name.now limit result }
         // A read fails exactly where its number is listed.
@@ -127,7 +127,7 @@ impl Files for MemFiles {
 
     #[tactic(auto, using(crate::proofs::Rooms::room_for_less))]
     fn save(&mut self, name: &str, bytes: &[u8]) -> Result<(), SaveFailed>
-        requires count { self.old.save_faults < 2 ^ 64 - 1 }
+        requires count { CanCount self.old.save_faults }
         ensures saved { OnOk result (held_in self.new.files.items name.now ≡ Some bytes.now) }
         ensures others { (other : List ℕ) → other ≢ name.now → held_in self.new.files.items other ≡ held_in self.old.files.items other }
         ensures fault { OnErr result (self.new.save_faults ≡ self.old.save_faults + 1) }

@@ -1,8 +1,8 @@
 // The answer to the words of `resume`.
-ghost use Rattle.std.specs.Prelude.{◌≡◌, ◌<◌, ◌≤◌, ◌-◌, ◌^◌, ◌⊎◌, ℕ, List, map, string_bytes, false, IsTrue, None};
+ghost use Rattle.std.specs.Prelude.{◌≡◌, ◌<◌, ◌≤◌, ◌-◌, ◌⊎◌, ℕ, List, map, string_bytes, false, IsTrue, None};
 ghost use Rattle.std.specs.Result.{is_ok};
 ghost use Rattle.sv_types.specs.Limits.{most_events};
-ghost use Rattle.outside.specs.Outside.{MayWrite};
+ghost use Rattle.outside.specs.Outside.{MayWrite, CanCount};
 ghost use Rattle.secvisor_cli.specs.Answers.{outside, Headline, Performs};
 ghost use Rattle.secvisor_cli.specs.Reading.{MayFollow, IsNamed, SavesUnder};
 ghost use Rattle.resume_cli.specs.ResumePlans.{resume_plan, words_plan};
@@ -30,8 +30,8 @@ pub fn secvisor_resume<R: Threads + Sync, F: Files, O: Sink>(
     // the end may be saved once.
     requires permitted { MayFollow (resume_plan (resume_judged (map string_bytes words.now))) (F.state files.old) }
     requires sink { MayWrite (O.state out.old) }
-    requires reads { (F.state files.old).read_faults < 2 ^ 64 - 1 }
-    requires saves { (F.state files.old).save_faults < 2 ^ 64 - 1 }
+    requires reads { CanCount (F.state files.old).read_faults }
+    requires saves { CanCount (F.state files.old).save_faults }
 
     // For every file, words and number of events the report, the status, the machine and the saved disk are those of the
     // reference machine's run from the state that the snapshot says, over the events that are left; or else the first refusal
@@ -71,8 +71,8 @@ fn answer<R: Threads + Sync, F: Files, O: Sink>(
 ) -> Result<Status, Trouble>
     requires permitted { MayFollow (resume_plan (resume_judged (map string_bytes words.now))) (F.state files.old) }
     requires sink { MayWrite (O.state out.old) }
-    requires reads { (F.state files.old).read_faults < 2 ^ 64 - 1 }
-    requires saves { (F.state files.old).save_faults < 2 ^ 64 - 1 }
+    requires reads { CanCount (F.state files.old).read_faults }
+    requires saves { CanCount (F.state files.old).save_faults }
     ensures { Performs (resume_plan (resume_judged (map string_bytes words.now)))
         (outside (F.state files.old) (O.state out.old) bench.old.machine)
         (outside (F.state files.new) (O.state out.new) bench.new.machine) result }
@@ -95,8 +95,8 @@ fn answer_resume<R: Threads + Sync, F: Files, O: Sink>(
     requires permitted { MayFollow (words_plan (resume_value resume.now)) (F.state files.old) }
     requires events { resume.now.events ≤ most_events }
     requires sink { MayWrite (O.state out.old) }
-    requires reads { (F.state files.old).read_faults < 2 ^ 64 - 1 }
-    requires saves { (F.state files.old).save_faults < 2 ^ 64 - 1 }
+    requires reads { CanCount (F.state files.old).read_faults }
+    requires saves { CanCount (F.state files.old).save_faults }
     ensures { Performs (words_plan (resume_value resume.now))
         (outside (F.state files.old) (O.state out.old) bench.old.machine)
         (outside (F.state files.new) (O.state out.new) bench.new.machine) result }

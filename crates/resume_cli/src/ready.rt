@@ -1,5 +1,5 @@
 // What is ready of `resume`.
-ghost use Rattle.std.specs.Prelude.{◌≡◌, ◌<◌, ◌≤◌, ◌-◌, ◌^◌, true, IsTrue};
+ghost use Rattle.std.specs.Prelude.{◌≡◌, ◌<◌, ◌≤◌, ◌-◌, true, IsTrue};
 ghost use Rattle.sv_types.specs.Limits.{most_events};
 ghost use Rattle.sv_types.specs.Policies.{rules_of, rules_within};
 ghost use Rattle.secvisor_cli.specs.Reading.{MayFollow};
@@ -8,6 +8,7 @@ ghost use Rattle.snapshot_form.specs.Snapshots as form;
 ghost use Rattle.resume_cli.specs.ResumePlans.{events_behind, resumed_due, words_plan};
 ghost use Rattle.resume_cli.specs.ResumeReady.{IsMachine, IsResumed, Resumes};
 ghost use Rattle.resume_cli.specs.ResumeWords.{resume_value};
+ghost use Rattle.outside.specs.Outside.{CanCount};
 
 use crate::skipping::events_left;
 use crate::snapshot_file::read_snapshot;
@@ -29,7 +30,7 @@ pub fn prepare_resume<'a, R: Threads + Sync, F: Files>(
     files: &mut F,
 ) -> Result<Booted<'a>, Stop>
     requires permitted { MayFollow (words_plan (resume_value asked.now)) (F.state files.old) }
-    requires reads { (F.state files.old).read_faults < 2 ^ 64 - 1 }
+    requires reads { CanCount (F.state files.old).read_faults }
     requires events { asked.now.events ≤ most_events }
     ensures { Resumes (words_plan (resume_value asked.now)) (F.state files.old) (F.state files.new) result }
 {

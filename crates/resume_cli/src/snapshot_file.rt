@@ -1,9 +1,10 @@
 // A snapshot's file.
-ghost use Rattle.std.specs.Prelude.{◌≡◌, ◌<◌, ◌-◌, ◌^◌, true, IfOk};
+ghost use Rattle.std.specs.Prelude.{◌≡◌, ◌<◌, ◌-◌, true, IfOk};
 ghost use Rattle.secvisor_cli.specs.Ready.{MayStage, Staged};
 ghost use Rattle.snapshot_form.specs.Snapshots as form;
 ghost use Rattle.resume_cli.specs.ResumePlans.{snapshot_part};
 ghost use Rattle.resume_cli.specs.ResumeReady.{IsSnapshot};
+ghost use Rattle.outside.specs.Outside.{CanCount};
 
 use outside::Files;
 use secvisor_cli::{FileFault, Part, Refusal, Stop, read_part};
@@ -14,7 +15,7 @@ use std::alloc::Global;
 /// The snapshot of a name, which is judged. Its bytes don't stay.
 pub fn read_snapshot<F: Files>(alloc: Global, name: &str, files: &mut F) -> Result<Snapshot, Stop>
     requires permitted { MayStage (snapshot_part name.now) (F.state files.old) }
-    requires reads { (F.state files.old).read_faults < 2 ^ 64 - 1 }
+    requires reads { CanCount (F.state files.old).read_faults }
     ensures stage { Staged (snapshot_part name.now) form.contents (F.state files.old) (F.state files.new) result }
     ensures form { IfOk result (λ s. form.snapshot.has (form.contents s) ≡ true) }
 {

@@ -159,12 +159,12 @@ pub record Fits (rules : Rules) (m : SavedModule) : Type 0 where
 
 pub fits_is : (rules : Rules) (m : SavedModule) → fits rules m ≡ true → Fits rules m
 fits_is rules m e =
-    let known_base = first_true (nat_lt m.id (length rules.modules) && nat_le ram_base m.gpa) _ e in
+    let in_ram = second_true (nat_lt m.id (length rules.modules)) _ e in
     record {
-      known = below_is m.id (length rules.modules) (first_true (nat_lt m.id (length rules.modules)) _ known_base);
-      base = most_is ram_base m.gpa (second_true (nat_lt m.id (length rules.modules)) _ known_base);
+      known = below_is m.id (length rules.modules) (first_true (nat_lt m.id (length rules.modules)) _ e);
+      base = most_is ram_base m.gpa (first_true (nat_le ram_base m.gpa) _ in_ram);
       inside = most_is (ram_place m.gpa + page_size * pages_in_rule (slice_get rules.modules m.id)) (page_size * rules.ram_pages)
-          (second_true (nat_lt m.id (length rules.modules) && nat_le ram_base m.gpa) _ e);
+          (second_true (nat_le ram_base m.gpa) _ in_ram);
     }
 
 pub place_aligned : (gpa : ℕ) → ram_base ≤ gpa → gpa % page_size ≡ 0 → ram_place gpa % page_size ≡ 0

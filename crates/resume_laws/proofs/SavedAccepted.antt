@@ -85,9 +85,9 @@ rule_pages rules id (Some rule) within known at = (some_pages rules id rule with
 fit_by : (rules : Rules) (m : SavedModule) → m.id < length rules.modules → ram_base ≤ m.gpa
     → ram_place m.gpa + page_size * pages_in_rule (slice_get rules.modules m.id) ≤ page_size * rules.ram_pages → fits rules m ≡ true
 fit_by rules m known base inside =
-    and_from (nat_lt m.id (length rules.modules) && nat_le ram_base m.gpa) _
-    (and_from (nat_lt m.id (length rules.modules)) (nat_le ram_base m.gpa) (less_is m.id (length rules.modules) known) (least_is ram_base m.gpa base))
-    (least_is (ram_place m.gpa + page_size * pages_in_rule (slice_get rules.modules m.id)) (page_size * rules.ram_pages) inside)
+    and_from (nat_lt m.id (length rules.modules)) _ (less_is m.id (length rules.modules) known)
+    (and_from (nat_le ram_base m.gpa) _ (least_is ram_base m.gpa base)
+    (least_is (ram_place m.gpa + page_size * pages_in_rule (slice_get rules.modules m.id)) (page_size * rules.ram_pages) inside))
 
 loaded_fits : (r : State) (i : ℕ) (m : SavedModule) → IsSound r → slice_get r.loaded i ≡ Some m → fits r.rules m ≡ true
 loaded_fits r i m sound at =

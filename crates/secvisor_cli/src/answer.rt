@@ -1,5 +1,5 @@
 // The answer to the words.
-ghost use Rattle.std.specs.Prelude.{◌≡◌, ◌<◌, ◌≤◌, ◌-◌, ◌^◌, ◌⊎◌, ℕ, List, Option, [], ◌∷◌, map, string_bytes, Ok, IsTrue, OnOk, IsErrOf, false};
+ghost use Rattle.std.specs.Prelude.{◌≡◌, ◌<◌, ◌≤◌, ◌-◌, ◌⊎◌, ℕ, List, Option, [], ◌∷◌, map, string_bytes, Ok, IsTrue, OnOk, IsErrOf, false};
 ghost use Rattle.std.specs.Option.{option_copied};
 ghost use Rattle.std.specs.Result.{is_ok};
 ghost use Rattle.sv_types.specs.Output.{run_status};
@@ -18,7 +18,7 @@ ghost use Rattle.secvisor_cli.specs.Plans.{Due, Exactly, RunFrom, command_plan, 
 ghost use Rattle.secvisor_cli.specs.Reading.{MayFollow, IsNamed, SavesUnder};
 ghost use Rattle.secvisor_cli.specs.Ready.{Prepares, IsReady, IsRunnable, MayCarryOut, MaySaveRun};
 ghost use Rattle.secvisor_cli.specs.Answers.{outside, Writes, Answers, SavesAndWrites, Performs, RunsTo, RunsAndSaves, Headline};
-ghost use Rattle.outside.specs.Outside.{MayWrite};
+ghost use Rattle.outside.specs.Outside.{MayWrite, CanCount};
 
 use crate::converting::prepare_converted;
 use crate::flat::prepare_flat;
@@ -60,8 +60,8 @@ pub fn secvisor<R: Threads + Sync, F: Files, O: Sink>(
     // the end may be saved once.
     requires permitted { MayFollow (plan_of (judgement_of_words (map string_bytes words.now))) (F.state files.old) }
     requires sink { MayWrite (O.state out.old) }
-    requires reads { (F.state files.old).read_faults < 2 ^ 64 - 1 }
-    requires saves { (F.state files.old).save_faults < 2 ^ 64 - 1 }
+    requires reads { CanCount (F.state files.old).read_faults }
+    requires saves { CanCount (F.state files.old).save_faults }
 
     // For every file, words and number of events the report, the status and the machine are the reference machine's, and a
     // policy that is made is the one that the files ask for: it is saved, and then its line is written.
@@ -100,8 +100,8 @@ fn answer<R: Threads + Sync, F: Files, O: Sink>(
 ) -> Result<Status, Trouble>
     requires permitted { MayFollow (plan_of (judgement_of_words (map string_bytes words.now))) (F.state files.old) }
     requires sink { MayWrite (O.state out.old) }
-    requires reads { (F.state files.old).read_faults < 2 ^ 64 - 1 }
-    requires saves { (F.state files.old).save_faults < 2 ^ 64 - 1 }
+    requires reads { CanCount (F.state files.old).read_faults }
+    requires saves { CanCount (F.state files.old).save_faults }
     ensures { Performs (plan_of (judgement_of_words (map string_bytes words.now)))
         (outside (F.state files.old) (O.state out.old) bench.old.machine)
         (outside (F.state files.new) (O.state out.new) bench.new.machine) result }
@@ -121,7 +121,7 @@ fn prepare<'a, R: Threads + Sync, F: Files>(
     files: &mut F,
 ) -> Result<Ready<'a>, Stop>
     requires permitted { MayFollow (plan_of (judgement_of_words (map string_bytes words.now))) (F.state files.old) }
-    requires reads { (F.state files.old).read_faults < 2 ^ 64 - 1 }
+    requires reads { CanCount (F.state files.old).read_faults }
     ensures { Prepares (plan_of (judgement_of_words (map string_bytes words.now))) (F.state files.old) (F.state files.new) result }
 {
     judge(words)?;
@@ -138,7 +138,7 @@ fn prepare_command<'a, R: Threads + Sync, F: Files>(
     files: &mut F,
 ) -> Result<Ready<'a>, Stop>
     requires permitted { MayFollow (command_plan (command_of command.now)) (F.state files.old) }
-    requires reads { (F.state files.old).read_faults < 2 ^ 64 - 1 }
+    requires reads { CanCount (F.state files.old).read_faults }
     requires range { IsInRange command.now }
     ensures { Prepares (command_plan (command_of command.now)) (F.state files.old) (F.state files.new) result }
 {
@@ -171,7 +171,7 @@ fn carry_out<F: Files, O: Sink>(
     bench: &mut Bench,
 ) -> Result<Status, Trouble>
     requires sink { MayWrite (O.state out.old) }
-    requires saves { (F.state files.old).save_faults < 2 ^ 64 - 1 }
+    requires saves { CanCount (F.state files.old).save_faults }
     requires permitted { MayCarryOut ready (F.state files.old) }
     ensures { (due : Due) → IsReady due (Ok ready.entry) → Answers due
         (outside (F.state files.old) (O.state out.old) bench.old.machine)
@@ -191,7 +191,7 @@ fn save_policy<F: Files, O: Sink>(
     out: &mut O,
 ) -> Result<Status, Trouble>
     requires sink { MayWrite (O.state out.old) }
-    requires saves { (F.state files.old).save_faults < 2 ^ 64 - 1 }
+    requires saves { CanCount (F.state files.old).save_faults }
     requires permitted { IsTrue ((F.state files.old).permits_save ((made.now.name.now, made.now.text.items) ∷ [])) }
     ensures { SavesAndWrites (record { name = made.now.name.now; content = Exactly made.now.text.items }) (string_bytes made.now.line)
         (F.state files.old) (F.state files.new) (O.state out.old) (O.state out.new) result }
@@ -210,7 +210,7 @@ pub fn run_on_bench<F: Files, O: Sink>(
     bench: &mut Bench,
 ) -> Result<Status, Trouble>
     requires sink { MayWrite (O.state out.old) }
-    requires saves { (F.state files.old).save_faults < 2 ^ 64 - 1 }
+    requires saves { CanCount (F.state files.old).save_faults }
     requires runnable { IsRunnable ready }
     requires permitted { MaySaveRun ready.machine (first_events ready.events ready.script) (option_copied ready.save) (F.state files.old) }
     ensures { (start : State) → IsNew ready.entry.machine start → Answers (RunFrom start (first_events ready.entry.events ready.entry.script) (option_copied ready.entry.save))
@@ -240,7 +240,7 @@ fn run_and_save<F: Files, O: Sink>(
     out: &mut O,
 ) -> Result<Status, Trouble>
     requires may { MayRun machine.old events (O.state out.old) }
-    requires saves { (F.state files.old).save_faults < 2 ^ 64 - 1 }
+    requires saves { CanCount (F.state files.old).save_faults }
     requires permitted { MaySaveRun machine.old (first_events events script) (option_copied save) (F.state files.old) }
     ensures { (start : State) → IsNew machine.old start → RunsAndSaves start (first_events events script) (option_copied save.entry) machine.new
         (F.state files.old) (F.state files.new) (O.state out.old) (O.state out.new) result }

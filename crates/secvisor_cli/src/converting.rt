@@ -1,7 +1,7 @@
 // The command `convert`: a policy's entries are bound to their places in a kernel.
-ghost use Rattle.std.specs.Prelude.{◌≡◌, ◌<◌, ◌-◌, ◌^◌, IfOk, IsTrue, length, string_bytes, true};
+ghost use Rattle.std.specs.Prelude.{◌≡◌, ◌<◌, ◌-◌, IfOk, IsTrue, length, string_bytes, true};
 ghost use Rattle.sv_types.specs.Policies.{rules_of, rules_within};
-ghost use Rattle.outside.specs.Outside.{FilesState};
+ghost use Rattle.outside.specs.Outside.{FilesState, CanCount};
 ghost use Rattle.secvisor_cli.specs.Plans.{bound_plan, convert_plan, converted_line, kernel_part};
 ghost use Rattle.secvisor_cli.specs.Reading.{MayFollow};
 ghost use Rattle.secvisor_cli.specs.Ready.{IsMade, Prepares};
@@ -26,7 +26,7 @@ pub fn prepare_converted<'a, R: Threads + Sync, F: Files>(
     files: &mut F,
 ) -> Result<Ready<'a>, Stop>
     requires permitted { MayFollow (convert_plan (convert_value asked.now)) (F.state files.old) }
-    requires reads { (F.state files.old).read_faults < 2 ^ 64 - 1 }
+    requires reads { CanCount (F.state files.old).read_faults }
     ensures { Prepares (convert_plan (convert_value asked.now)) (F.state files.old) (F.state files.new) result }
 {
     let policy = read_policy(alloc, asked.given, files)?;

@@ -1,11 +1,12 @@
 // The command `flat`.
-ghost use Rattle.std.specs.Prelude.{◌≡◌, ◌<◌, ◌≤◌, ◌-◌, ◌^◌, ◌%◌, IsTrue, length};
+ghost use Rattle.std.specs.Prelude.{◌≡◌, ◌<◌, ◌≤◌, ◌-◌, ◌%◌, IsTrue, length};
 ghost use Rattle.processor.specs.Bytes.{page_size};
 ghost use Rattle.sv_types.specs.Limits.{most_events};
 ghost use Rattle.sv_types.specs.Boot.{most_flat_bytes};
 ghost use Rattle.secvisor_cli.specs.Plans.{flat_plan, flat_events, is_whole_pages, measure_judged};
 ghost use Rattle.secvisor_cli.specs.Reading.{MayFollow};
 ghost use Rattle.secvisor_cli.specs.Ready.{IsReady, Prepares};
+ghost use Rattle.outside.specs.Outside.{CanCount};
 
 use crate::file_fault::{FileFault, Part};
 use crate::parts::read_part;
@@ -31,7 +32,7 @@ pub fn prepare_flat<R: Threads + Sync, F: Files>(
     files: &mut F,
 ) -> Result<Ready<'static>, Stop>
     requires permitted { MayFollow (flat_plan flat.now.file.now flat.now.wanted flat.now.events) (F.state files.old) }
-    requires reads { (F.state files.old).read_faults < 2 ^ 64 - 1 }
+    requires reads { CanCount (F.state files.old).read_faults }
     requires events { flat.now.events ≤ most_events }
     ensures { Prepares (flat_plan flat.now.file.now flat.now.wanted flat.now.events) (F.state files.old) (F.state files.new) result }
 {

@@ -1,5 +1,5 @@
 // The commands `run` and `vrun`.
-ghost use Rattle.std.specs.Prelude.{◌≡◌, ◌<◌, ◌≤◌, ◌-◌, ◌^◌, ◌%◌, ◌==◌, ℕ, List, IfOk, OnOk, IfErr, IsTrue, length, true};
+ghost use Rattle.std.specs.Prelude.{◌≡◌, ◌<◌, ◌≤◌, ◌-◌, ◌%◌, ◌==◌, ℕ, List, IfOk, OnOk, IfErr, IsTrue, length, true};
 ghost use Rattle.std.specs.Option.{option_copied};
 ghost use Rattle.sv_types.specs.Limits.{most_events};
 ghost use Rattle.reference.specs.BlockDisk.{sector_size};
@@ -16,6 +16,7 @@ ghost use Rattle.secvisor_cli.specs.Reading.{MayFollow};
 ghost use Rattle.secvisor_cli.specs.Ready.{Prepares, Staged, MayStage, DrawsFrom, IsPolicy, IsKernel, IsScript};
 ghost use Rattle.secvisor_cli.specs.Words.{source_value, run_value};
 ghost use Rattle.script.specs.HartCounts.{IsHartCount};
+ghost use Rattle.outside.specs.Outside.{CanCount};
 
 use crate::file_fault::{FileFault, Part};
 use crate::parts::read_part;
@@ -52,7 +53,7 @@ pub fn prepare_run<'a, R: Threads + Sync, F: Files>(
     files: &mut F,
 ) -> Result<Ready<'a>, Stop>
     requires permitted { MayFollow (run_plan (run_value asked.now)) (F.state files.old) }
-    requires reads { (F.state files.old).read_faults < 2 ^ 64 - 1 }
+    requires reads { CanCount (F.state files.old).read_faults }
     requires events { asked.now.events ≤ most_events }
     ensures prepares { Prepares (run_plan (run_value asked.now)) (F.state files.old) (F.state files.new) result }
     ensures draws { (number : ℕ) → source_value asked.now.script ≡ Auto number → IfOk result (DrawsFrom number) }
@@ -72,7 +73,7 @@ fn boot_file<'a, R: Threads + Sync, F: Files>(
     files: &mut F,
 ) -> Result<Ready<'a>, Stop>
     requires permitted { MayFollow (kernel_part (rules_of policy) file.now (boot_plan (run_value asked.now) (rules_of policy) file.now)) (F.state files.old) }
-    requires reads { (F.state files.old).read_faults < 2 ^ 64 - 1 }
+    requires reads { CanCount (F.state files.old).read_faults }
     requires events { asked.now.events ≤ most_events }
     requires within { IsTrue (rules_within (rules_of policy)) }
     ensures prepares { Prepares (kernel_part (rules_of policy) file.now (boot_plan (run_value asked.now) (rules_of policy) file.now)) (F.state files.old) (F.state files.new) result }
@@ -118,7 +119,7 @@ fn boot_with<R: Threads + Sync>(
 /// The policy of a name, which is judged.
 pub fn read_policy<F: Files>(alloc: Global, name: &str, files: &mut F) -> Result<Policy, Stop>
     requires permitted { MayStage (policy_part name.now) (F.state files.old) }
-    requires reads { (F.state files.old).read_faults < 2 ^ 64 - 1 }
+    requires reads { CanCount (F.state files.old).read_faults }
     ensures stage { Staged (policy_part name.now) rules_of (F.state files.old) (F.state files.new) result }
     ensures within { IfOk result (λ p. IsTrue (rules_within (rules_of p))) }
 {
@@ -162,7 +163,7 @@ pub(crate) fn judge_kernel(
 
 fn read_disk<F: Files>(alloc: Global, name: Option<&str>, files: &mut F) -> Result<Vec<u8>, Stop>
     requires permitted { MayStage (disk_part (option_copied name)) (F.state files.old) }
-    requires reads { (F.state files.old).read_faults < 2 ^ 64 - 1 }
+    requires reads { CanCount (F.state files.old).read_faults }
     ensures stage { Staged (disk_part (option_copied name.entry)) (λ disk. disk.items) (F.state files.old) (F.state files.new) result }
     ensures sectors { IfOk result (λ disk. length disk.items % sector_size ≡ 0) }
 {
@@ -195,7 +196,7 @@ pub fn read_script<F: Files>(
     files: &mut F,
 ) -> Result<Script, Stop>
     requires permitted { MayStage (script_part harts (source_value source.now)) (F.state files.old) }
-    requires reads { (F.state files.old).read_faults < 2 ^ 64 - 1 }
+    requires reads { CanCount (F.state files.old).read_faults }
     requires harts { IsHartCount harts }
     ensures stage { Staged (script_part harts (source_value source.now)) (λ script. script) (F.state files.old) (F.state files.new) result }
     ensures draws { (number : ℕ) → source_value source.now ≡ Auto number → IfOk result (λ script. script ≡ Schedule.Auto harts number) }
@@ -209,7 +210,7 @@ pub fn read_script<F: Files>(
 
 fn read_text<F: Files>(alloc: Global, name: &str, harts: u8, files: &mut F) -> Result<Script, Stop>
     requires permitted { MayStage (text_part harts name.now) (F.state files.old) }
-    requires reads { (F.state files.old).read_faults < 2 ^ 64 - 1 }
+    requires reads { CanCount (F.state files.old).read_faults }
     requires harts { IsHartCount harts }
     ensures { Staged (text_part harts name.now) (λ script. script) (F.state files.old) (F.state files.new) result }
 {

@@ -1,11 +1,11 @@
 // The command `measure`: a policy is made.
-ghost use Rattle.std.specs.Prelude.{◌≡◌, ◌<◌, ◌-◌, ◌^◌, ◌++◌, [], ◌∷◌, IfOk, IfErr, IsTrue, OnOk, Err, true, map, string_bytes};
+ghost use Rattle.std.specs.Prelude.{◌≡◌, ◌<◌, ◌-◌, ◌++◌, [], ◌∷◌, IfOk, IfErr, IsTrue, OnOk, Err, true, map, string_bytes};
 ghost use Rattle.std.specs.List.{list_all};
 ghost use Rattle.sv_types.specs.Policies.{rules_of, rules_within};
 ghost use Rattle.policy_making.specs.Making.{file_names, terms_of};
 ghost use Rattle.policy_making.specs.Ranges.{terms_within};
 ghost use Rattle.policy_making.specs.WordRanges.{is_name, are_module_names};
-ghost use Rattle.outside.specs.Outside.{FilesState};
+ghost use Rattle.outside.specs.Outside.{FilesState, CanCount};
 ghost use Rattle.secvisor_cli.specs.Plans.{Plan, Modules, digest_part, no_modules, module_part, modules_part, making_plan, measure_plan, measured_line};
 ghost use Rattle.secvisor_cli.specs.Reading.{MayFollow};
 ghost use Rattle.secvisor_cli.specs.Ready.{IsMade, Prepares, Passes, Staged, MayStage, kernel_value, modules_value};
@@ -48,7 +48,7 @@ pub fn prepare_policy<'a, R: Threads + Sync, F: Files>(
     files: &mut F,
 ) -> Result<Ready<'a>, Stop>
     requires permitted { MayFollow (measure_plan (policy_value asked.now)) (F.state files.old) }
-    requires reads { (F.state files.old).read_faults < 2 ^ 64 - 1 }
+    requires reads { CanCount (F.state files.old).read_faults }
     requires terms { IsTrue (terms_within (policy_value asked.now).terms) }
     requires names { IsTrue (are_module_names (policy_value asked.now).modules) }
     ensures { Prepares (measure_plan (policy_value asked.now)) (F.state files.old) (F.state files.new) result }
@@ -68,7 +68,7 @@ fn measure_kernel<R: Threads + Sync, F: Files>(
     files: &mut F,
 ) -> Result<MeasuredKernel, Stop>
     requires permitted { MayStage (digest_part name.now ram_pages) (F.state files.old) }
-    requires reads { (F.state files.old).read_faults < 2 ^ 64 - 1 }
+    requires reads { CanCount (F.state files.old).read_faults }
     ensures { Staged (digest_part name.now ram_pages) kernel_value (F.state files.old) (F.state files.new) result }
 {
     let file = read_part(alloc, files, Part::Image, name, MOST_IMAGE_BYTES)?;
@@ -84,7 +84,7 @@ fn read_modules<F: Files>(
     files: &mut F,
 ) -> Result<WantingModules, Stop>
     requires permitted { MayStage (modules_part (map (λ word. word.now) words.now) no_modules) (F.state files.old) }
-    requires reads { (F.state files.old).read_faults < 2 ^ 64 - 1 }
+    requires reads { CanCount (F.state files.old).read_faults }
     requires names { IsTrue (list_all (λ word. is_name word.now) words.now) }
     ensures staged { Staged (modules_part (map (λ word. word.now) words.now) no_modules) modules_value (F.state files.old) (F.state files.new) result }
     ensures named { IfOk result (λ modules. file_names (modules_value modules).objects ≡ map (λ word. word.now) words.now) }
@@ -107,7 +107,7 @@ fn read_module<F: Files>(
     files: &mut F,
 ) -> Result<(), Stop>
     requires permitted { MayStage (module_part word.now (modules_value modules.old)) (F.state files.old) }
-    requires reads { (F.state files.old).read_faults < 2 ^ 64 - 1 }
+    requires reads { CanCount (F.state files.old).read_faults }
     requires name { IsTrue (is_name word.now) }
     ensures passes { OnOk result (Passes (module_part word.now (modules_value modules.old)) (modules_value modules.new) (F.state files.old) (F.state files.new)) }
     ensures named { OnOk result (file_names (modules_value modules.new).objects ≡ file_names (modules_value modules.old).objects ++ word.now ∷ []) }

@@ -1,6 +1,7 @@
 // The reading of files.
-ghost use Rattle.std.specs.Prelude.{◌<◌, ◌-◌, ◌^◌, [], ◌∷◌, IsTrue};
+ghost use Rattle.std.specs.Prelude.{◌<◌, ◌-◌, [], ◌∷◌, IsTrue};
 ghost use Rattle.secvisor_cli.specs.Ready.{PartRead};
+ghost use Rattle.outside.specs.Outside.{CanCount};
 
 use crate::file_fault::{FileFault, Part};
 use crate::ready::Stop;
@@ -17,7 +18,7 @@ pub fn read_part<F: Files>(
     limit: usize,
 ) -> Result<Vec<u8>, Stop>
     requires permitted { IsTrue ((F.state files.old).permits ((name.now, limit) ∷ [])) }
-    requires count { (F.state files.old).read_faults < 2 ^ 64 - 1 }
+    requires count { CanCount (F.state files.old).read_faults }
     ensures { PartRead part name.now limit (F.state files.old) (F.state files.new) result }
 {
     match files.read(alloc, name, limit) {

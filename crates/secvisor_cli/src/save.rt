@@ -1,10 +1,11 @@
 // The disk as a run left it, saved.
-ghost use Rattle.std.specs.Prelude.{◌<◌, ◌-◌, ◌^◌};
+ghost use Rattle.std.specs.Prelude.{◌<◌, ◌-◌};
 ghost use Rattle.std.specs.Option.{option_copied};
 ghost use Rattle.reference.specs.Disk.{disk_bytes};
 ghost use Rattle.secvisor_cli.specs.Plans.{saving_of_bytes};
 ghost use Rattle.secvisor_cli.specs.Reading.{MaySave};
 ghost use Rattle.secvisor_cli.specs.Answers.{AfterSave};
+ghost use Rattle.outside.specs.Outside.{CanCount};
 
 use machine::Machine;
 use outside::{Files, Trouble};
@@ -17,7 +18,7 @@ pub fn save_disk<F: Files>(
     files: &mut F,
 ) -> Result<(), Trouble>
     requires permitted { MaySave (saving_of_bytes (disk_bytes machine.now.devices.disk) (option_copied save)) (F.state files.old) }
-    requires count { (F.state files.old).save_faults < 2 ^ 64 - 1 }
+    requires count { CanCount (F.state files.old).save_faults }
     ensures { AfterSave (saving_of_bytes (disk_bytes machine.now.devices.disk) (option_copied save.entry)) (F.state files.old) (F.state files.new) result }
 {
     match save {

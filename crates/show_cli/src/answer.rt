@@ -1,6 +1,6 @@
 // The answer to the words of `show`.
-ghost use Rattle.std.specs.Prelude.{◌≡◌, ◌<◌, ◌≤◌, ◌-◌, ◌^◌, ℕ, List, Some, Ok, map, string_bytes, IsTrue};
-ghost use Rattle.outside.specs.Outside.{MayWrite};
+ghost use Rattle.std.specs.Prelude.{◌≡◌, ◌<◌, ◌≤◌, ◌-◌, ℕ, List, Some, Ok, map, string_bytes, IsTrue};
+ghost use Rattle.outside.specs.Outside.{MayWrite, CanCount};
 ghost use Rattle.snapshot_form.specs.Snapshots.{contents};
 ghost use Rattle.snapshot_text.specs.SnapshotTexts as text;
 ghost use Rattle.show_cli.specs.Showing as spec;
@@ -26,7 +26,7 @@ pub fn secvisor_show<F: Files, O: Sink>(
     // Nothing but the snapshot may be asked for, once and up to the most bytes that one has.
     requires permitted { MayAsk (spec.name_in (map string_bytes words.now)) (F.state files.old) }
     requires sink { MayWrite (O.state out.old) }
-    requires reads { (F.state files.old).read_faults < 2 ^ 64 - 1 }
+    requires reads { CanCount (F.state files.old).read_faults }
 
     // For every file and all words, what is written and the status are those that the definitions give to what was read.
     ensures headline { Headline (spec.name_in (map string_bytes words.now)) (F.state files.old) (F.state files.new) (O.state out.old) (O.state out.new) result }
@@ -52,7 +52,7 @@ fn answer<F: Files, O: Sink>(
 ) -> Result<Status, Trouble>
     requires permitted { MayAsk (spec.name_in (map string_bytes words.now)) (F.state files.old) }
     requires sink { MayWrite (O.state out.old) }
-    requires reads { (F.state files.old).read_faults < 2 ^ 64 - 1 }
+    requires reads { CanCount (F.state files.old).read_faults }
     ensures { Shows (spec.name_in (map string_bytes words.now)) (F.state files.old) (F.state files.new) (O.state out.old) (O.state out.new) result }
 {
     match name_in(words) {
@@ -69,7 +69,7 @@ fn show_file<F: Files, O: Sink>(
 ) -> Result<Status, Trouble>
     requires permitted { MayAsk (Some name.now) (F.state files.old) }
     requires sink { MayWrite (O.state out.old) }
-    requires reads { (F.state files.old).read_faults < 2 ^ 64 - 1 }
+    requires reads { CanCount (F.state files.old).read_faults }
     ensures { ShowsFile name.now (F.state files.old) (F.state files.new) (O.state out.old) (O.state out.new) result }
 {
     match files.read(alloc, name, MOST_SNAPSHOT_BYTES) {

@@ -1,5 +1,5 @@
 // The answer to the words of `snap`.
-ghost use Rattle.std.specs.Prelude.{◌≡◌, ◌≢◌, ◌<◌, ◌≤◌, ◌-◌, ◌^◌, ◌⊎◌, ℕ, List, [], map, string_bytes, false, IsTrue, None};
+ghost use Rattle.std.specs.Prelude.{◌≡◌, ◌≢◌, ◌<◌, ◌≤◌, ◌-◌, ◌⊎◌, ℕ, List, [], map, string_bytes, false, IsTrue, None};
 ghost use Rattle.std.specs.Result.{is_ok};
 ghost use Rattle.sv_types.specs.Limits.{most_events};
 ghost use Rattle.command_words.specs.declared.command.DiskKind.{DiskKind};
@@ -10,7 +10,7 @@ ghost use Rattle.machine_model.specs.Reaches.{IsNew};
 ghost use Rattle.sv_types.specs.Schedule.{first_events};
 ghost use Rattle.console_run.specs.Console.{MayRun};
 ghost use Rattle.console_run.specs.Standing.{HasState};
-ghost use Rattle.outside.specs.Outside.{MayWrite};
+ghost use Rattle.outside.specs.Outside.{MayWrite, CanCount};
 ghost use Rattle.secvisor_cli.specs.Answers.{outside, Writes};
 ghost use Rattle.secvisor_cli.specs.Plans.{run_plan};
 ghost use Rattle.secvisor_cli.specs.Reading.{MayFollow, IsNamed};
@@ -47,8 +47,8 @@ pub fn secvisor_snap<R: Threads + Sync, F: Files, O: Sink>(
     requires permitted { MayFollow (snap_plan (snap_judged (map string_bytes words.now))) (F.state files.old) }
     requires snapshot { MaySaveUnder (out_of (snap_judged (map string_bytes words.now))) (F.state files.old) }
     requires sink { MayWrite (O.state out.old) }
-    requires reads { (F.state files.old).read_faults < 2 ^ 64 - 1 }
-    requires saves { (F.state files.old).save_faults < 2 ^ 64 - 1 }
+    requires reads { CanCount (F.state files.old).read_faults }
+    requires saves { CanCount (F.state files.old).save_faults }
 
     // For every file, words and number of events, the console's bytes are those of the reference machine's run, and what is saved
     // is exactly the spelling of a snapshot of its state, with the number of events that were made.
@@ -85,8 +85,8 @@ fn answer<R: Threads + Sync, F: Files, O: Sink>(
     requires permitted { MayFollow (snap_plan (snap_judged (map string_bytes words.now))) (F.state files.old) }
     requires snapshot { MaySaveUnder (out_of (snap_judged (map string_bytes words.now))) (F.state files.old) }
     requires sink { MayWrite (O.state out.old) }
-    requires reads { (F.state files.old).read_faults < 2 ^ 64 - 1 }
-    requires saves { (F.state files.old).save_faults < 2 ^ 64 - 1 }
+    requires reads { CanCount (F.state files.old).read_faults }
+    requires saves { CanCount (F.state files.old).save_faults }
     ensures { PerformsSnap (snap_judged (map string_bytes words.now))
         (outside (F.state files.old) (O.state out.old) bench.old.machine)
         (outside (F.state files.new) (O.state out.new) bench.new.machine) result }
@@ -111,8 +111,8 @@ fn answer_snap<R: Threads + Sync, F: Files, O: Sink>(
     requires kind { snap.now.run.kind ≡ DiskKind.Block }
     requires events { snap.now.run.events ≤ most_events }
     requires sink { MayWrite (O.state out.old) }
-    requires reads { (F.state files.old).read_faults < 2 ^ 64 - 1 }
-    requires saves { (F.state files.old).save_faults < 2 ^ 64 - 1 }
+    requires reads { CanCount (F.state files.old).read_faults }
+    requires saves { CanCount (F.state files.old).save_faults }
     ensures { PerformsRun (run_plan (run_value snap.now.run)) snap.now.out.now
         (outside (F.state files.old) (O.state out.old) bench.old.machine)
         (outside (F.state files.new) (O.state out.new) bench.new.machine) result }
@@ -134,7 +134,7 @@ fn run_on_bench<F: Files, O: Sink>(
     bench: &mut Bench,
 ) -> Result<Status, Trouble>
     requires sink { MayWrite (O.state out.old) }
-    requires saves { (F.state files.old).save_faults < 2 ^ 64 - 1 }
+    requires saves { CanCount (F.state files.old).save_faults }
     requires fresh { IsFresh ready }
     requires starts { StartsBlock ready.machine }
     requires snapshot { MaySaveUnder name.now (F.state files.old) }
@@ -165,7 +165,7 @@ fn run_and_save<F: Files, O: Sink>(
     out: &mut O,
 ) -> Result<Status, Trouble>
     requires sink { MayWrite (O.state out.old) }
-    requires saves { (F.state files.old).save_faults < 2 ^ 64 - 1 }
+    requires saves { CanCount (F.state files.old).save_faults }
     requires events { events ≤ most_events }
     requires state { HasState machine.old }
     requires counts { CountsAtMost 0 machine.old.journal.counts }

@@ -1,11 +1,12 @@
 // What is ready of `snap`.
-ghost use Rattle.std.specs.Prelude.{◌≡◌, ◌<◌, ◌≤◌, ◌-◌, ◌^◌};
+ghost use Rattle.std.specs.Prelude.{◌≡◌, ◌<◌, ◌≤◌, ◌-◌};
 ghost use Rattle.sv_types.specs.Limits.{most_events};
 ghost use Rattle.command_words.specs.declared.command.DiskKind.{DiskKind};
 ghost use Rattle.secvisor_cli.specs.Plans.{run_plan};
 ghost use Rattle.secvisor_cli.specs.Reading.{MayFollow};
 ghost use Rattle.secvisor_cli.specs.Words.{run_value};
 ghost use Rattle.snap_cli.specs.SnapReady.{Boots};
+ghost use Rattle.outside.specs.Outside.{CanCount};
 
 use outside::Files;
 use secvisor_cli::{Booted, Ready, Run, Stop, prepare_run};
@@ -20,7 +21,7 @@ pub fn prepare_snap<'a, R: Threads + Sync, F: Files>(
     files: &mut F,
 ) -> Result<Booted<'a>, Stop>
     requires permitted { MayFollow (run_plan (run_value asked.now)) (F.state files.old) }
-    requires reads { (F.state files.old).read_faults < 2 ^ 64 - 1 }
+    requires reads { CanCount (F.state files.old).read_faults }
     requires kind { asked.now.kind ≡ DiskKind.Block }
     requires events { asked.now.events ≤ most_events }
     ensures { Boots (run_plan (run_value asked.now)) (F.state files.old) (F.state files.new) result }

@@ -7,6 +7,7 @@ ghost use Rattle.secvisor_cli.specs.Answers.{AfterSave};
 ghost use Rattle.secvisor_cli.specs.Plans.{Exactly};
 ghost use Rattle.snap_cli.specs.SnapReady.{MaySaveUnder};
 ghost use Rattle.snap_cli.specs.Spelling.{SpellsMachine, SavesMachine};
+ghost use Rattle.outside.specs.Outside.{CanCount};
 
 use machine::Machine;
 use outside::Files;
@@ -28,7 +29,7 @@ pub fn save_snapshot<F: Files>(
     requires kind { is_block_disk machine.now.devices.disk ≡ true }
     requires few { events_counted machine.now.journal.counts < 2 ^ 64 }
     requires permitted { MaySaveUnder name.now (F.state files.old) }
-    requires count { (F.state files.old).save_faults < 2 ^ 64 - 1 }
+    requires count { CanCount (F.state files.old).save_faults }
     ensures { SavesMachine machine.now text.items name.now (F.state files.old) (F.state files.new) result }
 {
     let bytes = snapshot_bytes(alloc, machine, text)?;
@@ -38,7 +39,7 @@ pub fn save_snapshot<F: Files>(
 #[tactic(auto, using(secvisor_cli::proofs::SaveLemmas::saved_exactly, secvisor_cli::proofs::SaveLemmas::broke_exactly))]
 fn save_bytes<F: Files>(name: &str, bytes: &[u8], files: &mut F) -> Result<(), Trouble>
     requires permitted { IsTrue ((F.state files.old).permits_save ((name.now, bytes.now) ∷ [])) }
-    requires count { (F.state files.old).save_faults < 2 ^ 64 - 1 }
+    requires count { CanCount (F.state files.old).save_faults }
     ensures { AfterSave (Some (record { name = name.now; content = Exactly bytes.now })) (F.state files.old) (F.state files.new) result }
 {
     Ok(files.save(name, bytes)?)

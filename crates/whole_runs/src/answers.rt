@@ -1,5 +1,6 @@
 // Calls of the program by their first word, over files and a sink in memory.
-ghost use Rattle.std.specs.Prelude.{◌<◌, ◌-◌, ◌^◌};
+ghost use Rattle.std.specs.Prelude.{◌<◌, ◌-◌};
+ghost use Rattle.outside.specs.Outside.{CanCount};
 
 use crate::memory::Answer;
 use outside::{MemFiles, MemSink};
@@ -18,9 +19,9 @@ pub fn answer<R: Threads + Sync>(
     files: &mut MemFiles,
     out: &mut MemSink,
 ) -> Answer
-    requires reads { files.old.read_faults < 2 ^ 64 - 1 }
-    requires saves { files.old.save_faults < 2 ^ 64 - 1 }
-    requires writes { out.old.faults < 2 ^ 64 - 1 }
+    requires reads { CanCount files.old.read_faults }
+    requires saves { CanCount files.old.save_faults }
+    requires writes { CanCount out.old.faults }
 {
     let mut bench = Bench { machine: None };
     let status = status(rt, alloc, line, files, out, &mut bench);
@@ -38,9 +39,9 @@ fn status<R: Threads + Sync>(
     out: &mut MemSink,
     bench: &mut Bench,
 ) -> Status
-    requires reads { files.old.read_faults < 2 ^ 64 - 1 }
-    requires saves { files.old.save_faults < 2 ^ 64 - 1 }
-    requires writes { out.old.faults < 2 ^ 64 - 1 }
+    requires reads { CanCount files.old.read_faults }
+    requires saves { CanCount files.old.save_faults }
+    requires writes { CanCount out.old.faults }
 {
     match first(line) {
         "snap" => secvisor_snap(rt, alloc, line, files, out, bench),

@@ -1,5 +1,6 @@
 // Files in memory, as they lie in the folder that the program is run in.
-ghost use Rattle.std.specs.Prelude.{◌≡◌, ◌<◌, ◌-◌, ◌^◌, OnOk};
+ghost use Rattle.std.specs.Prelude.{◌≡◌, ◌<◌, ◌-◌, OnOk};
+ghost use Rattle.outside.specs.Outside.{CanCount};
 
 use outside::{Files, MemFiles};
 use std::io::ErrorKind;
@@ -12,7 +13,7 @@ pub fn hold_named<R: std::rt::Files + AllocGlobal>(
     made: &str,
     files: &mut MemFiles,
 ) -> io::Result<()>
-    requires { files.old.save_faults < 2 ^ 64 - 1 }
+    requires { CanCount files.old.save_faults }
     ensures reads { OnOk result (files.new.read_faults ≡ files.old.read_faults) }
     ensures saves { OnOk result (files.new.save_faults ≡ files.old.save_faults) }
 {
@@ -26,7 +27,7 @@ pub fn hold_named<R: std::rt::Files + AllocGlobal>(
 
 // Holds the file that a word names. A word that names none is left out.
 fn hold<R: std::rt::Files + AllocGlobal>(rt: &R, word: &str, files: &mut MemFiles) -> io::Result<()>
-    requires { files.old.save_faults < 2 ^ 64 - 1 }
+    requires { CanCount files.old.save_faults }
     ensures reads { OnOk result (files.new.read_faults ≡ files.old.read_faults) }
     ensures saves { OnOk result (files.new.save_faults ≡ files.old.save_faults) }
 {
@@ -44,7 +45,7 @@ fn hold<R: std::rt::Files + AllocGlobal>(rt: &R, word: &str, files: &mut MemFile
 
 // Puts bytes under a name, or says that there is no room for them.
 fn save(name: &str, bytes: &[u8], files: &mut MemFiles) -> io::Result<()>
-    requires { files.old.save_faults < 2 ^ 64 - 1 }
+    requires { CanCount files.old.save_faults }
     ensures reads { OnOk result (files.new.read_faults ≡ files.old.read_faults) }
     ensures saves { OnOk result (files.new.save_faults ≡ files.old.save_faults) }
 {

@@ -1,5 +1,6 @@
 // Live runs, whose keys a second thread reads.
-ghost use Rattle.std.specs.Prelude.{◌≡◌, ◌<◌, ◌-◌, ◌^◌, IfOk};
+ghost use Rattle.std.specs.Prelude.{◌≡◌, ◌<◌, ◌-◌, IfOk};
+ghost use Rattle.outside.specs.Outside.{CanCount};
 
 use crate::calls::{called, is_same, line, print_lines, tell};
 use crate::case::Case;
@@ -25,10 +26,10 @@ fn answer_live<R: Threads + Wait + Sync, K: Keys + Send, P: Pace + Sync>(
     out: &mut MemSink,
     pace: &P,
 ) -> Answer
-    requires reads { files.old.read_faults < 2 ^ 64 - 1 }
-    requires saves { files.old.save_faults < 2 ^ 64 - 1 }
-    requires keys { (K.state keys.old).faults < 2 ^ 64 - 1 }
-    requires writes { out.old.faults < 2 ^ 64 - 1 }
+    requires reads { CanCount files.old.read_faults }
+    requires saves { CanCount files.old.save_faults }
+    requires keys { CanCount (K.state keys.old).faults }
+    requires writes { CanCount out.old.faults }
 {
     let mut bench = Bench { machine: None };
     let status = secvisor_live(rt, alloc, line, files, keys, out, pace, &mut bench);
@@ -47,7 +48,7 @@ fn live<R: Threads + Wait + Sync, K: Keys + Send, P: Pace + Sync>(
     keys: &mut K,
     pace: &P,
 ) -> Result<Left, AllocError>
-    requires keys { (K.state keys.old).faults < 2 ^ 64 - 1 }
+    requires keys { CanCount (K.state keys.old).faults }
 {
     let outside = case.outside;
     let mut files = hold(alloc, &case.handed, outside)?;

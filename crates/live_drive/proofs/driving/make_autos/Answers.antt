@@ -1,4 +1,4 @@
-use Rattle.std.proofs.Common.{refl, ◌∙◌, arith, rules}
+use Rattle.std.proofs.Common.{refl, arith, rules}
 use Rattle.live_drive.proofs.MadeEvents.{on_none, may_drive, driven_then, stays_then, drives_off, on_breaks}
 use Rattle.live_drive.proofs.driving.make_autos.Goals as goal
 

@@ -1,6 +1,6 @@
-use Rattle.std.proofs.Common.{refl, rules}
+use Rattle.std.proofs.Common.{rules}
 use Rattle.live_drive.specs.LiveRuns.{events_made}
-use Rattle.live_drive.proofs.MadeEvents.{on_none, cleared_way, drives_off}
+use Rattle.live_drive.proofs.MadeEvents.{cleared_way, drives_off}
 use Rattle.live_drive.proofs.driving.show_often.Goals as goal
 
 pub returns-in_err-show_console-clause-drives : goal.returns-in_err-show_console-clause-drives

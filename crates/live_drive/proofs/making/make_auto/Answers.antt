@@ -1,4 +1,4 @@
-use Rattle.std.proofs.Common.{refl, sym, ◌∙◌, arith, rules}
+use Rattle.std.proofs.Common.{refl, sym, ◌∙◌, arith}
 use Rattle.live_drive.specs.LiveRuns.{harts_of, events_made}
 use Rattle.live_drive.proofs.DrawnEvents.{drawn_is, drawn_more, same_harts}
 use Rattle.live_drive.proofs.MadeEvents.{on_to, breaks_to, ok_both, err_map, may_step, auto_counted, auto_made}

@@ -2,7 +2,7 @@ use Rattle.std.proofs.Common.{◌≤◌, ℕ, List, [], ◌∷◌, ◌++◌, ref
 use Rattle.sv_types.specs.Limits.{most_events}
 use Rattle.live_drive.specs.LiveRuns.{harts_of}
 use Rattle.live_drive.proofs.DrawnEvents.{drawn_same}
-use Rattle.live_drive.proofs.MadeEvents.{on_none, on_then, on_breaks, may_write, may_step, key_counted, driven_then, stays_then, drives_off}
+use Rattle.live_drive.proofs.MadeEvents.{on_none, on_then, on_breaks, may_write, may_step, key_counted, drives_off}
 use Rattle.live_drive.proofs.making.make_keys.Goals as goal
 
 pub keys-init : goal.keys-init
