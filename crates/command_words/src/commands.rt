@@ -38,7 +38,7 @@ fn with_words<'a>(
 ) -> Result<Command<'a>, AllocError>
     ensures { IfOk result (λ c. app_of c ≡ with_subcommand (app_of program.entry) (app_of_names name.entry.now (map (λ w. w.now) words.now)).top) }
 {
-    let command = wanting(alloc, name, words)?;
+    let command = command_of_names(alloc, name, words)?;
     program.subcommand(command)
 }
 
@@ -64,22 +64,26 @@ fn measure<'a>(alloc: Global) -> Result<Command<'a>, AllocError>
     ensures app { IfOk result (λ c. app_of c ≡ measure_app) }
     ensures local { IfOk result (λ c. (out-Command c).has_globals ≡ false) }
 {
-    wanting(alloc, "measure", &MEASURE)?.arg(list(alloc, "MODULES"))
+    command_of_names(alloc, "measure", &MEASURE)?.arg(list(alloc, "MODULES"))
 }
 
 // A command that wants a word under each of the names.
-fn wanting<'a>(alloc: Global, name: &'a str, words: &[&'a str]) -> Result<Command<'a>, AllocError>
+fn command_of_names<'a>(
+    alloc: Global,
+    name: &'a str,
+    words: &[&'a str],
+) -> Result<Command<'a>, AllocError>
     ensures app { IfOk result (λ c. app_of c ≡ app_of_names name.entry.now (map (λ w. w.now) words.now)) }
     ensures local { IfOk result (λ c. (out-Command c).has_globals ≡ false) }
 {
     let mut command = Command::new(alloc, name);
     for word in words {
-        command = command.arg(wanted(alloc, word))?;
+        command = command.arg(wanted_word(alloc, word))?;
     }
     Ok(command)
 }
 
-fn wanted<'a>(alloc: Global, name: &'a str) -> Arg<'a>
+fn wanted_word<'a>(alloc: Global, name: &'a str) -> Arg<'a>
     ensures rule { rule_of result ≡ wanted_rule name.entry.now }
     ensures local { result.global ≡ false }
 {

@@ -10,19 +10,19 @@ use std::alloc::{AllocError, Global};
 
 /// The words of the command that was met.
 #[tactic(auto, unfolding(crate::specs::Parsing::split_found))]
-pub fn found<'a>(
+pub fn words_of_command<'a>(
     alloc: Global,
     matches: &ArgMatches<'a>,
 ) -> Result<Option<CommandWords<'a>>, AllocError>
     ensures { IfOk result (λ words. option_map split_of words ≡ split_found (subcommand_rows_of matches.now)) }
 {
     match matches.subcommand() {
-        Some((name, matches)) => named(alloc, name, matches),
+        Some((name, matches)) => words_by_name(alloc, name, matches),
         None => Ok(None),
     }
 }
 
-fn named<'a>(
+fn words_by_name<'a>(
     alloc: Global,
     name: &str,
     matches: &ArgMatches<'a>,
@@ -31,7 +31,7 @@ fn named<'a>(
 {
     match name {
         "flat" => Ok(flat(matches)),
-        "gen" => Ok(generated(matches)),
+        "gen" => Ok(generate(matches)),
         "run" => Ok(run(matches, DiskKind::Block)),
         "vrun" => Ok(run(matches, DiskKind::Virtio)),
         "measure" => measure(alloc, matches),
@@ -59,7 +59,7 @@ fn flat<'a>(matches: &ArgMatches<'a>) -> Option<CommandWords<'a>>
     }))
 }
 
-fn generated<'a>(matches: &ArgMatches<'a>) -> Option<CommandWords<'a>>
+fn generate<'a>(matches: &ArgMatches<'a>) -> Option<CommandWords<'a>>
     ensures { option_map split_of result ≡ gen_found (rows_of (found_of matches.now)) }
 {
     let calls = word(matches, "N")?;

@@ -8,7 +8,7 @@ ghost use Rattle.command_words.specs.Values.{split_of};
 
 use crate::command::CommandWords;
 use crate::commands::program;
-use crate::found::found;
+use crate::found::words_of_command;
 use clap::error::ErrorKind;
 use clap::{ArgMatches, Error};
 use std::alloc::{AllocError, Global};
@@ -21,24 +21,27 @@ pub fn split<'a>(alloc: Global, words: &'a [String]) -> Result<CommandWords<'a>,
 {
     let program = program(alloc)?;
     match program.try_get_matches_from(words) {
-        Ok(matches) => named(alloc, &matches),
-        Err(error) => Err(wanting(&error)),
+        Ok(matches) => words_of_matches(alloc, &matches),
+        Err(error) => Err(want_of_memory(&error)),
     }
 }
 
 // A command was met.
-fn named<'a>(alloc: Global, matches: &ArgMatches<'a>) -> Result<CommandWords<'a>, AllocError>
+fn words_of_matches<'a>(
+    alloc: Global,
+    matches: &ArgMatches<'a>,
+) -> Result<CommandWords<'a>, AllocError>
     requires { IsTrue (is_some (split_found (subcommand_rows_of matches.now))) }
     ensures { IfOk result (λ found. split_found (subcommand_rows_of matches.now) ≡ Some (split_of found)) }
 {
-    match found(alloc, matches)? {
+    match words_of_command(alloc, matches)? {
         Some(words) => Ok(words),
         None => unreachable!(),
     }
 }
 
 // A parse fails only where memory is wanting.
-fn wanting(error: &Error) -> AllocError
+fn want_of_memory(error: &Error) -> AllocError
     requires { kind_of error.now ≡ ErrorKind.OutOfMemory }
 {
     match error.kind() {

@@ -51,7 +51,7 @@ impl<S: EventSource> Drawing<S> {
 
     /// So many of the equal events were made.
     #[inline(always)]
-    pub(crate) fn made(&mut self, count: u64)
+    pub(crate) fn count_down(&mut self, count: u64)
         requires { count ≤ self.old.row.count }
         ensures left { events_left S.schedule self.old ≡ replicate count self.old.row.event ++ events_left S.schedule self.new }
         ensures count { count_left self.new + count ≡ count_left self.old }

@@ -62,7 +62,7 @@ fn run_in_rows<S: EventSource + Drop, O: Sink>(
             return Ok(());
         }
         let made = machine.repeat(row.event, row.count);
-        drawing.made(made);
+        drawing.count_down(made);
         flush_due(machine, out)?;
     }
     Ok(())

@@ -94,7 +94,7 @@ fn refusal(mode: Mode, scounteren: u64, writes: bool, csr: Csr) -> Option<CsrFau
 
 /// A register of interrupts as the guest sees it.
 #[tactic(auto, unfolding(processor::specs::HypervisorRegisters::guest_alias))]
-fn aliased(hideleg: u64, register: u64) -> u64
+fn guest_alias(hideleg: u64, register: u64) -> u64
     ensures { result ≡ guest_alias hideleg register }
 {
     (register & (hideleg & VIRTUAL_INTERRUPT_BITS)) >> 1
@@ -191,14 +191,14 @@ impl Csrs {
     {
         match csr {
             Csr::Sstatus => self.vsstatus + UXL,
-            Csr::Sie => aliased(hideleg, self.hie),
+            Csr::Sie => guest_alias(hideleg, self.hie),
             Csr::Stvec => self.vstvec,
             Csr::Scounteren => self.scounteren,
             Csr::Sscratch => self.vsscratch,
             Csr::Sepc => self.vsepc,
             Csr::Scause => self.vscause,
             Csr::Stval => self.vstval,
-            Csr::Sip => aliased(hideleg, self.hip(lines)),
+            Csr::Sip => guest_alias(hideleg, self.hip(lines)),
             Csr::Satp => self.vsatp,
             Csr::Time => lines.time,
         }

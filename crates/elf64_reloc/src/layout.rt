@@ -80,7 +80,7 @@ pub(crate) fn padding(end: u64, alignment: u64) -> u64
     (alignment - end % alignment) % alignment
 }
 
-fn aligned(end: u64, alignment: u64) -> u64
+fn align_up(end: u64, alignment: u64) -> u64
     ensures { result ≡ spec.align_up end alignment }
 {
     end.wrapping_add(padding(end, alignment))
@@ -90,8 +90,8 @@ fn place_behind(ends: Ends, space: Space, section: &SectionHeader) -> u64
     ensures { result ≡ spec.place_behind ends space section.now }
 {
     match space {
-        Space::Text => aligned(ends.text, section.alignment),
-        Space::Data => aligned(ends.data_end, section.alignment),
+        Space::Text => align_up(ends.text, section.alignment),
+        Space::Data => align_up(ends.data_end, section.alignment),
         Space::Elsewhere => 0,
     }
 }

@@ -47,7 +47,7 @@ static FIELDS: [Field; 33] = [
 ];
 
 // The image with fields changed, of a length.
-fn changed(alloc: Global, fields: &[Field], length: usize) -> Result<Vec<u8>, AllocError> {
+fn image_with(alloc: Global, fields: &[Field], length: usize) -> Result<Vec<u8>, AllocError> {
     let mut image = vec![in alloc; 0; length]?;
     put_all(&mut image, &FIELDS);
     put_all(&mut image, fields);
@@ -354,7 +354,7 @@ static FAULTS: [FaultRow; 47] = [
 ];
 
 fn check_fault(rt: &impl Abort, alloc: Global, row: &FaultRow) -> Result<(), AllocError> {
-    let image = changed(alloc, &row.fields, row.length)?;
+    let image = image_with(alloc, &row.fields, row.length)?;
     let what = row.what;
     assert!(rt;
         fault(alloc, &image, row.ram_pages) == Some(row.number),

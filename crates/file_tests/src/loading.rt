@@ -40,7 +40,7 @@ fn largest(alloc: Global) -> Result<Vec<u8>, AllocError> {
 }
 
 // RAM with the segments of a file.
-fn filled(alloc: Global, file: &[u8], ram_pages: u32) -> Result<HostMem, ElfRefusal>
+fn ram_of_file(alloc: Global, file: &[u8], ram_pages: u32) -> Result<HostMem, ElfRefusal>
     requires { ram_pages ≤ most_ram_pages }
 {
     let image = read_kernel(alloc, file, ram_pages)?;
@@ -52,7 +52,7 @@ fn filled(alloc: Global, file: &[u8], ram_pages: u32) -> Result<HostMem, ElfRefu
 #[test]
 fn as_many_segments_as_can_be(rt: HostRuntime) -> Result<(), Fail> {
     let file = largest(rt.alloc())?;
-    let mem = filled(rt.alloc(), &file, 65_536)?;
+    let mem = ram_of_file(rt.alloc(), &file, 65_536)?;
     let behind = mem.ram().get(0x1000..).unwrap_or(&[]);
     assert!(rt; behind.starts_with(&[1, 0, 0, 0, 6]));
     Ok(())

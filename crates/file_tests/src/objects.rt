@@ -62,7 +62,7 @@ static FIELDS: [Field; 46] = [
 ];
 
 // The object with fields changed, cut or filled with zeros to a length.
-fn changed(alloc: Global, fields: &[Field], length: usize) -> Result<Vec<u8>, AllocError> {
+fn object_with(alloc: Global, fields: &[Field], length: usize) -> Result<Vec<u8>, AllocError> {
     let mut object = vec![in alloc; 0; length]?;
     put_all(&mut object, &FIELDS);
     put_all(&mut object, fields);
@@ -398,7 +398,7 @@ fn check_fault(
     exports: &[Export; 1],
     row: &FaultRow,
 ) -> Result<(), AllocError> {
-    let object = changed(alloc, &row.fields, row.length)?;
+    let object = object_with(alloc, &row.fields, row.length)?;
     let what = row.what;
     assert!(rt;
         name_fault(alloc, &object) == Some(row.names),
@@ -486,7 +486,7 @@ fn check_sited(
     exports: &[Export; 1],
     row: &SitedRow,
 ) -> Result<(), RelocRefusal> {
-    let object = changed(alloc, &row.fields, row.length)?;
+    let object = object_with(alloc, &row.fields, row.length)?;
     let module = read_module(alloc, &object, exports)?;
     check_sites(rt, row, &module.sites);
     Ok(())
@@ -543,7 +543,7 @@ fn check_place(
     exports: &[Export; 1],
     row: &PlaceRow,
 ) -> Result<(), AllocError> {
-    let object = changed(alloc, &row.fields, OBJECT_BYTES)?;
+    let object = object_with(alloc, &row.fields, OBJECT_BYTES)?;
     let place = refused_place(alloc, &object, exports)?;
     let wanted = row.place;
     assert!(rt; text_of(&place) == wanted, "{wanted}");

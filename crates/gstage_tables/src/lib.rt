@@ -95,7 +95,7 @@ impl Trees {
         ensures views { AreViews mem.new.tables result.ram_pages result.bound all_free }
         ensures blocks { MapsBlocks mem.new.tables result.ram_pages result.bound all_free }
     {
-        let trees = Trees::made(mem.ram_pages() as u64, bound);
+        let trees = Trees::of_pages(mem.ram_pages() as u64, bound);
         let count = trees.count();
         fill_roots(mem, count);
         trees.fill_middles(mem);
@@ -103,7 +103,7 @@ impl Trees {
         trees
     }
 
-    fn made(ram_pages: u64, bound: &[u32]) -> Trees
+    fn of_pages(ram_pages: u64, bound: &[u32]) -> Trees
         requires most { ram_pages ≤ most_ram_pages }
         requires few { length bound.now ≤ most_bound }
         ensures pages { result.ram_pages ≡ ram_pages }
@@ -161,7 +161,7 @@ impl Trees {
     {
         let block = self.block_of(page);
         let was_free = self.is_free(mem, page);
-        let count = recounted(self.counts[block as usize], was_free, is_free(protection));
+        let count = count_after(self.counts[block as usize], was_free, is_free(protection));
         let before = self.is_whole(block);
         let after = self.is_whole_with(block, count);
         self.set_leaves(mem, page, protection, steps);
@@ -444,7 +444,7 @@ impl Trees {
 }
 
 // The count of a block's taken pages, where one was free before or not, and now is or isn't.
-fn recounted(count: u16, before: bool, after: bool) -> u16
+fn count_after(count: u16, before: bool, after: bool) -> u16
     ensures { result ≡ count_after count before after }
 {
     match (before, after) {

@@ -11,7 +11,7 @@ ghost use Rattle.hart.specs.Cores.{core_of, attempted_of};
 ghost use Rattle.hart.specs.Conditions.{MayAttempt, StaysReady};
 
 use crate::hart::Core;
-use crate::memory::{Request, reached, translated};
+use crate::memory::{Request, aligned_place, translation_result};
 use crate::requests::{
     Format, Operation, Stored, atomic, load, load_reserved, retire, store, store_conditional,
 };
@@ -76,10 +76,10 @@ fn fetch<W: Wires>(
     ensures attempted { attempted_of mem.new core.new regs.now result ≡ after_fetch mem.old (core_of core.old regs.now) (W.seen wires.now) (translation_result mem.old (core_of core.old regs.now) Access.Fetch core.old.pc 0) }
     ensures kept { StaysReady mem.old mem.new core.new regs.now cache.old cache.new }
 {
-    match translated(core, regs, cache, mem, Request::fetch(core.pc)) {
+    match translation_result(core, regs, cache, mem, Request::fetch(core.pc)) {
         Ok(hpa) => {
             let word = mem.read(hpa as usize, INSTRUCTION_BYTES as u8) as u32;
-            let decoded = words.decoded(core.pc, word);
+            let decoded = words.decoded_word(core.pc, word);
             carry_out(core, regs, cache, mem, wires, decoded)
         }
         Err(exception) => raise(core, regs, exception),
@@ -127,16 +127,16 @@ fn carry_out<W: Wires>(
             width,
             signed,
         } => {
-            let source = reached(core, regs, cache, mem, Request::load(addr, word), width);
+            let source = aligned_place(core, regs, cache, mem, Request::load(addr, word), width);
             load(core, regs, mem, rd, Format { width, signed }, source)
         }
         Effect::Store { addr, width, value } => {
-            let target = reached(core, regs, cache, mem, Request::store(addr, word), width);
+            let target = aligned_place(core, regs, cache, mem, Request::store(addr, word), width);
             store(core, regs, mem, Stored { width, value }, target)
         }
         Effect::LoadReserved { rd, addr, width } => {
             let request = Request::atomic(Access::Load, addr, word);
-            let source = reached(core, regs, cache, mem, request, width);
+            let source = aligned_place(core, regs, cache, mem, request, width);
             load_reserved(core, regs, mem, rd, width, source)
         }
         Effect::StoreConditional {
@@ -146,7 +146,7 @@ fn carry_out<W: Wires>(
             value,
         } => {
             let request = Request::atomic(Access::Store, addr, word);
-            let target = reached(core, regs, cache, mem, request, width);
+            let target = aligned_place(core, regs, cache, mem, request, width);
             let stored = Stored { width, value };
             store_conditional(core, regs, mem, rd, stored, target)
         }
@@ -158,7 +158,7 @@ fn carry_out<W: Wires>(
             value,
         } => {
             let request = Request::atomic(Access::Store, addr, word);
-            let place = reached(core, regs, cache, mem, request, width);
+            let place = aligned_place(core, regs, cache, mem, request, width);
             let operation = Operation { op, width, value };
             atomic(core, regs, mem, rd, operation, place)
         }

@@ -24,7 +24,7 @@ use sv39_walk::{Regime, translate_through};
 /// `htinst` of a guest-page fault at an entry of the first stage: a read of 64 bits for its translation.
 pub const IMPLICIT_READ: u32 = 0x3000;
 
-fn misaligned(access: Access) -> Cause
+fn misaligned_cause(access: Access) -> Cause
     ensures { result ≡ misaligned_cause access }
 {
     match access {
@@ -161,10 +161,10 @@ pub fn regime(core: &Core, regs: &HRegs) -> Regime
     }
 }
 
-// `translated` by a walk, kept out of the way of addresses whose translation is held.
+// `translation_result` by a walk, kept out of the way of addresses whose translation is held.
 #[tactic(auto, unfolding(processor::specs::HardwareMemory::translation_result))]
 #[inline(never)]
-fn walked(
+fn walked_translation(
     core: &Core,
     regs: &HRegs,
     cache: &mut Cache,
@@ -216,7 +216,7 @@ fn held_place(
 /// The host place of a virtual address, or the exception of an access there.
 #[tactic(auto, unfolding(processor::specs::HardwareMemory::translation_result))]
 #[inline(always)]
-pub(crate) fn translated(
+pub(crate) fn translation_result(
     core: &Core,
     regs: &HRegs,
     cache: &mut Cache,
@@ -231,7 +231,7 @@ pub(crate) fn translated(
 {
     match held_place(core, regs, cache, mem, request) {
         Some(hpa) => Ok(hpa),
-        None => walked(core, regs, cache, mem, request),
+        None => walked_translation(core, regs, cache, mem, request),
     }
 }
 
@@ -239,7 +239,7 @@ pub(crate) fn translated(
 /// the width, then those of its translation.
 #[tactic(auto, unfolding(processor::specs::HardwareMemory::aligned_translation))]
 #[inline(always)]
-pub(crate) fn reached(
+pub(crate) fn aligned_place(
     core: &Core,
     regs: &HRegs,
     cache: &mut Cache,
@@ -255,8 +255,8 @@ pub(crate) fn reached(
     ensures walked { Walked mem.now.tables regs.now.hgatp cache.old cache.new }
 {
     if request.address.is_multiple_of(u64::from(width)) {
-        translated(core, regs, cache, mem, request)
+        translation_result(core, regs, cache, mem, request)
     } else {
-        Err(plain_exception(misaligned(request.access), request.address))
+        Err(plain_exception(misaligned_cause(request.access), request.address))
     }
 }

@@ -47,7 +47,7 @@ impl Words {
 
     /// A word with its instruction, by where the word was fetched.
     #[inline(always)]
-    pub fn decoded(&mut self, pc: u64, word: u32) -> &Decoded
+    pub fn decoded_word(&mut self, pc: u64, word: u32) -> &Decoded
         ensures { result.now.word ≡ word }
     {
         let place = (pc / INSTRUCTION_BYTES) as usize % WORD_PLACES;

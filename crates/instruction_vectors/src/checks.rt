@@ -103,7 +103,7 @@ pub fn accesses(text: &str) -> Option<bool> {
     let arrow = is_next(&mut words, "->");
     let value = number(&mut words);
     let after = number(&mut words)?;
-    let (read, written) = accessed(found, before)?;
+    let (read, written) = access_result(found, before)?;
     let sets = match (read, value) {
         (Some(read), Some(wanted)) => reads(word, read, wanted),
         (None, None) => true,
@@ -113,17 +113,20 @@ pub fn accesses(text: &str) -> Option<bool> {
 }
 
 // What an access reads, if it sets a register, and the memory that it leaves.
-fn accessed(found: Effect, before: u64) -> Option<(Option<u64>, u64)> {
+fn access_result(found: Effect, before: u64) -> Option<(Option<u64>, u64)> {
     match found {
         Effect::Load {
             addr,
             width,
             signed,
             ..
-        } => Some((Some(loaded(before, addr, width, signed)?), before)),
-        Effect::Store { addr, width, value } => Some((None, stored(before, addr, width, value)?)),
+        } => Some((Some(load_value(before, addr, width, signed)?), before)),
+        Effect::Store { addr, width, value } => Some((
+            None,
+            memory_after_store(before, addr, width, value)?,
+        )),
         Effect::LoadReserved { addr, width, .. } => Some((
-            Some(loaded(before, addr, width, true)?),
+            Some(load_value(before, addr, width, true)?),
             before,
         )),
         Effect::StoreConditional { .. } => Some((Some(1), before)),
@@ -134,13 +137,13 @@ fn accessed(found: Effect, before: u64) -> Option<(Option<u64>, u64)> {
             value,
             ..
         } => {
-            let old = loaded(before, addr, width, true)?;
+            let old = load_value(before, addr, width, true)?;
             if width != 4 && width != 8 {
                 return None;
             }
             Some((
                 Some(old),
-                stored(before, addr, width, amo(op, width, old, value))?,
+                memory_after_store(before, addr, width, amo(op, width, old, value))?,
             ))
         }
         _ => None,
@@ -162,7 +165,7 @@ fn ones(bits: u32) -> u64 {
     if bits < 64 { (1 << bits) - 1 } else { u64::MAX }
 }
 
-fn loaded(memory: u64, addr: u64, width: u8, signed: bool) -> Option<u64> {
+fn load_value(memory: u64, addr: u64, width: u8, signed: bool) -> Option<u64> {
     let (below, bits) = place(addr, width)?;
     let value = memory.wrapping_shr(below) & ones(bits);
     let negative = value.wrapping_shr(bits.saturating_sub(1)) == 1;
@@ -173,7 +176,7 @@ fn loaded(memory: u64, addr: u64, width: u8, signed: bool) -> Option<u64> {
     }
 }
 
-fn stored(memory: u64, addr: u64, width: u8, value: u64) -> Option<u64> {
+fn memory_after_store(memory: u64, addr: u64, width: u8, value: u64) -> Option<u64> {
     let (below, bits) = place(addr, width)?;
     let mask = ones(bits).wrapping_shl(below);
     Some(memory & !mask | value.wrapping_shl(below) & mask)

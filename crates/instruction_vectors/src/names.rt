@@ -3,7 +3,13 @@
 use rv64_decode::Instr;
 use std::alloc::{AllocError, Global};
 
-fn ordered(alloc: Global, name: &str, width: u8, aq: bool, rl: bool) -> Result<String, AllocError> {
+fn ordered_name(
+    alloc: Global,
+    name: &str,
+    width: u8,
+    aq: bool,
+    rl: bool,
+) -> Result<String, AllocError> {
     let size = if width == 4 { "w" } else { "d" };
     let acquire = if aq { "aq" } else { "" };
     let release = if rl { "rl" } else { "" };
@@ -22,8 +28,8 @@ pub fn name_of(alloc: Global, instr: &Instr) -> Result<String, AllocError> {
         Instr::Op32 { op, .. } => format!(in alloc; "{op:?}"),
         Instr::Csr { op, .. } => format!(in alloc; "{op:?}"),
         Instr::Hyper { op, .. } => format!(in alloc; "{op:?}"),
-        Instr::Lr { width, aq, rl, .. } => ordered(alloc, "Lr", width, aq, rl),
-        Instr::Sc { width, aq, rl, .. } => ordered(alloc, "Sc", width, aq, rl),
+        Instr::Lr { width, aq, rl, .. } => ordered_name(alloc, "Lr", width, aq, rl),
+        Instr::Sc { width, aq, rl, .. } => ordered_name(alloc, "Sc", width, aq, rl),
         Instr::Amo {
             op,
             width,
@@ -32,7 +38,7 @@ pub fn name_of(alloc: Global, instr: &Instr) -> Result<String, AllocError> {
             ..
         } => {
             let name = format!(in alloc; "{op:?}")?;
-            ordered(alloc, name.as_str(), width, aq, rl)
+            ordered_name(alloc, name.as_str(), width, aq, rl)
         }
         Instr::Lui { .. } => format!(in alloc; "Lui"),
         Instr::Auipc { .. } => format!(in alloc; "Auipc"),

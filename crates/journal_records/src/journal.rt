@@ -256,11 +256,11 @@ impl Journal {
             Beside::Prints { value } => self.print(value),
             Beside::ShutsDown => self.shut_down(),
             Beside::RefusesLoad { id, code } => self.answer_load(hart, id, code),
-            Beside::ApprovesModule { about } => self.loaded(hart, about.id),
+            Beside::ApprovesModule { about } => self.note_load(hart, about.id),
             Beside::ReleasesModule { about } => {
                 self.answer_load(hart, about.id, SbiCode::RefusedByMeasure);
             }
-            Beside::UnloadsModule { about } => self.unloaded(hart, about.id),
+            Beside::UnloadsModule { about } => self.note_unload(hart, about.id),
             Beside::RefusesUnload { id, code } => self.answer_unload(hart, id, code),
             Beside::RetiresInit { span: _ } => self.answer_retire(hart, SbiCode::Success),
             Beside::RefusesRetire { code } => self.answer_retire(hart, code),
@@ -321,7 +321,7 @@ impl Journal {
     }
 
     // A module that was loaded.
-    fn loaded(&mut self, hart: u8, id: u64)
+    fn note_load(&mut self, hart: u8, id: u64)
         requires counts { MayCount self.old.counts }
         ensures { self.new ≡ with_note (Load hart self.old.counts.turns id Success) (with_count count_load self.old) }
     {
@@ -330,7 +330,7 @@ impl Journal {
     }
 
     // A module that was unloaded.
-    fn unloaded(&mut self, hart: u8, id: u64)
+    fn note_unload(&mut self, hart: u8, id: u64)
         requires counts { MayCount self.old.counts }
         ensures { self.new ≡ with_note (Unload hart self.old.counts.turns id Success) (with_count count_unload self.old) }
     {

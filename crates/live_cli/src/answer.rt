@@ -23,7 +23,7 @@ use crate::ready::{LiveReady, prepare_live};
 use live_drive::{LiveEnd, LiveRun};
 use live_keys::{Keys, Pace, journal_text};
 use outside::{Files, Sink};
-use secvisor_cli::{Bench, Status, Stop, Trouble, finish, refuse, settled};
+use secvisor_cli::{Bench, Status, Stop, Trouble, finish, refuse, status_of_end};
 use std::alloc::Global;
 use std::sync::Wait;
 use std::thread::Threads;
@@ -208,5 +208,5 @@ pub fn secvisor_live<R: Threads + Wait + Sync, F: Files, K: Keys + Send, O: Sink
     ensures unsaved { (is_refusal result ≡ true) ⊎ (result ≡ Status.Memory) →
         ((F.state files.new).held ≡ (F.state files.old).held) × ((F.state files.new).save_faults ≡ (F.state files.old).save_faults) }
 {
-    settled(answer(rt, alloc, words, files, keys, out, pace, bench))
+    status_of_end(answer(rt, alloc, words, files, keys, out, pace, bench))
 }

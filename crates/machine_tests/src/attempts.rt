@@ -5,7 +5,7 @@ ghost use Rattle.sv_types.specs.Views.{AreViews, protect, all_free};
 ghost use Rattle.sv_types.specs.declared.protection.Protection.TheVariants.{Approved};
 ghost use Rattle.gstage_tables.specs.Layout.{table_size};
 
-use crate::modes::{hypervisor_registers, written};
+use crate::modes::{hypervisor_registers, registers_after};
 use gstage_cache::Cache;
 use gstage_tables::Trees;
 use hart::{Core, Cpu, Outcome, Wrote};
@@ -450,7 +450,7 @@ fn core_of(row: &Attempt) -> Core {
     let mut core = Core::at_boot();
     core.regs.set(1, row.address);
     core.regs.set(2, 7);
-    core.csrs = written(&[
+    core.csrs = registers_after(&[
         (0x105, 0x8000_0100),
         (0x104, 0x222),
         (0x100, row.status),

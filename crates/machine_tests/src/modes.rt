@@ -33,7 +33,7 @@ pub(crate) fn hypervisor_registers(mode: Mode) -> HRegs
 }
 
 // Kernel mode's registers after these writes.
-pub(crate) fn written(writes: &[(u16, u64)]) -> Csrs {
+pub(crate) fn registers_after(writes: &[(u16, u64)]) -> Csrs {
     let mut csrs = Csrs::at_boot();
     let regs = hypervisor_registers(Mode::Kernel);
     for &(number, value) in writes {

@@ -1,6 +1,6 @@
 // Which interrupt is taken, by delegation, mode and SIE; and a trap with its return.
 
-use crate::modes::{hypervisor_registers, written};
+use crate::modes::{hypervisor_registers, registers_after};
 use csr_file::Csrs;
 use processor::{ExitCause, Interrupt, Lines, Mode};
 use std::process::Abort;
@@ -68,7 +68,7 @@ static WAITING: [Waiting; 7] = [
 ];
 
 fn first(row: &Waiting) -> Option<Interrupt> {
-    let csrs = written(&[
+    let csrs = registers_after(&[
         (0x100, row.status),
         (0x104, row.enabled),
         (0x144, row.software),
@@ -90,7 +90,7 @@ fn the_first_that_is_deliverable(rt: HostRuntime) {
 
 #[test]
 fn a_vectored_interrupt_and_its_return(rt: HostRuntime) {
-    let mut csrs = written(&[(0x100, 0xC0002), (0x105, 0x80001101)]);
+    let mut csrs = registers_after(&[(0x100, 0xC0002), (0x105, 0x80001101)]);
     let timer = ExitCause::Interrupt(Interrupt::Timer);
     assert_eq!(rt;
         into_guest(&mut csrs, Mode::Kernel, timer, 7, 0x80001000),

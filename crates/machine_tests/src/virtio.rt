@@ -390,7 +390,7 @@ impl Driver {
         (before, last, self.device.line(), self.beat())
     }
 
-    fn left(&self) -> Option<Left> {
+    fn what_is_left(&self) -> Option<Left> {
         Some(Left {
             interrupt: self.register(INTERRUPT_STATUS)?,
             status: self.register(STATUS)?,
@@ -402,7 +402,7 @@ impl Driver {
     }
 
     // The line behind an acknowledgement, the status behind that of a driver that is ready, and behind a reset.
-    fn mended(&mut self, interrupt: u64) -> (bool, Option<u64>, Option<u64>) {
+    fn mend(&mut self, interrupt: u64) -> (bool, Option<u64>, Option<u64>) {
         self.store(INTERRUPT_ACKNOWLEDGE, interrupt);
         let line = self.device.line();
         self.store(STATUS, 15);
@@ -422,7 +422,7 @@ fn check_end(rt: &impl Abort, driver: &mut Driver, row: u64, wanted: &Row) {
 
 // Only a reset mends what is broken.
 fn check_mended(rt: &impl Abort, driver: &mut Driver, row: u64, left: &Left) {
-    let found = driver.mended(left.interrupt);
+    let found = driver.mend(left.interrupt);
     assert!(rt;
         found == (false, Some(left.status), Some(0)),
         "reset behind row {row}"
@@ -433,7 +433,10 @@ fn check_row(rt: &impl Abort, driver: &mut Driver, row: u64, wanted: &Row) {
     driver.set_up(wanted.request.used);
     driver.ask(&wanted.request);
     check_end(rt, driver, row, wanted);
-    assert!(rt; driver.left() == Some(wanted.left), "what row {row} leaves");
+    assert!(rt;
+        driver.what_is_left() == Some(wanted.left),
+        "what row {row} leaves"
+    );
     check_mended(rt, driver, row, &wanted.left);
 }
 

@@ -16,7 +16,7 @@ pub use memory_sink::MemSink;
 pub use real::{RealFiles, StdSink};
 use std::alloc::Global;
 pub use sv_types::Failed;
-pub use trouble::{Trouble, settled};
+pub use trouble::{Trouble, status_of_end};
 pub use writing::write_all;
 
 /// Why a file isn't read.

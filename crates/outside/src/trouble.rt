@@ -42,7 +42,7 @@ impl From<AllocError> for Trouble {
 }
 
 /// The status that an answer ends with.
-pub fn settled(answer: Result<Status, Trouble>) -> Status
+pub fn status_of_end(answer: Result<Status, Trouble>) -> Status
     ensures { result ≡ status_of_end answer }
 {
     match answer {

@@ -112,7 +112,7 @@ impl Side {
             View::Kernel | View::Entry(_) => Ok(()),
             View::User => {
                 if entries.permits(target) {
-                    *self = Side::through(guard, entered(entries, target));
+                    *self = Side::through(guard, view_at_target(entries, target));
                     Ok(())
                 } else {
                     Err(Forbidden { target })
@@ -140,7 +140,7 @@ impl Side {
 }
 
 // What a hart sees that came from user mode to a permitted target.
-fn entered(entries: &Entries, target: u64) -> View
+fn view_at_target(entries: &Entries, target: u64) -> View
     ensures { result ≡ kernel_view (place_of_entry entries.now.entries entries.now.bound target) }
 {
     match entries.place(target) {

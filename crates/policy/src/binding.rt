@@ -26,7 +26,7 @@ fn is_bound(va: u64, before: &[Binding]) -> bool
     before.iter().any(|binding| binding.va == va)
 }
 
-fn fitting(ram_pages: u32, va: u64, gpa: u64) -> Result<Binding, PolicyFault>
+fn fitting_binding(ram_pages: u32, va: u64, gpa: u64) -> Result<Binding, PolicyFault>
     ensures { result ≡ if_within_limit (limits.bound_fits ram_pages va gpa) (spec.binding va gpa) }
 {
     if !bound_fits(ram_pages, va, gpa) {
@@ -35,7 +35,7 @@ fn fitting(ram_pages: u32, va: u64, gpa: u64) -> Result<Binding, PolicyFault>
     Ok(Binding { va, gpa })
 }
 
-fn unrepeated(before: &[Binding], binding: Binding) -> Result<Binding, PolicyFault>
+fn unrepeated_entry(before: &[Binding], binding: Binding) -> Result<Binding, PolicyFault>
     ensures { result ≡ spec.unrepeated_entry before.now binding }
 {
     if is_bound(binding.va, before) {
@@ -56,8 +56,8 @@ fn binding_of_two(
 {
     let va = entry(va_value)?;
     let gpa = address(gpa_value)?;
-    let binding = fitting(ram_pages, va, gpa)?;
-    unrepeated(before, binding)
+    let binding = fitting_binding(ram_pages, va, gpa)?;
+    unrepeated_entry(before, binding)
 }
 
 fn binding_of_items(

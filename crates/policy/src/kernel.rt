@@ -5,7 +5,7 @@ ghost use Rattle.toml.specs.View.{view, table_view, items_view};
 ghost use Rattle.policy.specs.Refusals.{judged_map};
 ghost use Rattle.policy.specs.Text as spec;
 
-use crate::values::{address, items, members, natural, required, with_known};
+use crate::values::{address, items, members, natural, required_member, with_known};
 use policy_limits::PolicyFault;
 use processor::{PAGE_BYTES, RAM_BASE, page_of};
 use sv_types::Span;
@@ -86,7 +86,7 @@ pub fn init(ram_pages: u32, value: Option<&Value>) -> Result<Option<Span>, Polic
 pub fn kernel(table: &Table) -> Result<&Table, PolicyFault>
     ensures { judged_map (λ m. table_view m.now) result ≡ spec.kernel_of (table_view table.now) }
 {
-    let kernel = required(table, "kernel")?;
+    let kernel = required_member(table, "kernel")?;
     let kernel = members(kernel)?;
     with_known(KERNEL_KEYS.as_slice(), kernel)
 }

@@ -9,7 +9,7 @@ ghost use Rattle.policy.specs.Text as spec;
 
 use crate::refusal::PolicyRefusal;
 use crate::sites::{Bounds, sites};
-use crate::values::{items, measure, members, name, natural, required, with_known};
+use crate::values::{items, measure, members, name, natural, required_member, with_known};
 use policy_limits::{MOST_MODULE_PAGES, MOST_MODULES, PolicyFault, is_module};
 use std::alloc::Global;
 use sv_types::{Digest, ModulePolicy, Name};
@@ -32,7 +32,7 @@ fn module_pages(value: &Value) -> Result<u32, PolicyFault>
 pub(crate) fn key_name(table: &Table) -> Result<Name, PolicyFault>
     ensures { result ≡ spec.key_name (table_view table.now) }
 {
-    let value = required(table, "name")?;
+    let value = required_member(table, "name")?;
     name(value)
 }
 
@@ -40,18 +40,21 @@ pub(crate) fn key_pages(table: &Table) -> Result<u32, PolicyFault>
     ensures value { result ≡ spec.key_pages (table_view table.now) }
     ensures within { IfOk result (λ pages. pages ≤ most_module_pages) }
 {
-    let value = required(table, "pages")?;
+    let value = required_member(table, "pages")?;
     module_pages(value)
 }
 
 pub fn key_measure(table: &Table) -> Result<Digest, PolicyFault>
     ensures { result ≡ spec.key_measure (table_view table.now) }
 {
-    let value = required(table, "measure")?;
+    let value = required_member(table, "measure")?;
     measure(value)
 }
 
-fn unrepeated(before: &[ModulePolicy], candidate: ModulePolicy) -> Result<ModulePolicy, PolicyFault>
+fn unrepeated_module(
+    before: &[ModulePolicy],
+    candidate: ModulePolicy,
+) -> Result<ModulePolicy, PolicyFault>
     ensures { judged_map limits.module_rule result ≡ spec.unrepeated_module (map limits.module_rule before.now) (limits.module_rule candidate) }
 {
     if is_module(&candidate.name, before) {
@@ -80,7 +83,7 @@ fn module_of_members(
     let name = key_name(table)?;
     let pages = key_pages(table)?;
     let measure = key_measure(table)?;
-    let list = required(table, "sites")?;
+    let list = required_member(table, "sites")?;
     let sites = sites(alloc, Bounds { pages, exports }, sites_before, list)?;
     let module = ModulePolicy {
         name,
@@ -88,7 +91,7 @@ fn module_of_members(
         measure,
         sites,
     };
-    Ok(unrepeated(before, module)?)
+    Ok(unrepeated_module(before, module)?)
 }
 
 fn module(

@@ -45,7 +45,7 @@ fn kind(value: &Value) -> Result<RelocationKind, PolicyFault>
     }
 }
 
-fn fitting(kind: RelocationKind, offset: u32) -> Result<RelocationKind, PolicyFault>
+fn fitting_kind(kind: RelocationKind, offset: u32) -> Result<RelocationKind, PolicyFault>
     ensures { result ≡ spec.fitting_kind kind offset }
 {
     if !is_aligned(kind, offset) {
@@ -103,7 +103,7 @@ fn site_of_five(
 {
     let offset = offset(bounds.pages, offset_value)?;
     let kind = kind(kind_value)?;
-    let kind = fitting(kind, offset)?;
+    let kind = fitting_kind(kind, offset)?;
     let base = base(bounds.exports, base_value)?;
     let addend = integer(addend_value)?;
     let anchor = anchor(bounds.pages, kind, offset, anchor_value)?;

@@ -10,7 +10,7 @@ use crate::entries::{PermittedEntries, entries, exports};
 use crate::kernel::{init, kernel};
 use crate::modules::{key_measure, modules};
 use crate::refusal::PolicyRefusal;
-use crate::values::{integer, natural, optional, required, with_known};
+use crate::values::{integer, natural, optional, required_member, with_known};
 use policy_limits::{
     BOUND_FORMAT, FEWEST_RAM_PAGES, MOST_HARTS, MOST_RAM_PAGES, PLAIN_FORMAT, PolicyFault,
 };
@@ -33,7 +33,7 @@ pub(crate) const POLICY_KEYS: [&str; 7] = [
 pub(crate) fn format(table: &Table) -> Result<u8, PolicyFault>
     ensures { result ≡ spec.format_of (table_view table.now) }
 {
-    let value = required(table, "format")?;
+    let value = required_member(table, "format")?;
     let number = integer(value)?;
     if number < i64::from(PLAIN_FORMAT) || number > i64::from(BOUND_FORMAT) {
         return Err(PolicyFault::OtherFormat);
@@ -44,7 +44,7 @@ pub(crate) fn format(table: &Table) -> Result<u8, PolicyFault>
 pub(crate) fn harts(table: &Table) -> Result<u8, PolicyFault>
     ensures { result ≡ spec.key_harts (table_view table.now) }
 {
-    let value = required(table, "harts")?;
+    let value = required_member(table, "harts")?;
     let harts = natural(value)?;
     if harts < 1 || harts > u64::from(MOST_HARTS) {
         return Err(PolicyFault::BeyondLimit);
@@ -55,7 +55,7 @@ pub(crate) fn harts(table: &Table) -> Result<u8, PolicyFault>
 pub(crate) fn ram_pages(table: &Table) -> Result<u32, PolicyFault>
     ensures { result ≡ spec.key_ram_pages (table_view table.now) }
 {
-    let value = required(table, "ram_pages")?;
+    let value = required_member(table, "ram_pages")?;
     let pages = natural(value)?;
     if pages < u64::from(FEWEST_RAM_PAGES) || pages > u64::from(MOST_RAM_PAGES) {
         return Err(PolicyFault::BeyondLimit);
@@ -72,7 +72,7 @@ pub(crate) fn key_entries(
     ensures ok { IfOk result (λ entries. spec.key_entries format ram_pages (table_view table.now) ≡ Ok (entries.list.items, entries.bound.items)) }
     ensures refused { IfErr result (Refuses (spec.key_entries format ram_pages (table_view table.now))) }
 {
-    let value = required(table, "entries")?;
+    let value = required_member(table, "entries")?;
     entries(alloc, format, ram_pages, value)
 }
 

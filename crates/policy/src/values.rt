@@ -20,7 +20,7 @@ pub fn optional<'a>(table: &'a Table, key: &str) -> Option<&'a Value>
     table.get(key)
 }
 
-pub fn required<'a>(table: &'a Table, key: &str) -> Result<&'a Value, PolicyFault>
+pub fn required_member<'a>(table: &'a Table, key: &str) -> Result<&'a Value, PolicyFault>
     ensures { judged_map (λ v. view v.now) result ≡ spec.required_member key.now (table_view table.now) }
 {
     match optional(table, key) {

@@ -218,7 +218,7 @@ struct Ordered {
 
 impl Ordered {
     // Width and bits in the place of an immediate.
-    fn packed(self) -> i64
+    fn pack(self) -> i64
         requires { self.width < width_values }
         ensures { result ≡ pos (order_number self.width self.aq self.rl) }
     {
@@ -236,7 +236,7 @@ fn operation(word: u32, op: AmoOp, rd: u8, rs1: u8, rs2: u8, ordered: Ordered) -
     requires width { ordered.width < width_values }
     ensures { result.word ≡ word }
 {
-    form(word, amo(op), rd, rs1, rs2, ordered.packed())
+    form(word, amo(op), rd, rs1, rs2, ordered.pack())
 }
 
 // The flat form of a word whose instruction computes on registers. What isn't carried out in a row has none of its own.

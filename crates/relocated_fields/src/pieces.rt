@@ -20,7 +20,7 @@ fn lies_in(first: u32, size: usize, site: &Site) -> bool
 }
 
 // The site as the piece at `first` has it.
-fn moved(first: u32, site: &Site) -> Site
+fn site_from(first: u32, site: &Site) -> Site
     requires { first ≤ site.now.offset }
     ensures { result ≡ site_from first site.now }
 {
@@ -63,7 +63,7 @@ fn is_right(text: &[u8], first: u32, site: &Site, bases: &Bases, exports: &[Expo
     if !lies_in(first, text.len(), site) {
         return true;
     }
-    field_right(text, &moved(first, site), bases, exports)
+    field_right(text, &site_from(first, site), bases, exports)
 }
 
 // Clears a site's field, if it begins in the piece.
@@ -75,7 +75,7 @@ fn clear_in_piece(text: &mut [u8], first: u32, site: &Site)
     ensures { text.new ≡ cleared_in_piece first text.old site.now }
 {
     if lies_in(first, text.len(), site) {
-        clear_field(text, &moved(first, site));
+        clear_field(text, &site_from(first, site));
     }
 }
 

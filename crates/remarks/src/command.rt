@@ -17,13 +17,13 @@ pub fn remark<R: Threads + Sync, A: Again>(
     files: &A,
     most: &MostBytes,
 ) -> Option<String> {
-    match judged(rt, alloc, words, files, most) {
+    match judge_command(rt, alloc, words, files, most) {
         Err(Found::Remark(text)) => Some(text),
         Ok(()) | Err(Found::Nothing) => None,
     }
 }
 
-fn judged<R: Threads + Sync, A: Again>(
+fn judge_command<R: Threads + Sync, A: Again>(
     rt: &R,
     alloc: Global,
     words: &[String],

@@ -1,7 +1,7 @@
 // The files of `convert`.
 
 use crate::faults::{convert_fault, image_fault};
-use crate::files::{Again, Found, MostBytes, read_part, said};
+use crate::files::{Again, Found, MostBytes, read_part, remark_on};
 use crate::running::policy_file;
 use elf64_load::{ElfRefusal, read_kernel};
 use entry_binding::{BindFault, BindRefusal, bind};
@@ -40,11 +40,11 @@ fn bound_entries<R: Threads + Sync>(
     match read_kernel(alloc, image, policy.ram_pages) {
         Ok(kernel) => match bind(rt, alloc, policy, &kernel) {
             Err(BindRefusal::Fault(BindFault::Convert(fault))) => {
-                Err(said(alloc, names.given, convert_fault(fault)))
+                Err(remark_on(alloc, names.given, convert_fault(fault)))
             }
             _ => Ok(()),
         },
-        Err(ElfRefusal::Fault(fault)) => Err(said(alloc, names.kernel, image_fault(fault))),
+        Err(ElfRefusal::Fault(fault)) => Err(remark_on(alloc, names.kernel, image_fault(fault))),
         Err(ElfRefusal::Memory) => Err(Found::Nothing),
     }
 }

@@ -49,7 +49,7 @@ impl<T: Drop> From<AllocFailed<T>> for Found {
 }
 
 /// What there is to say of a file.
-pub(crate) fn said(alloc: Global, name: &str, what: &str) -> Found {
+pub(crate) fn remark_on(alloc: Global, name: &str, what: &str) -> Found {
     match format!(in alloc; "{name}: {what}") {
         Ok(text) => Found::Remark(text),
         Err(_) => Found::Nothing,
@@ -57,7 +57,7 @@ pub(crate) fn said(alloc: Global, name: &str, what: &str) -> Found {
 }
 
 /// What there is to say of a file, and where in it.
-pub(crate) fn said_at(alloc: Global, name: &str, place: Option<String>, what: &str) -> Found {
+pub(crate) fn remark_at(alloc: Global, name: &str, place: Option<String>, what: &str) -> Found {
     match place {
         Some(place) => {
             let place = place.as_str();
@@ -66,7 +66,7 @@ pub(crate) fn said_at(alloc: Global, name: &str, place: Option<String>, what: &s
                 Err(_) => Found::Nothing,
             }
         }
-        None => said(alloc, name, what),
+        None => remark_on(alloc, name, what),
     }
 }
 
@@ -81,7 +81,7 @@ pub(crate) fn read_part<A: Again>(
         Some(bytes) => {
             if bytes.len() > most {
                 let what = format!(in alloc; "longer than {most} bytes")?;
-                Err(said(alloc, name, what.as_str()))
+                Err(remark_on(alloc, name, what.as_str()))
             } else {
                 Ok(bytes)
             }

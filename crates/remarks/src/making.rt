@@ -4,7 +4,7 @@ ghost use Rattle.std.specs.Prelude.{◌≤◌, length, IfOk};
 ghost use Rattle.sv_types.specs.Limits.{most_exports};
 
 use crate::faults::{image_fault, object_fault, policy_fault};
-use crate::files::{Again, Found, MostBytes, read_part, said, said_at};
+use crate::files::{Again, Found, MostBytes, read_part, remark_at, remark_on};
 use crate::running::kernel_file;
 use elf64_load::{ElfRefusal, read_exports};
 use elf64_reloc::{RelocRefusal, read_module, refused_place};
@@ -34,7 +34,7 @@ pub(crate) fn making_files<A: Again>(
     let exports = kernel_exports(alloc, files, most, names)?;
     module_files(alloc, files, most.module, names.modules, &exports)?;
     // Each file is good, so that the fields of all modules together are too many.
-    Err(said(alloc, names.out, policy_fault(PolicyFault::BeyondLimit)))
+    Err(remark_on(alloc, names.out, policy_fault(PolicyFault::BeyondLimit)))
 }
 
 // The exports of the kernel's file that the modules want.
@@ -102,10 +102,18 @@ fn want_of<A: Again>(
 
 fn making_fault(alloc: Global, name: &str, refusal: MakingRefusal) -> Found {
     match refusal {
-        MakingRefusal::Fault(MakingFault::Image(fault)) => said(alloc, name, image_fault(fault)),
-        MakingRefusal::Fault(MakingFault::Module(fault)) => said(alloc, name, object_fault(fault)),
+        MakingRefusal::Fault(MakingFault::Image(fault)) => remark_on(
+            alloc,
+            name,
+            image_fault(fault),
+        ),
+        MakingRefusal::Fault(MakingFault::Module(fault)) => remark_on(
+            alloc,
+            name,
+            object_fault(fault),
+        ),
         MakingRefusal::Fault(MakingFault::TooManySites) => {
-            said(alloc, name, policy_fault(PolicyFault::BeyondLimit))
+            remark_on(alloc, name, policy_fault(PolicyFault::BeyondLimit))
         }
         MakingRefusal::Memory => Found::Nothing,
     }
@@ -122,7 +130,7 @@ fn exports_in(
 {
     match wanted_exports(alloc, kernel, wanted) {
         Ok(exports) => Ok(exports),
-        Err(refusal) => Err(match undefined(alloc, kernel, wanted) {
+        Err(refusal) => Err(match first_undefined(alloc, kernel, wanted) {
             Some(undefined) => undefined_name(alloc, name, &undefined),
             None => making_fault(alloc, name, refusal),
         }),
@@ -133,14 +141,14 @@ fn undefined_name(alloc: Global, name: &str, undefined: &Name) -> Found {
     match format!(in alloc; "symbol {}", undefined.text()) {
         Ok(symbol) => {
             let fault = image_fault(ImageFault::UndefinedName);
-            said_at(alloc, name, Some(symbol), fault)
+            remark_at(alloc, name, Some(symbol), fault)
         }
         Err(_) => Found::Nothing,
     }
 }
 
 // The first name that the kernel doesn't define.
-fn undefined(alloc: Global, kernel: &[u8], wanted: &[Name]) -> Option<Name> {
+fn first_undefined(alloc: Global, kernel: &[u8], wanted: &[Name]) -> Option<Name> {
     let first = first_refused(wanted, |names| match read_exports(alloc, kernel, names) {
         Err(ElfRefusal::Fault(ImageFault::UndefinedName)) => true,
         _ => false,
@@ -158,7 +166,7 @@ fn module_file(alloc: Global, name: &str, object: &[u8], exports: &[Export]) -> 
         Ok(_) => Ok(()),
         Err(RelocRefusal::Fault(fault)) => {
             let place = refused_place(alloc, object, exports)?;
-            Err(said_at(alloc, name, place, object_fault(fault)))
+            Err(remark_at(alloc, name, place, object_fault(fault)))
         }
         Err(RelocRefusal::Memory) => Err(Found::Nothing),
     }

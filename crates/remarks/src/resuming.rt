@@ -4,7 +4,7 @@ ghost use Rattle.std.specs.Prelude.{◌≡◌, true, IfOk, IsTrue};
 ghost use Rattle.sv_types.specs.Policies.{rules_of, rules_within};
 ghost use Rattle.snapshot_form.specs.Snapshots as form;
 
-use crate::files::{Again, Found, MostBytes, read_part, said};
+use crate::files::{Again, Found, MostBytes, read_part, remark_on};
 use crate::running::{policy_file, script_file};
 use resumption::resume_refusal;
 use snapshot_form::{SnapRefusal, Snapshot};
@@ -75,7 +75,7 @@ fn snapshot_in(alloc: Global, name: &str, bytes: &[u8]) -> Result<Snapshot, Foun
 
 fn snapshot_refused(alloc: Global, name: &str, refusal: SnapRefusal) -> Found {
     match format!(in alloc; "{refusal}") {
-        Ok(what) => said(alloc, name, what.as_str()),
+        Ok(what) => remark_on(alloc, name, what.as_str()),
         Err(_) => Found::Nothing,
     }
 }
@@ -93,7 +93,7 @@ fn goes_on<R: Threads + Sync>(
     match resume_refusal(rt, alloc, snapshot, policy)? {
         Some(refusal) => {
             let what = format!(in alloc; "{refusal}")?;
-            Err(said(alloc, name, what.as_str()))
+            Err(remark_on(alloc, name, what.as_str()))
         }
         None => Ok(()),
     }

@@ -5,7 +5,7 @@ ghost use Rattle.sv_types.specs.Limits.{most_harts};
 ghost use Rattle.sv_types.specs.Policies.{rules_of, rules_within};
 
 use crate::faults::{image_fault, policy_fault};
-use crate::files::{Again, Found, MostBytes, read_part, said, said_at};
+use crate::files::{Again, Found, MostBytes, read_part, remark_at, remark_on};
 use elf64_load::{ElfRefusal, read_kernel};
 use policy::PolicyRefusal;
 use policy_limits::PolicyFault;
@@ -32,7 +32,7 @@ pub(crate) fn flat_file<A: Again>(
 ) -> Result<(), Found> {
     let bytes = read_part(alloc, files, name, most)?;
     if bytes.is_empty() || bytes.len() % PAGE_SIZE != 0 {
-        return Err(said(alloc, name, "no whole pages of 4096 bytes"));
+        return Err(remark_on(alloc, name, "no whole pages of 4096 bytes"));
     }
     Ok(())
 }
@@ -88,8 +88,8 @@ fn policy_refused(alloc: Global, name: &str, text: &[u8], fault: PolicyFault) ->
 // Where a text isn't TOML, its place tells why.
 fn policy_fault_at(alloc: Global, name: &str, place: Option<String>, fault: PolicyFault) -> Found {
     match (fault, place) {
-        (PolicyFault::NotToml, Some(place)) => said(alloc, name, place.as_str()),
-        (fault, place) => said_at(alloc, name, place, policy_fault(fault)),
+        (PolicyFault::NotToml, Some(place)) => remark_on(alloc, name, place.as_str()),
+        (fault, place) => remark_at(alloc, name, place, policy_fault(fault)),
     }
 }
 
@@ -102,7 +102,7 @@ pub(crate) fn kernel_file(
 ) -> Result<(), Found> {
     match read_kernel(alloc, image, ram_pages) {
         Ok(_) => Ok(()),
-        Err(ElfRefusal::Fault(fault)) => Err(said(alloc, name, image_fault(fault))),
+        Err(ElfRefusal::Fault(fault)) => Err(remark_on(alloc, name, image_fault(fault))),
         Err(ElfRefusal::Memory) => Err(Found::Nothing),
     }
 }
@@ -113,7 +113,7 @@ fn disk_file<A: Again>(alloc: Global, files: &A, most: usize, name: &str) -> Res
     }
     let disk = read_part(alloc, files, name, most)?;
     if disk.len() as u64 % SECTOR_BYTES != 0 {
-        return Err(said(alloc, name, "no whole sectors of 512 bytes"));
+        return Err(remark_on(alloc, name, "no whole sectors of 512 bytes"));
     }
     Ok(())
 }
@@ -148,7 +148,7 @@ fn script_in(alloc: Global, name: &str, text: &[u8], harts: u8) -> Result<(), Fo
 
 fn line_refused(alloc: Global, name: &str, line: u64) -> Found {
     match format!(in alloc; "line {line} is of no form") {
-        Ok(what) => said(alloc, name, what.as_str()),
+        Ok(what) => remark_on(alloc, name, what.as_str()),
         Err(_) => Found::Nothing,
     }
 }

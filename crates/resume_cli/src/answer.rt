@@ -11,7 +11,7 @@ ghost use Rattle.resume_cli.specs.ResumeWords.{resume_judged, resume_value};
 use crate::ready::prepare_resume;
 use crate::words::{Resume, read_resume};
 use outside::{Files, Sink};
-use secvisor_cli::{Bench, Status, Stop, Trouble, refuse, run_on_bench, settled};
+use secvisor_cli::{Bench, Status, Stop, Trouble, refuse, run_on_bench, status_of_end};
 use std::alloc::Global;
 use std::thread::Threads;
 
@@ -57,7 +57,7 @@ pub fn secvisor_resume<R: Threads + Sync, F: Files, O: Sink>(
     ensures unsaved { ((name : List ℕ) → SavesUnder (resume_plan (resume_judged (map string_bytes words.now))) name → ⊥) →
         ((F.state files.new).held ≡ (F.state files.old).held) × ((F.state files.new).save_faults ≡ (F.state files.old).save_faults) }
 {
-    settled(answer(rt, alloc, words, files, out, bench))
+    status_of_end(answer(rt, alloc, words, files, out, bench))
 }
 
 // What the words ask for is carried out, or refused.

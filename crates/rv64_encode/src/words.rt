@@ -91,7 +91,7 @@ pub fn word(instr: &Instr) -> u32
             rl,
         } => r_word(
             0x2F,
-            ordered(0x02, aq, rl),
+            amo_funct7(0x02, aq, rl),
             width_funct3(width),
             u32::from(rd),
             rs1,
@@ -106,7 +106,7 @@ pub fn word(instr: &Instr) -> u32
             rl,
         } => r_word(
             0x2F,
-            ordered(0x03, aq, rl),
+            amo_funct7(0x03, aq, rl),
             width_funct3(width),
             u32::from(rd),
             rs1,
@@ -121,7 +121,7 @@ pub fn word(instr: &Instr) -> u32
             aq,
             rl,
         } => {
-            let code = ordered(codes::amo_funct5(op), aq, rl);
+            let code = amo_funct7(codes::amo_funct5(op), aq, rl);
             r_word(0x2F, code, width_funct3(width), u32::from(rd), rs1, rs2)
         }
         Instr::Hyper { op, rd, rs1, rs2 } => hyper_word(op, rd, rs1, rs2),
@@ -137,7 +137,7 @@ fn width_funct3(width: u8) -> u32
 }
 
 // An atomic operation's code with its acquire and release bits.
-fn ordered(funct5: u32, aq: bool, rl: bool) -> u32
+fn amo_funct7(funct5: u32, aq: bool, rl: bool) -> u32
     requires { funct5 < 32 }
     ensures value { result ≡ table.amo_funct7 funct5 aq rl }
     ensures bound { result < 128 }

@@ -3,7 +3,7 @@
 ghost use Rattle.std.specs.Prelude.{◌≡◌};
 ghost use Rattle.processor.specs.Effects as table;
 
-use crate::word::{extended, low_word, sign_extended, signed_low};
+use crate::word::{low_word, sign_extend, sign_extended, signed_low};
 
 #[inline(always)]
 pub fn quotient(a: u64, b: u64) -> u64
@@ -63,7 +63,7 @@ pub fn quotient_unsigned_low(a: u64, b: u64) -> u64
     if low_word(b) == 0 {
         u64::MAX
     } else {
-        extended(u64::from(low_word(a) / low_word(b)))
+        sign_extend(u64::from(low_word(a) / low_word(b)))
     }
 }
 
@@ -72,7 +72,7 @@ pub fn remainder_low(a: u64, b: u64) -> u64
     ensures { result ≡ table.remainder_low a b }
 {
     if low_word(b) == 0 {
-        extended(a)
+        sign_extend(a)
     } else {
         sign_extended(signed_low(a).wrapping_rem(signed_low(b)))
     }
@@ -83,8 +83,8 @@ pub fn remainder_unsigned_low(a: u64, b: u64) -> u64
     ensures { result ≡ table.remainder_unsigned_low a b }
 {
     if low_word(b) == 0 {
-        extended(a)
+        sign_extend(a)
     } else {
-        extended(u64::from(low_word(a) % low_word(b)))
+        sign_extend(u64::from(low_word(a) % low_word(b)))
     }
 }

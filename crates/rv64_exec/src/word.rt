@@ -28,7 +28,7 @@ pub fn sign_extended(low: i32) -> u64
 
 // The low 32 bits, sign-extended.
 #[inline(always)]
-pub fn extended(a: u64) -> u64
+pub fn sign_extend(a: u64) -> u64
     ensures { result ≡ table.sign_extend a }
 {
     sign_extended(signed_low(a))

@@ -33,7 +33,7 @@ use crate::words::{Command, read_words};
 use command_words::split;
 use console_run::run;
 use machine::Machine;
-use outside::{Files, Sink, Trouble, settled, write_all};
+use outside::{Files, Sink, Trouble, status_of_end, write_all};
 use report::{report, status_of};
 use script::Script;
 use std::alloc::Global;
@@ -86,7 +86,7 @@ pub fn secvisor<R: Threads + Sync, F: Files, O: Sink>(
     ensures unsaved { ((name : List ℕ) → SavesUnder (plan_of (judgement_of_words (map string_bytes words.now))) name → ⊥) →
         ((F.state files.new).held ≡ (F.state files.old).held) × ((F.state files.new).save_faults ≡ (F.state files.old).save_faults) }
 {
-    settled(answer(rt, alloc, words, files, out, bench))
+    status_of_end(answer(rt, alloc, words, files, out, bench))
 }
 
 // What the words ask for is made ready and run, or refused.

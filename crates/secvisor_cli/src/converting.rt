@@ -47,11 +47,15 @@ fn bind_file<'a, R: Threads + Sync>(
 {
     let image = judge_kernel(alloc, file, policy.ram_pages)?;
     let bound = bind(rt, alloc, policy, &image)?;
-    let made = converted(alloc, asked.out, &bound)?;
+    let made = converted_policy(alloc, asked.out, &bound)?;
     Ok(Ready::Save(made))
 }
 
-fn converted<'a>(alloc: Global, name: &'a str, policy: &Policy) -> Result<Made<'a>, AllocError>
+fn converted_policy<'a>(
+    alloc: Global,
+    name: &'a str,
+    policy: &Policy,
+) -> Result<Made<'a>, AllocError>
     requires within { rules_within (rules_of policy.now) ≡ true }
     ensures { IfOk result (IsMade name.now (rules_of policy.now) (converted_line (length policy.now.entries.items))) }
 {

@@ -28,7 +28,7 @@ pub use image_run::{
 pub use judgement::any_has_dash;
 pub use laws::{law_converted, law_due, law_run_ends};
 pub use making::MOST_OBJECT_BYTES;
-pub use outside::{Trouble, settled};
+pub use outside::{Trouble, status_of_end};
 pub use parts::read_part;
 pub use ready::{Booted, Made, Ready, Stop};
 pub use refusal::{Refusal, Word};

@@ -146,7 +146,7 @@ fn make_ready<'a, R: Threads + Sync>(
         &modules.names,
         &modules.objects,
     )?;
-    let made = made(alloc, asked.out, &policy)?;
+    let made = measured_policy(alloc, asked.out, &policy)?;
     Ok(Ready::Save(made))
 }
 
@@ -163,7 +163,11 @@ fn settings(alloc: Global, terms: &Terms<'_>) -> Result<Settings, AllocError>
     })
 }
 
-fn made<'a>(alloc: Global, name: &'a str, policy: &Policy) -> Result<Made<'a>, AllocError>
+fn measured_policy<'a>(
+    alloc: Global,
+    name: &'a str,
+    policy: &Policy,
+) -> Result<Made<'a>, AllocError>
     requires within { rules_within (rules_of policy.now) ≡ true }
     ensures { IfOk result (IsMade name.now (rules_of policy.now) (measured_line policy.now.kernel)) }
 {

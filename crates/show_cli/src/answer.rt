@@ -8,7 +8,7 @@ ghost use Rattle.show_cli.specs.Answers.{Ends, Refuses, ShowsFile, Shows, Headli
 
 use crate::refusal::ShowRefusal;
 use crate::words::name_in;
-use outside::{FileRefusal, Files, Sink, Trouble, settled, write_all};
+use outside::{FileRefusal, Files, Sink, Trouble, status_of_end, write_all};
 use snapshot_form::{SnapRefusal, Snapshot};
 use snapshot_reader::{MOST_SNAPSHOT_BYTES, ReadError, read};
 use snapshot_text::snapshot_text;
@@ -41,7 +41,7 @@ pub fn secvisor_show<F: Files, O: Sink>(
     ensures reads { (F.state files.old).read_faults ≤ (F.state files.new).read_faults }
     ensures writes { (O.state out.old).faults ≤ (O.state out.new).faults }
 {
-    settled(answer(alloc, words, files, out))
+    status_of_end(answer(alloc, words, files, out))
 }
 
 fn answer<F: Files, O: Sink>(

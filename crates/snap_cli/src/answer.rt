@@ -28,7 +28,7 @@ use console_run::run;
 use machine::Machine;
 use outside::{Files, Sink, write_all};
 use script::Script;
-use secvisor_cli::{Bench, Booted, Status, Stop, Trouble, refuse, settled};
+use secvisor_cli::{Bench, Booted, Status, Stop, Trouble, refuse, status_of_end};
 use std::alloc::Global;
 use std::thread::Threads;
 
@@ -70,7 +70,7 @@ pub fn secvisor_snap<R: Threads + Sync, F: Files, O: Sink>(
     // No name changes but the one that the snapshot is saved under.
     ensures held { (name : List ℕ) → name ≢ out_of (snap_judged (map string_bytes words.now)) → (F.state files.new).held name ≡ (F.state files.old).held name }
 {
-    settled(answer(rt, alloc, words, files, out, bench))
+    status_of_end(answer(rt, alloc, words, files, out, bench))
 }
 
 // What the words ask for is carried out, or refused.

@@ -14,7 +14,7 @@ ghost use Rattle.processor.specs.Bytes.{instruction_size};
 
 use crate::accesses::{load_answer, write_answer};
 use crate::fetches::{entry_answer, fetch_answer, is_fetch, raises, virtual_answer};
-use crate::instructions::transformed;
+use crate::instructions::transformed_effect;
 use hart::Hart;
 use hart_answers::Seat;
 use host_mem::HostMem;
@@ -84,11 +84,11 @@ fn plain_answer(mem: &HostMem, hart: &Hart, mode: Mode, exit: &Exit) -> ExitAnsw
         ExitCause::Exception(Cause::GuestCall) => ExitAnswer::Calls,
         ExitCause::Exception(Cause::GuestFetch) => fetch_answer(mem, mode, exit),
         ExitCause::Exception(Cause::GuestLoad) => {
-            load_answer(exit, transformed(hart, exit.htinst))
+            load_answer(exit, transformed_effect(hart, exit.htinst))
         }
         ExitCause::Exception(Cause::Virtual) => virtual_answer(mode, exit),
         ExitCause::Exception(Cause::GuestStore) => {
-            write_answer(mem, exit, transformed(hart, exit.htinst))
+            write_answer(mem, exit, transformed_effect(hart, exit.htinst))
         }
         ExitCause::Exception(cause) => raises(cause, exit.stval),
     }

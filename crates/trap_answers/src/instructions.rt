@@ -14,7 +14,7 @@ use rv64_exec::effect;
 
 // What an instruction asks on a hart.
 #[tactic(auto, using(processor_laws::proofs::EffectRequests::is_request))]
-fn asked(hart: &Hart, instr: &Instr) -> Effect
+fn requested_effect(hart: &Hart, instr: &Instr) -> Effect
     requires aligned { hart.now.core.pc % instruction_size ≡ 0 }
     requires fits { IsTrue (fits instr.now) }
     ensures effect { result ≡ effect_of instr.now hart.now.core.regs hart.now.core.pc }
@@ -25,13 +25,13 @@ fn asked(hart: &Hart, instr: &Instr) -> Effect
 
 /// What the transformed instruction of an exit asks, of which the address doesn't count.
 #[tactic(auto, unfolding(machine_model::specs::Served::transformed_effect))]
-pub(crate) fn transformed(hart: &Hart, htinst: u32) -> Option<Effect>
+pub(crate) fn transformed_effect(hart: &Hart, htinst: u32) -> Option<Effect>
     requires aligned { hart.now.core.pc % instruction_size ≡ 0 }
     ensures effect { result ≡ transformed_effect htinst hart.now.core.regs hart.now.core.pc }
     ensures request { IfSome result IsRequest }
 {
     match decode(htinst) {
-        Some(instr) => Some(asked(hart, &instr)),
+        Some(instr) => Some(requested_effect(hart, &instr)),
         None => None,
     }
 }

@@ -46,7 +46,7 @@ fn empty_parts() -> [VirtioPart; MOST_VIRTIO_PARTS]
 }
 
 // The parts of a chain, with empty ones behind them.
-fn padded(parts: &[VirtioPart]) -> [VirtioPart; MOST_VIRTIO_PARTS]
+fn padded_parts(parts: &[VirtioPart]) -> [VirtioPart; MOST_VIRTIO_PARTS]
     requires { length parts.now ≤ most_parts }
     ensures { result ≡ padded_parts parts.now }
 {
@@ -85,7 +85,7 @@ fn new_request(
         size,
         used,
         count: parts.len() as u8,
-        parts: padded(parts),
+        parts: padded_parts(parts),
         part: if result.is_done() { 1 } else { last as u8 },
         offset: 0,
         tail: 0,
@@ -169,7 +169,7 @@ impl Virtio {
     }
 
     // How many requests wait.
-    fn waiting(&self, index: u64) -> u64
+    fn waiting_count(&self, index: u64) -> u64
         requires { index < index_values }
         ensures { result ≡ (index + index_values - self.now.state.accepted) % index_values }
     {
@@ -237,7 +237,7 @@ impl Virtio {
         if index == self.state.accepted {
             return Beaten::Idle;
         }
-        if self.waiting(index) > self.state.size as u64 {
+        if self.waiting_count(index) > self.state.size as u64 {
             self.break_down();
             return Beaten::Range;
         }

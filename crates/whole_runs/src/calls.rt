@@ -23,7 +23,7 @@ pub fn line(alloc: Global, case: &Case, words: &str) -> Result<Vec<String>, Allo
 }
 
 /// Makes the call with these words.
-pub fn called<R: Threads + Sync>(
+pub fn make_call<R: Threads + Sync>(
     rt: &R,
     alloc: Global,
     case: &Case,
@@ -111,13 +111,13 @@ pub fn tell<R: AllocGlobal + Print>(
 }
 
 // Makes a call, and tells of it.
-fn made<R: Threads + Sync + AllocGlobal + Print>(
+fn call_and_tell<R: Threads + Sync + AllocGlobal + Print>(
     rt: &R,
     case: &mut Case,
     words: &str,
 ) -> io::Result<Left> {
     let line = line(rt.alloc(), case, words)?;
-    let left = called(rt, rt.alloc(), case, &line, case.outside)?;
+    let left = make_call(rt, rt.alloc(), case, &line, case.outside)?;
     tell(rt, case, words, &left)?;
     Ok(left)
 }
@@ -138,7 +138,7 @@ pub fn count<R: Threads + Sync + AllocGlobal + Print>(
     case: &mut Case,
     words: &str,
 ) -> io::Result<()> {
-    made(rt, case, words)?;
+    call_and_tell(rt, case, words)?;
     Ok(())
 }
 
@@ -148,7 +148,7 @@ pub fn print<R: Threads + Sync + AllocGlobal + Print>(
     case: &mut Case,
     words: &str,
 ) -> io::Result<()> {
-    let left = made(rt, case, words)?;
+    let left = call_and_tell(rt, case, words)?;
     print_lines(rt, &left.taken)?;
     if left.status == Status::Refused {
         print_remark(rt, case, words)
@@ -163,7 +163,7 @@ pub fn print_pieces<R: Threads + Sync + AllocGlobal + Print>(
     case: &mut Case,
     words: &str,
 ) -> io::Result<()> {
-    let whole = made(rt, case, words)?;
+    let whole = call_and_tell(rt, case, words)?;
     print_lines(rt, &whole.taken)?;
     let line = line(rt.alloc(), case, words)?;
     compare(rt, case, &line, 1, &whole)?;
@@ -178,7 +178,7 @@ fn compare<R: Threads + Sync + AllocGlobal + Print>(
     piece: usize,
     whole: &Left,
 ) -> io::Result<()> {
-    let left = called(rt, rt.alloc(), case, line, Outside { piece, ..GOOD })?;
+    let left = make_call(rt, rt.alloc(), case, line, Outside { piece, ..GOOD })?;
     if is_same(&left, whole) {
         Ok(())
     } else {
@@ -198,7 +198,7 @@ pub fn print_writes<R: Threads + Sync + AllocGlobal + Print>(
     case: &mut Case,
     words: &str,
 ) -> io::Result<()> {
-    let whole = made(rt, case, words)?;
+    let whole = call_and_tell(rt, case, words)?;
     let line = line(rt.alloc(), case, words)?;
     for before in 0..whole.taken.len() {
         stop_behind(rt, case, &line, &whole.taken[..before])?;
@@ -219,7 +219,7 @@ fn stop_behind<R: Threads + Sync + AllocGlobal + Print>(
         piece: 1,
         ..GOOD
     };
-    let left = called(rt, rt.alloc(), case, line, outside)?;
+    let left = make_call(rt, rt.alloc(), case, line, outside)?;
     if has_stopped(&left, before) {
         Ok(())
     } else {

@@ -87,7 +87,7 @@ fn add_line(
 }
 
 // A text of an order. In it `{line}` is a line feed, and `{empty}` nothing.
-fn spelled(alloc: Global, text: &str) -> Result<String, AllocError> {
+fn text_of_order(alloc: Global, text: &str) -> Result<String, AllocError> {
     let text = text.replace(alloc, "{line}", "\n")?;
     text.as_str().replace(alloc, "{empty}", "")
 }
@@ -95,7 +95,7 @@ fn spelled(alloc: Global, text: &str) -> Result<String, AllocError> {
 // Puts a line behind the bytes so many times. In it `{place}` is four times its number, from 0 on.
 fn repeat(alloc: Global, bytes: &mut Vec<u8>, words: &str) -> Result<(), AllocError> {
     let (count, text) = first_word(words);
-    let line = spelled(alloc, text)?;
+    let line = text_of_order(alloc, text)?;
     for i in 0..number(count) {
         let place = i.saturating_mul(4);
         let place = format!(in alloc; "{place}")?;
@@ -109,8 +109,8 @@ fn repeat(alloc: Global, bytes: &mut Vec<u8>, words: &str) -> Result<(), AllocEr
 // Puts a text in the place of another one, wherever that stands.
 fn change(alloc: Global, bytes: &mut Vec<u8>, words: &str) -> Result<(), AllocError> {
     let (from, to) = words.split_once(" => ").unwrap_or((words, ""));
-    let from = spelled(alloc, from)?;
-    let to = spelled(alloc, to)?;
+    let from = text_of_order(alloc, from)?;
+    let to = text_of_order(alloc, to)?;
     let text = str::from_utf8(bytes).unwrap_or("");
     let changed = text.replace(alloc, from.as_str(), to.as_str())?;
     *bytes = changed.into_bytes();

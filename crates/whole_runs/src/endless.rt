@@ -27,5 +27,5 @@ pub fn refuse_endless<
     let mut bench = Bench { machine: None };
     let status = secvisor(rt, rt.alloc(), &line, &mut files, &mut out, &mut bench);
     println!(rt; "status {}", status.number())?;
-    io::writer(rt).write_all(out.taken())
+    io::writer(rt).write_all(out.taken_bytes())
 }

@@ -49,7 +49,7 @@ pub fn run_guests<R: Threads + Sync + Files + AllocGlobal + Print>(
     let text = fs::read_to_string(rt, list)?;
     for line in text.as_str().lines() {
         if let Some((name, words)) = named_words(line) {
-            print_run(rt, name, &called(rt, name, words)?)?;
+            print_run(rt, name, &call_words(rt, name, words)?)?;
         }
     }
     Ok(())
@@ -63,7 +63,7 @@ pub fn compare_policies<R: Threads + Sync + Files + AllocGlobal + Print>(
     let text = fs::read_to_string(rt, list)?;
     for line in text.as_str().lines() {
         if let Some((name, words)) = named_words(line) {
-            print_comparison(rt, name, &called(rt, name, words)?)?;
+            print_comparison(rt, name, &call_words(rt, name, words)?)?;
         }
     }
     Ok(())
@@ -78,7 +78,7 @@ fn named_words(line: &str) -> Option<(&str, &str)> {
     }
 }
 
-fn called<R: Threads + Sync + Files + AllocGlobal>(
+fn call_words<R: Threads + Sync + Files + AllocGlobal>(
     rt: &R,
     name: &str,
     words: &str,
@@ -89,7 +89,7 @@ fn called<R: Threads + Sync + Files + AllocGlobal>(
 
 fn print_run<R: Print>(rt: &R, name: &str, left: &Left) -> io::Result<()> {
     println!(rt; "guest {name} status {}", left.answer.status.number())?;
-    io::writer(rt).write_all(left.out.taken())
+    io::writer(rt).write_all(left.out.taken_bytes())
 }
 
 // Whether the call left the very bytes under a name that lie there.

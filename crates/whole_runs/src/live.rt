@@ -2,7 +2,7 @@
 ghost use Rattle.std.specs.Prelude.{◌≡◌, ◌<◌, ◌-◌, IfOk};
 ghost use Rattle.outside.specs.Outside.{CanCount};
 
-use crate::calls::{called, is_same, line, print_lines, tell};
+use crate::calls::{is_same, line, make_call, print_lines, tell};
 use crate::case::Case;
 use crate::memory::{Answer, GOOD, Left, PRINTED_ROOM, hold, left_behind};
 use crate::values::{first_word, number};
@@ -71,7 +71,7 @@ fn keys_of(alloc: Global, count: usize, failing: u64) -> Result<MemKeys, AllocEr
 }
 
 // The live run of a case, in which so many keys are typed, and the read of one fails.
-fn typed<R: Threads + Wait + Sync>(
+fn live_with_keys<R: Threads + Wait + Sync>(
     rt: &R,
     alloc: Global,
     case: &Case,
@@ -94,7 +94,7 @@ pub fn print_live<R: Threads + Wait + Sync + AllocGlobal + Print>(
     let (failing, words) = first_word(words);
     let line = line(rt.alloc(), case, words)?;
     let count = number(count) as usize;
-    let left = typed(rt, rt.alloc(), case, &line, count, number(failing))?;
+    let left = live_with_keys(rt, rt.alloc(), case, &line, count, number(failing))?;
     tell(rt, case, words, &left)?;
     print_lines(rt, &left.taken)
 }
@@ -152,7 +152,7 @@ struct HeldPace<'a> {
 }
 
 impl Pace for HeldPace<'_> {
-    fn sent(&self, count: u64) {
+    fn note_sent(&self, count: u64) {
         self.gate.sent.store(count, Ordering::SeqCst);
     }
 
@@ -181,7 +181,7 @@ fn events_before_a_key(script: &[u8]) -> u64 {
 }
 
 // The live run of a case in which each thread waits for the other.
-fn held<R: Threads + Wait + Sync>(
+fn live_with_gate<R: Threads + Wait + Sync>(
     rt: &R,
     alloc: Global,
     case: &Case,
@@ -217,7 +217,7 @@ pub fn print_held<R: Threads + Wait + Sync + AllocGlobal + Print>(
         event_came: AtomicU64::new(0),
     };
     let line = line(rt.alloc(), case, words)?;
-    let left = held(rt, rt.alloc(), case, &line, &gate)?;
+    let left = live_with_gate(rt, rt.alloc(), case, &line, &gate)?;
     print_gate(rt, &gate)?;
     keep_script(rt.alloc(), case, &left)?;
     let is_early = events_before_a_key(&case.handed.script) <= HELD_EVENT;
@@ -239,7 +239,7 @@ fn print_again<R: Threads + Sync + AllocGlobal + Print>(
     left: &Left,
 ) -> io::Result<()> {
     let line = line(rt.alloc(), case, "run image policy none script 5002 none")?;
-    let again = called(rt, rt.alloc(), case, &line, GOOD)?;
+    let again = make_call(rt, rt.alloc(), case, &line, GOOD)?;
     let is_same = is_same(&again, left);
     println!(rt; "its script is run with the same report: {is_same}")
 }

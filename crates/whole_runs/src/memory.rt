@@ -103,7 +103,7 @@ pub fn left_behind(
     };
     Ok(Left {
         status: answer.status,
-        taken: out.taken().to_vec(alloc)?,
+        taken: out.taken_bytes().to_vec(alloc)?,
         saved,
         is_booted: answer.is_booted,
     })

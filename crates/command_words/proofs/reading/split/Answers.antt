@@ -18,20 +18,20 @@ found : (words : List (String Global)) (app : App) (matches : ArgMatches) → Is
     app ≡ whole_app → HasMatchesOf app (map string_bytes words) matches → split_found (subcommand_rows_of matches) ≡ split_words (map string_bytes words)
 found words app matches known short is has = ap split_found (met words app matches is has) ∙ (known_is_read words known short).found
 
-pub named-requires : goal.named-requires
-named-requires c =
+pub words_of_matches-requires : goal.words_of_matches-requires
+words_of_matches-requires c =
     let short : length c.args.words.now ≤ 2 ^ 64 = let fits = c.well_formed in omega arith in
     ap is_some (found c.args.words.now _ c.in-Ok.matches c.requires short c.in_ok-program.ensures c.in-Ok.ensures.matches) ∙ c.requires
 
 pub returns-in-Ok : goal.returns-in-Ok
 returns-in-Ok c =
     let short : length c.args.words.now ≤ 2 ^ 64 = let fits = c.well_formed in omega arith in
-    IfOk-weaker c.named.result _ _
+    IfOk-weaker c.words_of_matches.result _ _
     (λ words is. sym (found c.args.words.now _ c.in-Ok.matches c.requires short c.in_ok-program.ensures c.in-Ok.ensures.matches) ∙ is)
-    c.named.ensures
+    c.words_of_matches.ensures
 
-pub wanting-requires : goal.wanting-requires
-wanting-requires c =
+pub want_of_memory-requires : goal.want_of_memory-requires
+want_of_memory-requires c =
     let short : length c.args.words.now ≤ 2 ^ 64 = let fits = c.well_formed in omega arith in
     let read = known_is_read c.args.words.now c.requires short in
     c.in-Err.ensures.passes (ap (λ (a : App). takes a (map string_bytes c.args.words.now)) c.in_ok-program.ensures ∙ read.taken)

@@ -63,11 +63,11 @@ flush_due-requires g c = record {
 pub returns-in_err-flush_due-clause-some : goal.returns-in_err-flush_due-clause-some
 returns-in_err-flush_due-clause-some g c =
     let hand : IsAtHand g.S.EventSource.schedule c.events.drawing c.draw.new.self c.in-Some.row = c.in-Some.ensures.row in
-    let parts : events_left g.S.EventSource.schedule c.events.drawing ≡ replicate c.repeat-made.result c.in-Some.row.event ++ events_left g.S.EventSource.schedule c.made.new.self =
-    sym hand.left ∙ c.made.ensures.left ∙ ap (λ (r : EventRun). replicate c.repeat-made.result r.event ++ events_left g.S.EventSource.schedule c.made.new.self) (sym hand.row_is) in
+    let parts : events_left g.S.EventSource.schedule c.events.drawing ≡ replicate c.repeat-made.result c.in-Some.row.event ++ events_left g.S.EventSource.schedule c.count_down.new.self =
+    sym hand.left ∙ c.count_down.ensures.left ∙ ap (λ (r : EventRun). replicate c.repeat-made.result r.event ++ events_left g.S.EventSource.schedule c.count_down.new.self) (sym hand.row_is) in
     let room = room_again c.repeat-made.result c.events.machine c.repeat-made.new.self c.in-Some.row.event c.events.invariant.has c.repeat-made.ensures.chain c.events.invariant.room in
     let broke : RunBrokeFromStart c.args.machine.now (first_events c.args.events (g.S.EventSource.schedule c.args.source)) c.flush_due.new.machine (g.O.Sink.state c.args.out.now) (g.O.Sink.state c.flush_due.new.out) =
-    λ start new. runs_broke c.repeat-made.result _ start _ (events_left g.S.EventSource.schedule c.events.drawing) (events_left g.S.EventSource.schedule c.made.new.self) c.events.machine c.repeat-made.new.self c.flush_due.new.machine
+    λ start new. runs_broke c.repeat-made.result _ start _ (events_left g.S.EventSource.schedule c.events.drawing) (events_left g.S.EventSource.schedule c.count_down.new.self) c.events.machine c.repeat-made.new.self c.flush_due.new.machine
     c.in-Some.row.event _ _ _ (c.events.invariant.on start new) parts c.repeat-made.ensures.chain
     c.in_err-flush_due.ensures.machine room c.in_err-flush_due.ensures.due c.in_err-flush_due.ensures.failed in
     on_err _ _ broke
@@ -75,19 +75,19 @@ returns-in_err-flush_due-clause-some g c =
 pub events-preserved : goal.events-preserved
 events-preserved g c =
     let hand : IsAtHand g.S.EventSource.schedule c.events.drawing c.draw.new.self c.in-Some.row = c.in-Some.ensures.row in
-    let parts : events_left g.S.EventSource.schedule c.events.drawing ≡ replicate c.repeat-made.result c.in-Some.row.event ++ events_left g.S.EventSource.schedule c.made.new.self =
-    sym hand.left ∙ c.made.ensures.left ∙ ap (λ (r : EventRun). replicate c.repeat-made.result r.event ++ events_left g.S.EventSource.schedule c.made.new.self) (sym hand.row_is) in
-    let fewer : c.made.new.self.row.count + c.made.new.self.undrawn + c.repeat-made.result ≡ c.events.drawing.row.count + c.events.drawing.undrawn = c.made.ensures.count ∙ hand.count in
+    let parts : events_left g.S.EventSource.schedule c.events.drawing ≡ replicate c.repeat-made.result c.in-Some.row.event ++ events_left g.S.EventSource.schedule c.count_down.new.self =
+    sym hand.left ∙ c.count_down.ensures.left ∙ ap (λ (r : EventRun). replicate c.repeat-made.result r.event ++ events_left g.S.EventSource.schedule c.count_down.new.self) (sym hand.row_is) in
+    let fewer : c.count_down.new.self.row.count + c.count_down.new.self.undrawn + c.repeat-made.result ≡ c.events.drawing.row.count + c.events.drawing.undrawn = c.count_down.ensures.count ∙ hand.count in
     let before : c.events.drawing.row.count + c.events.drawing.undrawn ≤ c.args.events = c.events.invariant.few in
     let flushed = c.in_ok-flush_due.ensures.flushed in
     record {
-      on = λ start new. runs_more c.repeat-made.result _ start _ (events_left g.S.EventSource.schedule c.events.drawing) (events_left g.S.EventSource.schedule c.made.new.self) c.events.machine c.repeat-made.new.self c.flush_due.new.machine
+      on = λ start new. runs_more c.repeat-made.result _ start _ (events_left g.S.EventSource.schedule c.events.drawing) (events_left g.S.EventSource.schedule c.count_down.new.self) c.events.machine c.repeat-made.new.self c.flush_due.new.machine
           c.in-Some.row.event _ _ _ c.repeat-made.ensures.some (c.events.invariant.on start new) parts c.repeat-made.ensures.chain flushed;
       has = state_after c.repeat-made.result c.events.machine c.repeat-made.new.self c.flush_due.new.machine c.in-Some.row.event _ _ c.events.invariant.has c.repeat-made.ensures.chain flushed;
       taken = taken_more _ c.repeat-made.new.self c.flush_due.new.machine _ _ c.events.invariant.taken flushed;
       few = omega (arith, fewer, before);
-      counts = flushed_counts (most_events + (c.args.events - count_left c.made.new.self)) c.repeat-made.new.self c.flush_due.new.machine _ _
-          (counts_within (most_events + (c.args.events - count_left c.events.drawing) + c.repeat-made.result) (most_events + (c.args.events - count_left c.made.new.self)) c.repeat-made.new.self.journal.counts
+      counts = flushed_counts (most_events + (c.args.events - count_left c.count_down.new.self)) c.repeat-made.new.self c.flush_due.new.machine _ _
+          (counts_within (most_events + (c.args.events - count_left c.events.drawing) + c.repeat-made.result) (most_events + (c.args.events - count_left c.count_down.new.self)) c.repeat-made.new.self.journal.counts
           (omega (arith, fewer, before)) (c.repeat-made.ensures.counts (most_events + (c.args.events - count_left c.events.drawing)) c.events.invariant.counts)) flushed;
       room = c.in_ok-flush_due.ensures.room;
       rest = c.in_ok-flush_due.ensures.rest;

@@ -5,10 +5,10 @@ use Rattle.resume_cli.proofs.ClauseLemmas.{resume_fault, unread}
 use Rattle.resume_cli.proofs.answer.secvisor_resume.Goals as goal
 
 pub returns-clause-headline : goal.returns-clause-headline
-returns-clause-headline g c = rw c.settled.ensures (headline _ _ _ _ c.answer.ensures)
+returns-clause-headline g c = rw c.status_of_end.ensures (headline _ _ _ _ c.answer.ensures)
 
 pub returns-clause-read_fault : goal.returns-clause-read_fault
-returns-clause-read_fault g c = λ is. resume_fault (map string_bytes c.args.words.now) _ _ _ c.answer.ensures (sym c.settled.ensures ∙ is)
+returns-clause-read_fault g c = λ is. resume_fault (map string_bytes c.args.words.now) _ _ _ c.answer.ensures (sym c.status_of_end.ensures ∙ is)
 
 pub returns-clause-reads : goal.returns-clause-reads
 returns-clause-reads g c = (effect _ _ _ _ c.answer.ensures).reads

@@ -4,10 +4,10 @@ use Rattle.secvisor_cli.proofs.TopLemmas.{effect, headline, headline_writes, per
 use Rattle.secvisor_cli.proofs.answer.secvisor.Goals as goal
 
 pub returns-clause-headline : goal.returns-clause-headline
-returns-clause-headline g c = rw c.settled.ensures (headline _ _ _ _ c.answer.ensures)
+returns-clause-headline g c = rw c.status_of_end.ensures (headline _ _ _ _ c.answer.ensures)
 
 pub returns-clause-read_fault : goal.returns-clause-read_fault
-returns-clause-read_fault g c = λ is. performs_fault (map string_bytes c.args.words.now) _ _ _ c.answer.ensures (sym c.settled.ensures ∙ is)
+returns-clause-read_fault g c = λ is. performs_fault (map string_bytes c.args.words.now) _ _ _ c.answer.ensures (sym c.status_of_end.ensures ∙ is)
 
 pub returns-clause-reads : goal.returns-clause-reads
 returns-clause-reads g c = (effect _ _ _ _ c.answer.ensures).reads

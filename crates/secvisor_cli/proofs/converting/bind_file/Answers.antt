@@ -28,8 +28,8 @@ returns-in_err-bound g c = λ files.
     (bound_stops (convert_value c.args.asked.now) (rules_of c.args.policy) c.args.file.now files c.in_ok-image.ensures.accepted (segments_of c.in_ok-image.image) c.in_err-bound.field-0.0
     c.in_ok-image.ensures.segments c.in_err-bound.ensures.refused)
 
-pub converted-requires : goal.converted-requires
-converted-requires g c = record { within = c.in_ok-bound.ensures.within c.requires.within }
+pub converted_policy-requires : goal.converted_policy-requires
+converted_policy-requires g c = record { within = c.in_ok-bound.ensures.within c.requires.within }
 
 pub returns-in_err-made : goal.returns-in_err-made
 returns-in_err-made g c = λ files.

@@ -27,8 +27,8 @@ returns-in_err-policy g c = λ files.
     (subst (λ (j : Judged Rules). Refuses j c.in_err-policy.field-0.0)
     (behind_same _ _ _ _ _ _ _ _ _ c.in_ok-settings.ensures c.deref.ensures.value c.deref-2.ensures.value c.deref-3.ensures.value) c.in_err-policy.ensures.refused))
 
-pub made-requires : goal.made-requires
-made-requires g c = record {
+pub measured_policy-requires : goal.measured_policy-requires
+measured_policy-requires g c = record {
   within =
       c.in_ok-policy.ensures.within (subst (λ (t : Terms). terms_within t ≡ true) (sym c.in_ok-settings.ensures) c.requires.terms)
       (subst (λ (os : List ObjectFile). are_module_names (file_names (map file_of os)) ≡ true) (sym c.deref-3.ensures.value) c.requires.names);

@@ -4,13 +4,13 @@ use Rattle.show_cli.proofs.AnswerLemmas.{answers_held, keeps_files, writes}
 use Rattle.show_cli.proofs.answer.secvisor_show.Goals as goal
 
 pub returns-clause-headline : goal.returns-clause-headline
-returns-clause-headline g c = record { result = c.answer.result; shows = c.answer.ensures; status = c.settled.ensures }
+returns-clause-headline g c = record { result = c.answer.result; shows = c.answer.ensures; status = c.status_of_end.ensures }
 
 pub returns-clause-held : goal.returns-clause-held
 returns-clause-held g c = λ name is tells same. record {
   result = c.answer.result;
   ends = answers_held name (name_in (map string_bytes c.args.words.now)) _ _ _ _ c.answer.result is tells same c.answer.ensures;
-  status = c.settled.ensures;
+  status = c.status_of_end.ensures;
 }
 
 pub returns-clause-same : goal.returns-clause-same

@@ -4,10 +4,10 @@ use Rattle.snap_cli.proofs.ClauseLemmas.{snap_fault, snap_effect, snap_writes, s
 use Rattle.snap_cli.proofs.answer.secvisor_snap.Goals as goal
 
 pub returns-clause-headline : goal.returns-clause-headline
-returns-clause-headline g c = record { result = c.answer.result; performs = c.answer.ensures; status = c.settled.ensures }
+returns-clause-headline g c = record { result = c.answer.result; performs = c.answer.ensures; status = c.status_of_end.ensures }
 
 pub returns-clause-read_fault : goal.returns-clause-read_fault
-returns-clause-read_fault g c = λ is. snap_fault (map string_bytes c.args.words.now) _ _ _ c.answer.ensures (sym c.settled.ensures ∙ is)
+returns-clause-read_fault g c = λ is. snap_fault (map string_bytes c.args.words.now) _ _ _ c.answer.ensures (sym c.status_of_end.ensures ∙ is)
 
 pub returns-clause-reads : goal.returns-clause-reads
 returns-clause-reads g c = (snap_effect _ _ _ _ c.answer.ensures).reads

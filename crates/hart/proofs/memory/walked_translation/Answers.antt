@@ -2,7 +2,7 @@ use Rattle.std.proofs.Common.{◌∙◌, sym, arith}
 use Rattle.processor.specs.SecondStage.{WalksApart}
 use Rattle.sv39_walk.specs.Regimes.{settings_of}
 use Rattle.hart.proofs.Places.{stages_place, stages_behind}
-use Rattle.hart.proofs.memory.walked.Goals as goal
+use Rattle.hart.proofs.memory.walked_translation.Goals as goal
 use Rattle.processor_laws.proofs.Walks.{apart_inside}
 
 pub returns-in-Ok-clause-place : goal.returns-in-Ok-clause-place

@@ -2,7 +2,7 @@ use Rattle.std.proofs.Common.{◌≡◌, ◌-◌, ◌∙◌, ◌++◌, List, len
 use Rattle.std.proofs.lemmas.List.{drop-replicate}
 use Rattle.reference.specs.VirtioChain.{no_part}
 use Rattle.sv_types.specs.declared.virtio.VirtioPart.{VirtioPart}
-use Rattle.virtio_blk.proofs.accept.padded.Goals as goal
+use Rattle.virtio_blk.proofs.accept.padded_parts.Goals as goal
 
 pub returns : goal.returns
 returns c =
