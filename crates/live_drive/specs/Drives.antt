@@ -38,10 +38,10 @@ abbrev pub BrokeOff : (old new : LiveRun) (before after : SinkState) → Type 0
 BrokeOff old new before after = Breaks (events_made old) (events_made new) old.machine new.machine before after
 
 -- a live run may be driven: the sink may take its console, it may make events, and its keys come by this line
-pub record MayDrive (l : LiveRun) (line : TableId) (to : SinkState) : Type 0 where
+pub record MayDrive (l : LiveRun) (id : TableId) (to : SinkState) : Type 0 where
   pub sink : MayWrite to
   pub on : MayGoOn l
-  pub line : l.taker.line ≡ line
+  pub line : l.taker.line ≡ id
 
 -- it has made events, and may make more
 pub record Driven (old new : LiveRun) (before after : SinkState) : Type 0 where

@@ -72,7 +72,7 @@ returns-clause-drives g c =
     let stays = c.keys.invariant.stays in
     let way = stays.way in
     record {
-      on = c.keys.invariant.on;
+      on = record { went = c.keys.invariant.on.went; room = c.keys.invariant.on.room };
       broke = tt;
       stays = record {
         way = record {
