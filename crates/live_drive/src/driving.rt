@@ -22,6 +22,8 @@ fn show_often<O: Sink>(live: &mut LiveRun, out: &mut O) -> Result<(), Failed>
     requires sink { MayWrite (O.state out.old) }
     requires on { MayGoOn live.old }
     ensures drives { Drives result live.old live.new (O.state out.old) (O.state out.new) }
+    ensures taker { live.new.taker ≡ live.old.taker }
+    ensures script { live.new.script ≡ live.old.script }
     ensures journal { live.new.journal ≡ live.old.journal }
 {
     if live.journal.autos % SHOWN_EVERY == 0 {

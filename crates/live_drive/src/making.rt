@@ -85,6 +85,7 @@ pub fn make_keys<R: Wait, O: Sink>(
     ensures drives { Drives result live.old live.new (O.state out.old) (O.state out.new) }
     // A settled taker was given all that was sent.
     ensures whole { OnOk result (TookAllOf live.new.taker.all live.new.taker.bytes) }
+    ensures script { live.new.script ≡ live.old.script }
     ensures autos { live.new.journal.autos ≡ live.old.journal.autos }
     ensures ended { live.old.machine.journal.verdict ≢ Running → live.new.machine.journal.verdict ≢ Running }
 {
@@ -100,6 +101,7 @@ pub fn make_auto<O: Sink>(live: &mut LiveRun, out: &mut O) -> Result<(), Failed>
     requires on { MayGoOn live.old }
     requires autos { live.old.journal.autos < most_events }
     ensures drives { Drives result live.old live.new (O.state out.old) (O.state out.new) }
+    ensures taker { live.new.taker ≡ live.old.taker }
     ensures autos { live.new.journal.autos ≡ live.old.journal.autos + 1 }
 {
     let Some(event) = live.script.next() else {

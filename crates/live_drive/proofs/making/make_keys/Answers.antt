@@ -9,6 +9,7 @@ pub keys-init : goal.keys-init
 keys-init g c = record {
   on = record { went = on_none _ _ _; room = c.requires.may.on.room };
   stays = record { way = c.requires.may.on.way; line = refl; all = refl; harts = refl; events = refl };
+  script = refl;
   autos = refl;
   ended = λ ended. ended;
 }
@@ -44,6 +45,7 @@ keys-preserved g c =
         harts = stays.harts;
         events = stays.events;
       };
+      script = c.keys.invariant.script;
       autos = c.make_key.ensures.autos ∙ c.keys.invariant.autos;
       ended = λ ended. c.make_key.ensures.ended (c.keys.invariant.ended ended);
     }

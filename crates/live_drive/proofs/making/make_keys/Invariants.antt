@@ -8,6 +8,7 @@ abbrev pub invariant-keys : goal.invariant-keys
 invariant-keys g l = record {
   on : Driven l.initial.live l.live (g.O.Sink.state l.initial.out) (g.O.Sink.state l.out);
   stays : StaysUnderWay l.initial.live l.live;
+  script : l.live.script ≡ l.initial.live.script;
   autos : l.live.journal.autos ≡ l.initial.live.journal.autos;
   ended : l.initial.live.machine.journal.verdict ≢ Running → l.live.machine.journal.verdict ≢ Running;
 }
