@@ -1,6 +1,6 @@
 -- A module that is read is within the limits: its text is whole pages, at most 1,024, and its fields stand in it, in the
 -- order of their places, under bases that there are.
-use Rattle.std.proofs.Common.{◌≡◌, ℕ, zero, suc, ◌+◌, ◌-◌, ◌*◌, ◌/◌, ◌%◌, ◌^◌, ◌<◌, ◌≤◌, Bool, true, false, List, [], ◌∷◌, ◌++◌, length, map, Option, Some, None, Ok, Err, Ordering, Less, Equal, Greater, refl, ap, sym, subst, ◌∙◌, arith, length-append}
+use Rattle.std.proofs.Common.{◌≡◌, ℕ, ◌+◌, ◌-◌, ◌*◌, ◌/◌, ◌%◌, ◌^◌, ◌<◌, ◌≤◌, Bool, true, false, List, [], ◌∷◌, ◌++◌, length, map, Option, Some, None, Ok, Err, Ordering, Less, Equal, Greater, refl, ap, sym, subst, ◌∙◌, arith, length-append}
 use Rattle.std.specs.Prelude.{◌&&◌, ◌||◌, ◌==◌, nat_le, nat_lt, if◌then◌else◌, Result, IfOk, slice_get}
 use Rattle.std.specs.BTreeMap.{insert_entry}
 use Rattle.std.specs.List.{list_all}
@@ -15,6 +15,7 @@ use Rattle.sv_types.specs.declared.image_fault.HeaderFault.{HeaderFault}
 use Rattle.sv_types.specs.declared.module.Site.{Site}
 use Rattle.sv_types.specs.declared.policy.Export.{Export}
 use Rattle.sv_types.specs.Steps.{◌>>=◌}
+use Rattle.sv_types.proofs.PageNumbers.{numbers_length}
 use Rattle.elf64_sections.specs.Sections.{Tables, sections_in_file, sections_among, sections_of, sections_count, sections_place, section_at, tables_of}
 use Rattle.elf64_sections.proofs.Steps.{ok_same}
 use Rattle.elf64_reloc.specs.Layouts.{is_good_alignment, padding, no_ends, placed_sections, text_size}
@@ -236,10 +237,6 @@ by_sites exports o true (Err fault) m alignments is e short = absurd (cc e)
 by_sites exports o false judged m alignments is e short = absurd (cc e)
 
 -- ---- the object of a file
-
-numbers_length : (first n : ℕ) → length (numbers_from first n) ≡ n
-numbers_length first zero = refl
-numbers_length first (suc n) = ap suc (numbers_length (first + 1) n)
 
 sections_length : (file : List ℕ) → length (sections_of file) ≡ sections_count file
 unfolding sections_among

@@ -176,9 +176,6 @@ module _ (before after : List ℕ) (pages t n trees block : ℕ) (sights : ℕ �
   pub leaves_stay : (tree p : ℕ) → tree < trees → p < 512 * t → word after (8 * (512 * (5 * trees + tree * t) + p)) 8 ≡ word before (8 * (512 * (5 * trees + tree * t) + p)) 8
   leaves_stay tree p l h = so.kept (512 * (5 * trees + tree * t) + p) (λ other less. omega arith)
 
-  pub middle_set : (tree : ℕ) → tree < trees → word after (8 * (512 * (4 * trees + tree) + block)) 8 ≡ middle_word trees t n (sights tree) tree block whole
-  middle_set tree l = so.written tree l
-
   pub middle_stays : (tree i : ℕ) → tree < trees → i < 512 → i ≢ block → word after (8 * (512 * (4 * trees + tree) + i)) 8 ≡ word before (8 * (512 * (4 * trees + tree) + i)) 8
   middle_stays tree i l h ne = so.kept (512 * (4 * trees + tree) + i) (λ other less. omega arith)
 

@@ -18,7 +18,7 @@ pub enum Field {
     Double(u64),
 }
 
-#[tactic(auto, using(crate::proofs::FieldBytes::low_bytes_2, crate::proofs::FieldBytes::low_bytes_4, crate::proofs::FieldBytes::low_bytes_8))]
+#[tactic(auto, using(processor_laws::proofs::LibraryBytes::low_bytes_2, processor_laws::proofs::LibraryBytes::low_bytes_4, processor_laws::proofs::LibraryBytes::low_bytes_8))]
 fn push_field(file: &mut Vec<u8>, field: Field) -> Result<(), AllocError>
     ensures { OnOk result (file.new.items ≡ file.old.items ++ spec.field_bytes field) }
 {

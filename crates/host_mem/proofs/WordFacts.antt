@@ -1,12 +1,10 @@
 -- Words as the library's integers read and write their bytes.
 use Rattle.std.proofs.Common.{◌≡◌, ℕ, suc, ◌+◌, ◌*◌, ◌%◌, ◌<◌, ◌≤◌, ◌-◌, List, [], ◌∷◌, ◌++◌, length, take, drop, get_or, set, add-one, refl, ◌∙◌, ap, arith}
-use Rattle.std.proofs.Math.Nat.{div-one}
 use Rattle.std.proofs.lemmas.List.{append-nil, drop_more, drop_all, drop-drop, set_split, take_all}
-use Rattle.std.specs.Int.{from_le_bytes, to_le_bytes, w16, w32, w64}
+use Rattle.std.specs.Int.{from_le_bytes, w16, w32, w64}
 use borrow.Rule.Slice.PartMut.{put_mid}
 use Rattle.processor.specs.Bytes.{word, write_word, overwrite, low_bytes}
 use Rattle.processor_laws.proofs.ByteLemmas.{length_low_bytes}
-use Rattle.processor_laws.proofs.LibraryBytes.{bytes_from}
 
 -- ---- reading
 
@@ -57,10 +55,6 @@ word_8 list at n e fits =
     rw e (omega arith)
 
 -- ---- writing
-
--- the bytes of a value of 64 bits are its eight lowest
-pub eight_bytes : (value : ℕ) → to_le_bytes w64 value ≡ low_bytes 8 value
-eight_bytes value = bytes_from 0 8 value ∙ ap (low_bytes 8) (div-one value)
 
 -- a list written over all of another of its length
 pub written_over : (len : ℕ) (new old : List ℕ) → length new ≡ len → length old ≡ len → take len (new ++ drop (length new) old) ≡ new

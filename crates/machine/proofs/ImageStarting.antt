@@ -53,9 +53,6 @@ image_refused image rules text Memory is refused = refused
 
 -- ---- limits
 
-pub some_hart : (rules : Rules) → IsTrue (rules_within rules) → 1 ≤ rules.harts
-some_hart rules within = grind (arith, nat_tests)
-
 word_at : (entries : List ℕ) (entry : ℕ) → ((i : ℕ) → get_or entries i 0 < 2 ^ 64) → has_number entries entry ≡ true → entry < 2 ^ 64
 word_at [] entry fits there = absurd (cc there)
 word_at (x ∷ entries) entry fits there = elim (cases_Bool (x == entry)) [

@@ -16,6 +16,7 @@ use Rattle.snapshot_form.specs.Snapshots.{Contents}
 use Rattle.resumption.specs.ResumedStates.{resumed_state}
 use Rattle.resume_laws.specs.Keepable.{AreKeepable, IsReservable}
 use Rattle.resume_laws.specs.ResumedSound.{IsResumable}
+use Rattle.resumed_start.proofs.SnapHolds.{nothing_printed}
 use Rattle.resumed_start.specs.Resuming.{host_resumed, load_resumed, resumed_machine}
 use Rattle.resumed_parts.specs.Parts.{AreResumed}
 use Rattle.resumed_parts.specs.declared.parts.ResumedParts.{ResumedParts}
@@ -37,10 +38,6 @@ have_addresses size (h ∷ hs) most all = (has_address size h.reservation most a
 rules_are : (rules : Rules) (s : Contents) → (resumed_state rules s).rules ≡ rules
 unfolding resumed_state
 rules_are rules s = refl
-
-nothing_printed : (rules : Rules) (s : Contents) → (resumed_state rules s).journal.printed ≡ []
-unfolding resumed_state
-nothing_printed rules s = refl
 
 small_ram : (rules : Rules) → IsTrue (rules_within rules) → page_size * rules.ram_pages ≤ 2 ^ 60
 small_ram rules within =

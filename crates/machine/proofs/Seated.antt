@@ -41,9 +41,6 @@ module _ (p : Inside) (h : ℕ) (old : Seat) (is : old ≡ slice_index_or p.seat
   mine : h < length (hosts_of p.seats.items) → host_at old ≡ hart_in (hosts_of p.seats.items) h
   mine below = ap host_at is ∙ sym (host_there p.seats.items h old (subst (λ (n : ℕ). h < n) (hosts_length p.seats.items) below))
 
-  pub below_there : (now : Machine) → whole ≡ now → h < length p.seats.items → h < length now.harts
-  below_there now same below = subst (λ (m : Machine). h < length m.harts) same (subst (λ (n : ℕ). h < n) (sym (hosts_length p.seats.items)) below)
-
   -- it stands at an instruction's address
   pub aligned_there : (now : Machine) → whole ≡ now → h < length now.harts → (hart_in now.harts h).core.pc % 4 ≡ 0 → old.hart.core.pc % 4 ≡ 0
   aligned_there now same below aligned =

@@ -5,7 +5,6 @@ use Rattle.std.specs.Option.{option_map}
 use Rattle.std.proofs.lemmas.Int.{ints}
 use Rattle.std.proofs.lemmas.Bool.{lt-ltb, and_from}
 use Rattle.std.proofs.lemmas.Bool.Decides.{nat_tests}
-use Rattle.processor.specs.declared.instruction.Instr.{Instr}
 use Rattle.processor.specs.declared.instruction.BranchOp.{BranchOp}
 use Rattle.processor.specs.declared.instruction.BranchOp.TheVariants as Branch
 use Rattle.processor.specs.declared.instruction.LoadOp.{LoadOp}
@@ -26,7 +25,7 @@ use Rattle.processor.specs.declared.instruction.AmoOp.{AmoOp}
 use Rattle.processor.specs.declared.instruction.AmoOp.TheVariants as Amo
 use Rattle.processor.specs.declared.instruction.HyperOp.{HyperOp}
 use Rattle.processor.specs.declared.instruction.HyperOp.TheVariants as Hyper
-use Rattle.processor.specs.Instructions.{Row, rd, rs1, rs2, lui, auipc, jal, jalr, branch, load, store, op_imm, shift, op_imm_32, shift_32, op_op, op_32, plain, sfence, csr, lr, sc, amo, hyper_load, hyper_store, bits, signed_bits, imm_i, imm_s, imm_b, imm_u, imm_j, has_row, rows, instruction_of, instruction_in}
+use Rattle.processor.specs.Instructions.{Row, rd, rs1, rs2, lui, auipc, jal, jalr, branch, load, store, op_imm, shift, op_imm_32, shift_32, op_op, op_32, sfence, csr, lr, sc, amo, hyper_load, hyper_store, bits, signed_bits, imm_i, imm_s, imm_b, imm_u, imm_j, has_row, rows, instruction_of, instruction_in}
 use Rattle.processor.specs.Encoding.{fits, is_immediate, is_register, is_shift, is_shift_32, is_hyper_load, is_width}
 
 -- a number of n bits, a multiple of a step, read as signed
@@ -129,9 +128,6 @@ module _ (w : ℕ) where
   op_32-fits : (op : Op32Op) → fits (op_32 op w) ≡ true
   unfolding fits
   op_32-fits op = all_3 _ _ _ rd-fits rs1-fits rs2-fits
-
-  plain_fits : (instr : Instr) → fits instr ≡ true → fits (plain instr w) ≡ true
-  plain_fits instr h = h
 
   sfence-fits : fits (sfence w) ≡ true
   unfolding fits

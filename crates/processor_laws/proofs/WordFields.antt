@@ -47,9 +47,6 @@ module _ (o g f d a b : ℕ) (in_o : o < 128) (in_g : g < 128) (in_f : f < 8) (i
   pub r_rl : bits (r_word o g f d a b) 25 26 ≡ g % 2
   r_rl = omega arith
 
-  pub r_below : r_word o g f d a b < 2 ^ 32
-  r_below = omega arith
-
 module _ (o f d a v : ℕ) (in_o : o < 128) (in_f : f < 8) (in_d : d < 32) (in_a : a < 32) (in_v : v < 4096) where
   pub i_opcode : bits (i_word o f d a v) 0 7 ≡ o
   i_opcode = omega arith

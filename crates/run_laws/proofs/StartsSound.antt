@@ -24,6 +24,7 @@ use Rattle.run_laws.proofs.Lookups.{numbers_bounds, number_filtered, approved_al
 use Rattle.run_laws.proofs.Sounds.{AreSound}
 use Rattle.sv_types.proofs.TruthValues.{and_first, and_second}
 use Rattle.sv_types.proofs.FileChecks.{first_passed, rest_passed, accepted_headers, Passed, segment_passed}
+use Rattle.sv_types.proofs.PolicyLimits.{some_hart}
 
 -- what is known of a start
 pub record CanStart (rules : Rules) (ram text : List ℕ) (entry : ℕ) : Type 0 where
@@ -45,9 +46,6 @@ boot_harts : {rules : Rules} (harts entry : ℕ) → entry % 4 ≡ 0 → entry <
 boot_harts harts entry aligned small zero hart e =
     let same : hart_at entry registers_at_boot ≡ hart = cc in subst (IsSoundHart _) same (begin_sound entry registers_at_boot aligned small)
 boot_harts harts entry aligned small (suc k) hart e = subst (IsSoundHart _) (get_same stopped_hart hart (harts - 1) k e) stopped_sound
-
-some_hart : (rules : Rules) → IsTrue (rules_within rules) → 1 ≤ rules.harts
-some_hart rules within = grind (arith, nat_tests)
 
 count_harts : (harts entry : ℕ) → 1 ≤ harts → length (harts_at_boot harts entry) ≡ harts
 count_harts harts entry some =

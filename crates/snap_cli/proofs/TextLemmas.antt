@@ -1,5 +1,5 @@
 -- The pages of a state that was saved.
-use Rattle.std.proofs.Common.{◌≡◌, ℕ, zero, suc, ◌+◌, ◌*◌, ◌≤◌, List, length, refl, sym, ◌∙◌, ap, subst, arith}
+use Rattle.std.proofs.Common.{◌≡◌, ℕ, ◌*◌, ◌≤◌, List, length, sym, ◌∙◌, ap, subst}
 use Rattle.std.proofs.lemmas.List.{length-map}
 use Rattle.processor.specs.Bytes.{page_size}
 use Rattle.processor.specs.Regions.{most_ram_pages}
@@ -9,16 +9,13 @@ use Rattle.reference.specs.Soundness.{IsSound}
 use Rattle.reference.specs.States.{State, protection}
 use Rattle.saved_machine.specs.SavedStates.{IsSaved}
 use Rattle.saved_machine.specs.declared.whole.Saved.{Saved}
+use Rattle.sv_types.proofs.PageNumbers.{numbers_length}
 use Rattle.sv_types.proofs.PolicyLimits.{few_pages}
-
-numbers_count : (first n : ℕ) → length (numbers_from first n) ≡ n
-numbers_count first zero = refl
-numbers_count first (suc n) = let rest = numbers_count (first + 1) n in omega (arith, rest)
 
 pages_saved : (r : State) (s : Saved) → IsSaved r s → length s.protection.items ≡ r.rules.ram_pages
 pages_saved r s saved =
     ap (λ (ps : List Protection). length ps) saved.protection
-    ∙ length-map (numbers_from 0 r.rules.ram_pages) (protection r) ∙ numbers_count 0 r.rules.ram_pages
+    ∙ length-map (numbers_from 0 r.rules.ram_pages) (protection r) ∙ numbers_length 0 r.rules.ram_pages
 
 pub ram_saved : (r : State) (s : Saved) → IsSound r → IsSaved r s → length s.ram.items ≡ page_size * length s.protection.items
 ram_saved r s sound saved =

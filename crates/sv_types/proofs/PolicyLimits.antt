@@ -13,6 +13,9 @@ use Rattle.sv_types.specs.Limits.{plain_format, most_entries, most_modules}
 pub few_harts : (rules : Rules) → IsTrue (rules_within rules) → rules.harts ≤ 4
 few_harts rules within = grind (arith, nat_tests)
 
+pub some_hart : (rules : Rules) → IsTrue (rules_within rules) → 1 ≤ rules.harts
+some_hart rules within = grind (arith, nat_tests)
+
 pub few_pages : (rules : Rules) → IsTrue (rules_within rules) → rules.ram_pages ≤ most_ram_pages
 few_pages rules within = grind (arith, nat_tests)
 

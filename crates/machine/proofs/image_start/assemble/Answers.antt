@@ -4,8 +4,8 @@ use Rattle.standing_laws.specs.Starts.{machine_at_boot, image_machine}
 use Rattle.elf64_load.specs.Images.{segments_of}
 use Rattle.disk_port.specs.Ports.{port_disk}
 use Rattle.sv_types.specs.Policies.{rules_of}
-use Rattle.sv_types.proofs.PolicyLimits.{bound_along, bound_few, few_harts, few_pages}
-use Rattle.machine.proofs.ImageStarting.{image_made, some_hart}
+use Rattle.sv_types.proofs.PolicyLimits.{bound_along, bound_few, few_harts, few_pages, some_hart}
+use Rattle.machine.proofs.ImageStarting.{image_made}
 use Rattle.machine.proofs.image_start.assemble.Goals as goal
 
 pub returns-clause-made : goal.returns-clause-made
