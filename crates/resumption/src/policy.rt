@@ -1,8 +1,8 @@
 // Whether a snapshot is of a machine under a policy: its harts and pages, the entries that harts are in, and its modules.
 
-ghost use Rattle.std.specs.Prelude.{◌≡◌, ◌+◌, ◌*◌, ◌&&◌, is_some, nat_le};
+ghost use Rattle.std.specs.Prelude.{◌≡◌, ◌*◌, is_some};
 ghost use Rattle.std.specs.List.{list_all};
-ghost use Rattle.processor.specs.Bytes.{page_size, ram_base, ram_place};
+ghost use Rattle.processor.specs.Bytes.{page_size, is_in_ram};
 ghost use Rattle.sv_types.specs.Policies.{rules_of};
 ghost use Rattle.reference.specs.States.{binding_at};
 ghost use Rattle.snapshot_form.specs.Snapshots.{contents};
@@ -65,7 +65,7 @@ fn all_fit(policy: &Policy, modules: &[SavedModule]) -> bool
 
 // So many pages from an address on lie in RAM.
 fn are_in_ram(gpa: u64, pages: u32, ram_pages: u32) -> bool
-    ensures { result ≡ (nat_le ram_base gpa && nat_le (ram_place gpa + page_size * pages) (page_size * ram_pages)) }
+    ensures { result ≡ is_in_ram gpa (page_size * pages) (page_size * ram_pages) }
 {
     is_in_ram(
         gpa,
