@@ -5,6 +5,7 @@ ghost use Rattle.std.specs.Option.{ok_or};
 ghost use Rattle.processor.specs.SecondStage.{walk_guest, WalksApart};
 ghost use Rattle.processor.specs.CachedWalks.{line_permits, no_lines, LineAgrees, CacheAgrees, FilledUnder};
 ghost use Rattle.processor.specs.Bytes.{page_size};
+ghost use Rattle.processor.specs.Translation.{table_levels};
 ghost use Rattle.gstage_cache.specs.Lookup.{line_for, is_held, place_by, place_held, line_of_mapping, IsKept};
 ghost use Rattle.gstage_cache.specs.Fills.{nothing_filled, filled_further};
 ghost use Rattle.gstage_cache.specs.CacheWalks.{MayWalk, Led};
@@ -137,7 +138,7 @@ impl Cache {
         requires may { MayWalk mem.now hgatp self.old }
         ensures led { Led mem.now hgatp gpa access self.old self.new result }
         ensures none { is_held (line_for self.old hgatp (gpa / page_size)) ≡ true → steps.new ≡ steps.old }
-        ensures steps { steps.new ≤ steps.old + 3 }
+        ensures steps { steps.new ≤ steps.old + table_levels }
     {
         match self.line(hgatp, gpa / PAGE_BYTES) {
             Some(line) => hit(mem, &line, gpa, access),
@@ -158,7 +159,7 @@ impl Cache {
         requires apart { WalksApart mem.now hgatp }
         requires agrees { CacheAgrees mem.now.tables self.old }
         ensures led { Led mem.now hgatp gpa access self.old self.new result }
-        ensures steps { steps.new ≤ steps.old + 3 }
+        ensures steps { steps.new ≤ steps.old + table_levels }
     {
         let Some(mapping) = find_mapping(mem, hgatp, gpa, steps) else {
             return Err(GuestFault { gpa });

@@ -6,7 +6,7 @@
 use Rattle.std.specs.Prelude.{◌≡◌, ℕ, ◌+◌, ◌-◌, ◌*◌, ◌/◌, ◌^◌, ◌<◌, ◌≤◌, ◌==◌, Bool, if◌then◌else◌, nat_lt, List, length, slice_index_or}
 use Rattle.processor.specs.Bytes.{word, page_size}
 use Rattle.processor.specs.Regions.{most_ram_pages}
-use Rattle.processor.specs.Translation.{is_leaf, entry_size}
+use Rattle.processor.specs.Translation.{is_leaf, entry_size, page_number_place, valid_place, readable_place, writable_place, executable_place, user_place, accessed_place, dirty_place}
 use Rattle.sv_types.specs.Views.{Sight, OfKernel, OfUser, OfEntry, view_permits}
 use Rattle.processor.specs.declared.access.Access.TheVariants.{Fetch, Store}
 use Rattle.sv_types.specs.Limits.{most_entries}
@@ -93,31 +93,31 @@ most_block_pages = block_pages * ((most_table_pages + last_in_block) / block_pag
 
 -- ---- entries
 
--- what the number of a page counts in an entry: it stands from bit 10 on
+-- what the number of a page counts in an entry
 abbrev pub page_number_unit : ℕ
-page_number_unit = 2 ^ 10
+page_number_unit = 2 ^ page_number_place
 
 -- the flags of an entry, by their letters in the Privileged manual, "Sv39: Page-Based 39-bit Virtual-Memory System"
 abbrev pub flag_v : ℕ
-flag_v = 2 ^ 0
+flag_v = 2 ^ valid_place
 
 abbrev pub flag_r : ℕ
-flag_r = 2 ^ 1
+flag_r = 2 ^ readable_place
 
 abbrev pub flag_w : ℕ
-flag_w = 2 ^ 2
+flag_w = 2 ^ writable_place
 
 abbrev pub flag_x : ℕ
-flag_x = 2 ^ 3
+flag_x = 2 ^ executable_place
 
 abbrev pub flag_u : ℕ
-flag_u = 2 ^ 4
+flag_u = 2 ^ user_place
 
 abbrev pub flag_a : ℕ
-flag_a = 2 ^ 6
+flag_a = 2 ^ accessed_place
 
 abbrev pub flag_d : ℕ
-flag_d = 2 ^ 7
+flag_d = 2 ^ dirty_place
 
 -- an entry that names the next table
 abbrev pub pointer : ℕ → ℕ

@@ -7,7 +7,7 @@ ghost use Rattle.gstage_tables.specs.Layout.{leaf_tables, leaf_table, pointer, f
 ghost use Rattle.processor.specs.Roots.{root_page_bits};
 
 use bitflags::Flags;
-use processor::{PteBits, RAM_BASE, TABLE_ENTRIES};
+use processor::{PAGE_NUMBER_PLACE, PteBits, RAM_BASE, TABLE_ENTRIES};
 
 /// The words of a table.
 pub(crate) const TABLE_WORDS: u64 = TABLE_ENTRIES;
@@ -24,7 +24,7 @@ pub(crate) const ROOT_WORDS: u64 = ROOT_PAGES * TABLE_WORDS;
 const UPPER_PAGES: u64 = ROOT_PAGES + 1;
 
 /// What the number of a page counts in an entry.
-const PAGE_NUMBER_UNIT: u64 = 1 << 10;
+const PAGE_NUMBER_UNIT: u64 = 1 << PAGE_NUMBER_PLACE;
 
 /// The gigabyte in which RAM lies.
 const RAM_GIGABYTE: u64 = RAM_BASE >> 30;

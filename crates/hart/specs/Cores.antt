@@ -1,4 +1,5 @@
 -- What a hart keeps and its hypervisor registers, as the hardware's attempt sees them. This project's own.
+use Rattle.std.specs.Prelude.{ℕ, ◌^◌}
 use Rattle.processor.specs.Regions.{Region}
 use Rattle.processor.specs.Hardware.{Core, Step, Attempted}
 use Rattle.processor.specs.declared.outcome.Outcome.{Outcome}
@@ -21,3 +22,7 @@ step_of core regs outcome = record { core = core_of core regs; outcome = outcome
 -- the same with the region's bytes
 abbrev pub attempted_of : Region → Kept → HRegs → Outcome → Attempted
 attempted_of r core regs outcome = record { region = r; core = core_of core regs; outcome = outcome }
+
+-- the places for words that are kept with their instructions, one for each place of an instruction modulo 256 KiB
+abbrev pub word_places : ℕ
+word_places = 2 ^ 16

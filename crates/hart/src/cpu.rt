@@ -1,6 +1,7 @@
 // The count of the attempts that were made.
 
-ghost use Rattle.std.specs.Prelude.{◌≡◌, ◌+◌, ◌-◌, ◌<◌, ◌%◌, ◌^◌, IfOk};
+ghost use Rattle.std.specs.Prelude.{◌≡◌, ◌+◌, ◌%◌, IfOk};
+ghost use Rattle.processor.specs.Counters.{CanCount};
 ghost use Rattle.processor.specs.SecondStage.{WalksApart};
 ghost use Rattle.processor.specs.CachedWalks.{CacheAgrees, FilledUnder};
 ghost use Rattle.processor.specs.HardwareAttempt.{attempt, OnlyWrites};
@@ -64,7 +65,7 @@ impl Cpu {
         mem: &mut HostMem,
         wires: &W,
     ) -> Outcome
-        requires count { self.old < 2 ^ 64 - 1 }
+        requires count { CanCount self.old }
         requires aligned { core.old.pc % instruction_size ≡ 0 }
         requires mode { KeepsMode regs.now }
         requires second { IsSv39x4 regs.now.hgatp }

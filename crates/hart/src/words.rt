@@ -1,9 +1,10 @@
 // The instructions of words that were decoded.
 
-ghost use Rattle.std.specs.Prelude.{◌≡◌, ◌^◌, IfOk, IsTrue, length};
+ghost use Rattle.std.specs.Prelude.{◌≡◌, IfOk, IsTrue, length};
 ghost use Rattle.std.specs.Option.{ForSome};
 ghost use Rattle.processor.specs.Encoding.{fits};
 ghost use Rattle.processor.specs.Instructions.{instruction_of};
+ghost use Rattle.hart.specs.Cores.{word_places};
 
 use processor::{INSTRUCTION_BYTES, Instr};
 use rv64_decode::decode;
@@ -35,7 +36,7 @@ impl Decoded {
 #[derive(Drop)]
 pub struct Words {
     places: Vec<Decoded>,
-    ghost size: { length places.items ≡ 2 ^ 16 },
+    ghost size: { length places.items ≡ word_places },
 }
 
 impl Words {

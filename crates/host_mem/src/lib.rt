@@ -4,13 +4,14 @@
 ghost use Rattle.std.specs.Prelude.{◌≡◌, ◌+◌, ◌-◌, ◌*◌, ◌<◌, ◌≤◌, ◌%◌, ◌^◌, length, Some, None, IfOk, IfSome, if◌then◌else◌, replicate};
 ghost use Rattle.processor.specs.Bytes.{page_size, page_bytes, overwrite, in_ram, ram_base, ram_place};
 ghost use Rattle.processor.specs.Regions.{Region, IsRegion, IsHostPlace, most_ram_pages, host_bytes, host_word, write_host};
+ghost use Rattle.processor.specs.Translation.{entry_size};
 
 mod steps;
 mod words;
 
 pub use crate::steps::Steps;
 pub use crate::words::{put_word, word_at};
-use processor::{PAGE_BYTES, PAGE_SIZE, is_in_ram, ram_place};
+use processor::{ENTRY_WIDTH, PAGE_BYTES, PAGE_SIZE, is_in_ram, ram_place};
 use raw_bytes::RawBytes;
 use std::alloc::{AllocError, Global};
 use std::marker::Model;
@@ -100,14 +101,14 @@ impl HostMem {
         word_at(self.bytes.as_slice(), at, width)
     }
 
-    /// The word of 8 bytes at a host place, a multiple of 8, as an entry of a table is read. Counts one step.
+    /// The entry of a table at a host place, a multiple of its 8 bytes. Counts one step.
     pub fn word<L: Ledger>(&self, at: usize, steps: &mut Steps<L>) -> u64
-        requires { IsHostPlace self.now at 8 }
-        ensures value { result ≡ host_word self.now at 8 }
+        requires { IsHostPlace self.now at entry_size }
+        ensures value { result ≡ host_word self.now at entry_size }
         ensures step { steps.new ≡ steps.old + 1 }
     {
         steps.tick();
-        self.read(at, 8)
+        self.read(at, ENTRY_WIDTH)
     }
 
     /// Writes the `width` lowest bytes of `value` at a host place, the lowest first. The width is 1, 2, 4 or 8, and the
@@ -119,14 +120,14 @@ impl HostMem {
         put_word(self.bytes.as_mut_slice(), at, width, value);
     }
 
-    /// Writes a word of 8 bytes at a host place, a multiple of 8, as an entry of a table is written. Counts one step.
+    /// Writes an entry of a table at a host place, a multiple of its 8 bytes. Counts one step.
     pub fn set_word<L: Ledger>(&mut self, at: usize, value: u64, steps: &mut Steps<L>)
-        requires { IsHostPlace self.old at 8 }
-        ensures memory { self.new ≡ write_host self.old at 8 value }
+        requires { IsHostPlace self.old at entry_size }
+        ensures memory { self.new ≡ write_host self.old at entry_size value }
         ensures step { steps.new ≡ steps.old + 1 }
     {
         steps.tick();
-        self.write(at, 8, value);
+        self.write(at, ENTRY_WIDTH, value);
     }
 
     /// The 4,096 bytes of page `n` of guest RAM, where pages are counted from 0.

@@ -1,6 +1,7 @@
 // What the machine records.
 
-ghost use Rattle.std.specs.Prelude.{◌+◌, ◌≡◌, ◌<◌, ◌≤◌, ◌-◌, ◌^◌, [], length, IfOk};
+ghost use Rattle.std.specs.Prelude.{◌+◌, ◌≡◌, ◌<◌, ◌≤◌, ◌^◌, [], length, IfOk};
+ghost use Rattle.processor.specs.Counters.{CanCount};
 ghost use Rattle.sv_types.specs.Limits.{most_printed, most_notes};
 ghost use Rattle.sv_types.specs.Boot.{no_counts};
 ghost use Rattle.sv_types.specs.declared.event.Note.TheVariants.{Demote, Denied, Load, Unload, Retire};
@@ -138,7 +139,7 @@ impl Journal {
 
     /// A hart has its turn.
     pub fn count_turn(&mut self)
-        requires { self.old.counts.turns < 2 ^ 64 - 1 }
+        requires { CanCount self.old.counts.turns }
         ensures { self.new ≡ with_count count_turn self.old }
     {
         self.counts.turns += 1;
@@ -146,7 +147,7 @@ impl Journal {
 
     /// The disk does the next part of its work.
     pub fn count_beat(&mut self)
-        requires { self.old.counts.beats < 2 ^ 64 - 1 }
+        requires { CanCount self.old.counts.beats }
         ensures { self.new ≡ with_count count_beat self.old }
     {
         self.counts.beats += 1;
@@ -154,7 +155,7 @@ impl Journal {
 
     /// A key is typed.
     pub fn count_key(&mut self)
-        requires { self.old.counts.keys < 2 ^ 64 - 1 }
+        requires { CanCount self.old.counts.keys }
         ensures { self.new ≡ with_count count_key self.old }
     {
         self.counts.keys += 1;
@@ -162,7 +163,7 @@ impl Journal {
 
     /// Time goes on by one.
     pub fn count_tick(&mut self)
-        requires { self.old.counts.ticks < 2 ^ 64 - 1 }
+        requires { CanCount self.old.counts.ticks }
         ensures { self.new ≡ with_count count_tick self.old }
     {
         self.counts.ticks += 1;
@@ -170,7 +171,7 @@ impl Journal {
 
     /// An instruction that was carried out.
     pub fn count_retired(&mut self)
-        requires { self.old.counts.retired < 2 ^ 64 - 1 }
+        requires { CanCount self.old.counts.retired }
         ensures { self.new ≡ with_count count_retired self.old }
     {
         self.counts.retired += 1;
@@ -189,8 +190,8 @@ impl Journal {
 
     /// A trap of the guest; one from user mode enters the kernel.
     pub fn count_trap(&mut self, from: Mode)
-        requires traps { self.old.counts.traps < 2 ^ 64 - 1 }
-        requires enters { self.old.counts.enters < 2 ^ 64 - 1 }
+        requires traps { CanCount self.old.counts.traps }
+        requires enters { CanCount self.old.counts.enters }
         ensures { self.new ≡ with_count (count_trap from) self.old }
     {
         self.counts.traps += 1;
@@ -201,8 +202,8 @@ impl Journal {
 
     /// A return from a trap; one to user mode leaves the kernel.
     pub fn count_return(&mut self, to: Mode)
-        requires retired { self.old.counts.retired < 2 ^ 64 - 1 }
-        requires leaves { self.old.counts.leaves < 2 ^ 64 - 1 }
+        requires retired { CanCount self.old.counts.retired }
+        requires leaves { CanCount self.old.counts.leaves }
         ensures { self.new ≡ with_count (count_return to) self.old }
     {
         self.counts.retired += 1;
@@ -213,7 +214,7 @@ impl Journal {
 
     /// A byte of input that found no room.
     pub fn count_dropped(&mut self)
-        requires { self.old.counts.dropped < 2 ^ 64 - 1 }
+        requires { CanCount self.old.counts.dropped }
         ensures { self.new ≡ with_count count_dropped self.old }
     {
         self.counts.dropped += 1;
@@ -221,8 +222,8 @@ impl Journal {
 
     /// A hart left kernel mode, since the instruction at its pc isn't approved.
     pub fn demote(&mut self, hart: u8, pc: u64, gpa: u64)
-        requires demotes { self.old.counts.demotes < 2 ^ 64 - 1 }
-        requires notes { self.old.counts.notes < 2 ^ 64 - 1 }
+        requires demotes { CanCount self.old.counts.demotes }
+        requires notes { CanCount self.old.counts.notes }
         ensures { self.new ≡ with_note (Demote hart self.old.counts.turns pc gpa) (with_count count_demote self.old) }
     {
         let turn = self.counts.turns;
@@ -237,8 +238,8 @@ impl Journal {
 
     /// The block device was kept from writing into a protected page.
     pub fn deny(&mut self, gpa: u64)
-        requires denied { self.old.counts.denied < 2 ^ 64 - 1 }
-        requires notes { self.old.counts.notes < 2 ^ 64 - 1 }
+        requires denied { CanCount self.old.counts.denied }
+        requires notes { CanCount self.old.counts.notes }
         ensures { self.new ≡ with_note (Denied gpa) (with_count count_denied self.old) }
     {
         self.counts.denied += 1;
@@ -279,8 +280,8 @@ impl Journal {
 
     // The answer to a call that loads a module.
     fn answer_load(&mut self, hart: u8, id: u64, code: SbiCode)
-        requires refused { self.old.counts.refused < 2 ^ 64 - 1 }
-        requires notes { self.old.counts.notes < 2 ^ 64 - 1 }
+        requires refused { CanCount self.old.counts.refused }
+        requires notes { CanCount self.old.counts.notes }
         ensures { self.new ≡ with_note (Load hart self.old.counts.turns id code) (with_count (count_answer code) self.old) }
     {
         let turn = self.counts.turns;
@@ -295,8 +296,8 @@ impl Journal {
 
     // The answer to a call that unloads a module.
     fn answer_unload(&mut self, hart: u8, id: u64, code: SbiCode)
-        requires refused { self.old.counts.refused < 2 ^ 64 - 1 }
-        requires notes { self.old.counts.notes < 2 ^ 64 - 1 }
+        requires refused { CanCount self.old.counts.refused }
+        requires notes { CanCount self.old.counts.notes }
         ensures { self.new ≡ with_note (Unload hart self.old.counts.turns id code) (with_count (count_answer code) self.old) }
     {
         let turn = self.counts.turns;
@@ -311,8 +312,8 @@ impl Journal {
 
     // The answer to a call that frees the kernel's init text.
     fn answer_retire(&mut self, hart: u8, code: SbiCode)
-        requires refused { self.old.counts.refused < 2 ^ 64 - 1 }
-        requires notes { self.old.counts.notes < 2 ^ 64 - 1 }
+        requires refused { CanCount self.old.counts.refused }
+        requires notes { CanCount self.old.counts.notes }
         ensures { self.new ≡ with_note (Retire hart self.old.counts.turns code) (with_count (count_answer code) self.old) }
     {
         let turn = self.counts.turns;
@@ -340,7 +341,7 @@ impl Journal {
 
     // A code other than success is a refusal.
     fn count_answer(&mut self, code: SbiCode)
-        requires { self.old.counts.refused < 2 ^ 64 - 1 }
+        requires { CanCount self.old.counts.refused }
         ensures { self.new ≡ with_count (count_answer code) self.old }
     {
         match code {
@@ -351,7 +352,7 @@ impl Journal {
 
     #[tactic(auto, using(crate::proofs::Notes::notes_full, crate::proofs::Notes::notes_room))]
     fn note(&mut self, note: Note)
-        requires { self.old.counts.notes < 2 ^ 64 - 1 }
+        requires { CanCount self.old.counts.notes }
         ensures { self.new ≡ with_note note self.old }
     {
         if self.notes.len() < MOST_NOTES {

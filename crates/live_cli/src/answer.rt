@@ -17,7 +17,8 @@ ghost use Rattle.live_cli.specs.LiveWords.{live_judged, live_plan};
 ghost use Rattle.live_cli.specs.LiveReady.{IsLiveFresh, out_of, MaySaveUnder};
 ghost use Rattle.live_cli.specs.LiveAnswers.{live_outside, SavesScript, after_reading, is_refusal, Reports, RunsLive, PerformsLive, LiveHeadline};
 ghost use Rattle.live_cli.specs.Replays.{LiveLine, live_line, HasEnded, Replays};
-ghost use Rattle.outside.specs.Outside.{MayWrite, CanCount};
+ghost use Rattle.outside.specs.Outside.{MayWrite};
+ghost use Rattle.processor.specs.Counters.{CanCount};
 
 use crate::ready::{LiveReady, prepare_live};
 use live_drive::{LiveEnd, LiveRun};

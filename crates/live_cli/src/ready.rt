@@ -3,7 +3,7 @@ ghost use Rattle.std.specs.Prelude.{◌≡◌, ◌<◌, ◌-◌, map, string_byt
 ghost use Rattle.secvisor_cli.specs.Reading.{MayFollow};
 ghost use Rattle.live_cli.specs.LiveWords.{live_judged, live_plan};
 ghost use Rattle.live_cli.specs.LiveReady.{PreparesLive, out_of};
-ghost use Rattle.outside.specs.Outside.{CanCount};
+ghost use Rattle.processor.specs.Counters.{CanCount};
 
 use crate::words::read_live;
 use live_drive::{KeySource, LiveRun};

@@ -9,7 +9,8 @@ ghost use Rattle.live_keys.specs.Placed.{keys_among, others_among};
 ghost use Rattle.live_drive.specs.LiveRuns.{harts_of, events_made, IsUnderWay, MakesFew};
 ghost use Rattle.live_drive.specs.Drives.{WentOn, BrokeOff, Drives, MayDrive, StaysUnderWay};
 ghost use Rattle.live_drive.specs.Inputs.{HasKeys};
-ghost use Rattle.outside.specs.Outside.{MayWrite, CanCount};
+ghost use Rattle.outside.specs.Outside.{MayWrite};
+ghost use Rattle.processor.specs.Counters.{CanCount};
 
 use crate::live_run::LiveRun;
 use live_keys::{Fed, Feeder, KeyLine, Keys, Pace, law_journal_events};

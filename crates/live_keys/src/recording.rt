@@ -1,5 +1,6 @@
 // How a journal grows, and what its events are. A law takes no argument and does nothing; its clauses are the theorem.
-ghost use Rattle.std.specs.Prelude.{◌≡◌, ◌<◌, ◌+◌, ◌++◌, ◌-◌, ◌^◌, ◌∷◌, ℕ, List, [], true, vec_len, IfOk};
+ghost use Rattle.std.specs.Prelude.{◌≡◌, ◌<◌, ◌+◌, ◌++◌, ◌∷◌, ℕ, List, [], true, vec_len, IfOk};
+ghost use Rattle.processor.specs.Counters.{CanCount};
 ghost use Rattle.sv_types.specs.Schedule.{Schedule, auto_event, first_events};
 ghost use Rattle.sv_types.specs.declared.event.Event.TheVariants.{Key};
 ghost use Rattle.live_keys.specs.declared.live_key.LiveKey.{LiveKey as Placed};
@@ -44,7 +45,7 @@ impl Journal {
     /// The next event of `auto(0, harts)` was made.
     #[tactic(auto, using(crate::proofs::Events::placed_auto, crate::proofs::Events::events_auto))]
     pub fn add_auto(&mut self)
-        requires count { self.old.autos < 2 ^ 64 - 1 }
+        requires count { CanCount self.old.autos }
         ensures events { (harts : ℕ) → events_of harts self.new ≡ events_of harts self.old ++ auto_event harts 0 self.old.autos ∷ [] }
         ensures bytes { key_bytes self.new ≡ key_bytes self.old }
         ensures autos { self.new.autos ≡ self.old.autos + 1 }

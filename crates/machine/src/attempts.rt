@@ -1,6 +1,7 @@
 // One attempt of a hart, and what its write takes from the others.
 
-ghost use Rattle.std.specs.Prelude.{◌≡◌, ◌+◌, ◌-◌, ◌<◌, ◌%◌, ◌^◌, length};
+ghost use Rattle.std.specs.Prelude.{◌≡◌, ◌+◌, ◌%◌, length};
+ghost use Rattle.processor.specs.Counters.{CanCount};
 ghost use Rattle.processor.specs.HardwareAttempt.{attempt};
 ghost use Rattle.machine_model.specs.Machine.{with_core, update, all_forget};
 ghost use Rattle.hart_answers.specs.Hosts.{host_at, hosts_of};
@@ -22,7 +23,7 @@ fn attempt_in_seat<W: Wires>(
     mem: &mut HostMem,
     wires: &W,
 ) -> Outcome
-    requires count { cpu.old < 2 ^ 64 - 1 }
+    requires count { CanCount cpu.old }
     requires ready { IsReady mem.old (host_at seat.old) (W.seen wires.now) }
     requires usable { IsUsable mem.old.tables own.old }
     ensures counted { cpu.new ≡ cpu.old + 1 }
@@ -50,7 +51,7 @@ pub(crate) fn attempt<W: Wires>(
     wires: &W,
 ) -> Outcome
     requires may { MayTakeTurns mem.old.tables seats.old caches.old hart }
-    requires count { cpu.old < 2 ^ 64 - 1 }
+    requires count { CanCount cpu.old }
     requires ready { IsReady mem.old (hart_in (hosts_of seats.old) hart) (W.seen wires.now) }
     ensures counted { cpu.new ≡ cpu.old + 1 }
     ensures harts { hosts_of seats.new ≡ all_forget result (update (hosts_of seats.old) hart (with_core (attempt mem.old (hart_in (hosts_of seats.old) hart).core (W.seen wires.now)).core)) }

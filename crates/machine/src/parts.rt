@@ -1,6 +1,7 @@
 // The parts of the machine, and what an event does to them.
 
 ghost use Rattle.std.specs.Prelude.{◌≡◌, ℕ, ◌+◌, ◌-◌, ◌<◌, ◌%◌, ◌^◌, true, length, slice_get};
+ghost use Rattle.processor.specs.Counters.{CanCount, CanCountTwo};
 ghost use Rattle.sv_types.specs.Limits.{most_printed};
 ghost use Rattle.reference.specs.Devices.{lines_at};
 ghost use Rattle.machine_model.specs.Machine.{after_attempt};
@@ -75,7 +76,7 @@ impl Parts {
     #[tactic(auto, using(hart_answers::proofs::Hosts::hosts_length))]
     fn attempt(&mut self, hart: u8) -> Outcome
         requires there { hart < length self.old.harts }
-        requires count { self.old.attempts < 2 ^ 64 - 1 }
+        requires count { CanCount self.old.attempts }
         requires ready { IsReady self.old.region (hart_in self.old.harts hart) (lines_at self.old.devices hart) }
         ensures machine { self.new ≡ after_attempt self.old hart (attempt_of self.old hart (hart_in self.old.harts hart)) }
         ensures outcome { result ≡ (attempt_of self.old hart (hart_in self.old.harts hart)).outcome }
@@ -114,7 +115,7 @@ impl Parts {
     // It leaves its entry, and makes the second attempt of its turn.
     fn attempt_again(&mut self, hart: u8)
         requires there { hart < length self.old.harts }
-        requires count { self.old.attempts < 2 ^ 64 - 1 }
+        requires count { CanCount self.old.attempts }
         requires may { MayServe self.old }
         requires ready { IsReadyAt (left_entry self.old hart) hart }
         ensures { AttemptServed (left_entry self.old hart) hart (hart_in (left_entry self.old hart).harts hart) self.new }
@@ -127,7 +128,7 @@ impl Parts {
     // The answer to the exit of a first attempt, or a second attempt.
     fn serve_first_exit(&mut self, hart: u8, exit: Exit)
         requires hart { MayTrap self.old.harts hart }
-        requires count { self.old.attempts < 2 ^ 64 - 1 }
+        requires count { CanCount self.old.attempts }
         requires may { MayServe self.old }
         requires again { is_again (asked_of self.old hart exit) ≡ true → IsReadyAt (left_entry self.old hart) hart }
         ensures { ExitServed (is_again (asked_of self.old hart exit)) self.old hart exit self.new }
@@ -145,7 +146,7 @@ impl Parts {
     #[tactic(auto)]
     fn conclude(&mut self, hart: u8, outcome: Outcome)
         requires hart { MayTrap self.old.harts hart }
-        requires count { self.old.attempts < 2 ^ 64 - 1 }
+        requires count { CanCount self.old.attempts }
         requires may { MayServe self.old }
         requires again { MayAttemptAgain outcome self.old hart }
         ensures { Concluded outcome self.old hart self.new }
@@ -186,7 +187,7 @@ impl Parts {
     fn serve_attempts(&mut self, hart: u8)
         requires there { hart < length self.old.harts }
         requires attempts { Attempts self.old hart }
-        requires count { self.old.attempts < 2 ^ 64 - 2 }
+        requires count { CanCountTwo self.old.attempts }
         requires may { MayServe self.old }
         requires ready { IsReadyTwice self.old hart }
         ensures { TurnServed self.old hart (slice_get self.old.harts hart) self.new }
@@ -199,7 +200,7 @@ impl Parts {
     #[tactic(auto)]
     #[inline(always)]
     fn serve_turn(&mut self, hart: u8)
-        requires count { self.old.attempts < 2 ^ 64 - 2 }
+        requires count { CanCountTwo self.old.attempts }
         requires may { MayServe self.old }
         requires ready { MayTurn self.old hart }
         ensures { TurnServed self.old hart (slice_get self.old.harts hart) self.new }
@@ -221,8 +222,8 @@ impl Parts {
     #[tactic(auto)]
     #[inline(always)]
     pub(crate) fn turn(&mut self, hart: u8)
-        requires turns { self.old.journal.counts.turns < 2 ^ 64 - 1 }
-        requires count { self.old.attempts < 2 ^ 64 - 2 }
+        requires turns { CanCount self.old.journal.counts.turns }
+        requires count { CanCountTwo self.old.attempts }
         requires may { MayServe self.old }
         requires ready { MayTurn self.old hart }
         ensures { IsTurn self.old hart self.new }
@@ -234,7 +235,7 @@ impl Parts {
     /// One beat of the disk's device.
     #[tactic(auto, unfolding(machine_model::specs::HostEvents::event_served, machine_model::specs::HostEvents::beat_served, machine_model::specs::HostEvents::after_host_move))]
     pub(crate) fn beat(&mut self)
-        requires beats { self.old.journal.counts.beats < 2 ^ 64 - 1 }
+        requires beats { CanCount self.old.journal.counts.beats }
         requires counts { MayCount self.old.journal.counts }
         ensures { self.new ≡ event_served self.old Beat }
     {
@@ -252,7 +253,7 @@ impl Parts {
     /// A byte of input, which is dropped where there is no room.
     #[tactic(auto, unfolding(machine_model::specs::HostEvents::event_served, machine_model::specs::HostEvents::key_served))]
     pub(crate) fn key(&mut self, byte: u8)
-        requires keys { self.old.journal.counts.keys < 2 ^ 64 - 1 }
+        requires keys { CanCount self.old.journal.counts.keys }
         requires counts { MayCount self.old.journal.counts }
         ensures { self.new ≡ event_served self.old (Key byte) }
     {
@@ -265,7 +266,7 @@ impl Parts {
     /// Time passes.
     #[tactic(auto, unfolding(machine_model::specs::HostEvents::event_served, machine_model::specs::HostEvents::tick_served))]
     pub(crate) fn tick(&mut self, n: u64)
-        requires ticks { self.old.journal.counts.ticks < 2 ^ 64 - 1 }
+        requires ticks { CanCount self.old.journal.counts.ticks }
         ensures { self.new ≡ event_served self.old (Tick n) }
     {
         self.journal.count_tick();
@@ -278,7 +279,7 @@ impl Parts {
     pub(crate) fn step(&mut self, event: Event)
         requires room { length self.old.journal.printed < most_printed }
         requires counts { CountsAtMost (most_counts - 1) self.old.journal.counts }
-        requires attempts { self.old.attempts < 2 ^ 64 - 2 }
+        requires attempts { CanCountTwo self.old.attempts }
         requires guarded { IsGuarded self.old }
         requires ready { self.old.journal.verdict ≡ Running → (h : ℕ) → MayTurn self.old h }
         ensures step { IsStep self.old event self.new }

@@ -1,6 +1,7 @@
 // Turns of one hart in a row, each of which carries out an instruction.
 
 ghost use Rattle.std.specs.Prelude.{◌≡◌, ◌%◌, ◌+◌, ◌-◌, ◌<◌, ◌≤◌, ◌^◌, true, false, length, None};
+ghost use Rattle.processor.specs.Counters.{CanCount};
 ghost use Rattle.processor.specs.HypervisorRegisters.{pending};
 ghost use Rattle.processor.specs.declared.lines.Lines.{Lines};
 ghost use Rattle.processor.specs.declared.mode.Mode.TheVariants.{Kernel};
@@ -189,8 +190,8 @@ impl Parts {
         requires hart { MayTrap self.old.harts hart }
         requires mode { left ≡ Returns → (hart_in self.old.harts hart).core.hregs.mode ≡ Kernel }
         requires counts { MayCount self.old.journal.counts }
-        requires turns { self.old.journal.counts.turns < 2 ^ 64 - 1 }
-        requires attempts { self.old.attempts < 2 ^ 64 - 1 }
+        requires turns { CanCount self.old.journal.counts.turns }
+        requires attempts { CanCount self.old.attempts }
         ensures { AnswersLeaving left self.old hart self.new }
     {
         match left {
@@ -210,8 +211,8 @@ impl Parts {
     // A turn and its attempt, counted.
     #[inline(always)]
     fn count_leaving(&mut self)
-        requires turns { self.old.journal.counts.turns < 2 ^ 64 - 1 }
-        requires attempts { self.old.attempts < 2 ^ 64 - 1 }
+        requires turns { CanCount self.old.journal.counts.turns }
+        requires attempts { CanCount self.old.attempts }
         ensures { self.new ≡ counted_leaving self.old }
     {
         self.journal.count_turn();

@@ -1,8 +1,9 @@
 -- Files in memory: names with their bytes, of which the first of a name counts.
-use Rattle.std.specs.Prelude.{◌+◌, ◌-◌, ◌^◌, ◌<◌, ◌≤◌, ◌==◌, ◌&&◌, ◌||◌, not, nat_lt, nat_le, ℕ, min, length, vec_capacity, All, List, Bool, true, false, find, map, option_map, Option, Some, None, Vec}
+use Rattle.std.specs.Prelude.{◌<◌, ◌≤◌, ◌==◌, ◌&&◌, ◌||◌, not, nat_lt, nat_le, ℕ, length, vec_capacity, All, List, Bool, true, false, find, map, option_map, Option, Some, None, Vec}
 use Rattle.std.specs.List.{list_any}
 use Rattle.std.specs.Str.{bytes_eq}
 use Rattle.std.specs.declared.alloc.Global.{Global}
+use Rattle.processor.specs.Counters.{next_count}
 use Rattle.sv_types.specs.Limits.{most_name_bytes}
 use Rattle.outside.specs.declared.FileRefusal.{FileRefusal}
 use Rattle.outside.specs.declared.FileRefusal.TheVariants.{Absent, Failed, TooLong, Memory}
@@ -42,13 +43,9 @@ HaveRoom room spare = All (λ (v : Vec ℕ Global). room ≤ vec_capacity v) spa
 
 -- ---- which calls fail
 
--- the number of the call behind so many calls, where numbers end at the highest
-abbrev pub call_number : ℕ → ℕ
-call_number calls = min (calls + 1) (2 ^ 64 - 1)
-
 -- the call behind so many calls is one of those that are to fail
 abbrev pub is_to_fail : List ℕ → ℕ → Bool
-is_to_fail failing calls = list_any (λ number. number == call_number calls) failing
+is_to_fail failing calls = list_any (λ number. number == next_count calls) failing
 
 -- a text that can be a name has one byte at least, and no more than a name may have
 abbrev pub is_name_text : List ℕ → Bool

@@ -1,13 +1,10 @@
 -- What files and a sink mean to the program: what they hold and took, where they tell it, what may be asked of them, and
 -- how often they failed.
-use Rattle.std.specs.Prelude.{◌^◌, ◌-◌, ◌≡◌, ◌≢◌, ◌<◌, ◌≤◌, ℕ, List, [], ◌∷◌, ◌++◌, length, Bool, IsTrue, Option, Some, None, Result, Ok, Err, Vec}
+use Rattle.std.specs.Prelude.{◌≡◌, ◌≢◌, ◌<◌, ◌≤◌, ℕ, List, [], ◌∷◌, ◌++◌, length, Bool, IsTrue, Option, Some, None, Result, Ok, Err, Vec}
+use Rattle.processor.specs.Counters.{CanCount}
 use Rattle.std.specs.declared.alloc.Global.{Global}
 use Rattle.outside.specs.declared.FileRefusal.{FileRefusal}
 use Rattle.outside.specs.declared.FileRefusal.TheVariants.{Absent, Failed, TooLong, Memory}
-
--- one more can be counted, in 64 bits
-abbrev pub CanCount : ℕ → Type 0
-CanCount n = n < 2 ^ 64 - 1
 
 -- ---- files
 

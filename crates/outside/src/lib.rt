@@ -2,7 +2,8 @@
 #![tactic(auto)]
 
 ghost use Rattle.std.specs.Prelude.{◌≡◌, ◌≢◌, ◌<◌, ◌≤◌, ◌-◌, ℕ, List, [], ◌∷◌, Some, length, take, OnOk, OnErr, IfOk, IsTrue};
-ghost use Rattle.outside.specs.Outside.{FilesState, SinkState, ReadLeaves, ReadTells, after_saving, after_taking, WriteFails, CanCount};
+ghost use Rattle.outside.specs.Outside.{FilesState, SinkState, ReadLeaves, ReadTells, after_saving, after_taking, WriteFails};
+ghost use Rattle.processor.specs.Counters.{CanCount};
 
 mod calls;
 mod memory_files;
@@ -11,6 +12,7 @@ mod real;
 mod trouble;
 mod writing;
 
+pub use calls::{call_number, is_to_fail};
 pub use memory_files::MemFiles;
 pub use memory_sink::MemSink;
 pub use real::{RealFiles, StdSink};

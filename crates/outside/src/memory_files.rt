@@ -2,8 +2,9 @@
 ghost use Rattle.std.specs.Prelude.{◌≡◌, ◌≢◌, ◌<◌, ◌-◌, ℕ, List, Option, ◌+◌, ◌↔◌, IfOk, OnOk, OnErr, IsErrOf, IfErr, AllPairs, IsTrue, ◌≤◌, Some, length, vec_len, vec_capacity, ◌&&◌, not, ◌==◌, false};
 ghost use Rattle.std.specs.Option.{option_copied};
 ghost use Rattle.std.specs.Result.{is_err};
-ghost use Rattle.outside.specs.Outside.{ReadTells, ReadLeaves, after_saving, CanCount};
-ghost use Rattle.outside.specs.Held.{contents, held_in, memory_state, call_number, is_to_fail, is_name_text, save_fails, HaveRoom, IsTooLongOrMemory};
+ghost use Rattle.outside.specs.Outside.{ReadTells, ReadLeaves, after_saving};
+ghost use Rattle.processor.specs.Counters.{CanCount, next_count};
+ghost use Rattle.outside.specs.Held.{contents, held_in, memory_state, is_to_fail, is_name_text, save_fails, HaveRoom, IsTooLongOrMemory};
 
 use crate::calls::{call_number, is_to_fail};
 use crate::{FileRefusal, Files, SaveFailed};
@@ -108,7 +109,7 @@ impl Files for MemFiles {
         ensures leaves { ReadLeaves (memory_state self.old.files.items self.old.read_faults self.old.save_faults) (memory_state self.new.files.items self.new.read_faults self.new.save_faults) name.now limit result }
         // A read fails exactly where its number is listed.
         ensures fails { IsErrOf result FileRefusal.Failed ↔ IsTrue (is_to_fail self.old.failing_reads.items self.old.reads) }
-        ensures counted { self.new.reads ≡ call_number self.old.reads }
+        ensures counted { self.new.reads ≡ next_count self.old.reads }
         ensures faults { self.new.read_faults ≤ self.old.read_faults + 1 }
         ensures failing { (self.new.failing_reads ≡ self.old.failing_reads) × (self.new.failing_saves ≡ self.old.failing_saves) }
         ensures room { (self.new.room ≡ self.old.room) × (self.new.saves ≡ self.old.saves) }
@@ -137,7 +138,7 @@ impl Files for MemFiles {
         // text is no name. Then every name holds what it held.
         ensures fails { is_err result ≡ save_fails self.old.failing_saves.items self.old.saves self.old.room (vec_len self.old.spare) name.now bytes.now }
         ensures kept { OnErr result (self.new.files.items ≡ self.old.files.items) }
-        ensures counted { self.new.saves ≡ call_number self.old.saves }
+        ensures counted { self.new.saves ≡ next_count self.old.saves }
         ensures failing { (self.new.failing_reads ≡ self.old.failing_reads) × (self.new.failing_saves ≡ self.old.failing_saves) }
         // The room is that of all saves together, and each takes the place of a file.
         ensures room { OnOk result (self.new.room + length bytes.now ≡ self.old.room) }

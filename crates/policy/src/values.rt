@@ -9,6 +9,7 @@ ghost use Rattle.policy.specs.Refusals.{judged_map};
 ghost use Rattle.policy.specs.Values as spec;
 
 use policy_limits::PolicyFault;
+use processor::INSTRUCTION_BYTES;
 use sv_types::{Digest, Name};
 use text_numbers::{address_of, digest_of};
 use toml::{Table, Value};
@@ -101,7 +102,7 @@ pub fn entry(value: &Value) -> Result<u64, PolicyFault>
     ensures { result ≡ spec.entry_of (view value.now) }
 {
     let address = address(value)?;
-    if address % 4 != 0 {
+    if address % INSTRUCTION_BYTES != 0 {
         return Err(PolicyFault::BeyondLimit);
     }
     Ok(address)

@@ -7,6 +7,7 @@ ghost use Rattle.sv_types.specs.Policies as limits;
 
 use crate::names::{is_exported, is_module};
 use crate::places::{bound_fits, is_aligned, is_anchor, is_behind, is_place};
+use processor::INSTRUCTION_BYTES;
 use sv_types::{
     BOUND_FORMAT, Export, FIRST_EXPORT_BASE, MOST_ENTRIES, MOST_HARTS, ModulePolicy, PLAIN_FORMAT,
     Policy, Site, Span,
@@ -37,7 +38,7 @@ fn entries_within(entries: &[u64]) -> bool
     ensures { result ≡ limits.entries_within entries.now }
 {
     for entry in entries {
-        if *entry % 4 != 0 {
+        if *entry % INSTRUCTION_BYTES != 0 {
             return false;
         }
     }

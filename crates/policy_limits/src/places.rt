@@ -3,7 +3,7 @@
 ghost use Rattle.std.specs.Prelude.{◌≡◌, ◌≤◌, Some};
 ghost use Rattle.sv_types.specs.Policies as limits;
 
-use processor::{PAGE_BYTES, is_in_ram};
+use processor::{INSTRUCTION_BYTES, PAGE_BYTES, is_in_ram};
 use sv_types::{RelocationKind, Site};
 
 /// The bytes of a field.
@@ -21,7 +21,7 @@ pub fn site_size(kind: RelocationKind) -> u64
 pub fn is_place(pages: u32, place: u64) -> bool
     ensures { result ≡ limits.place_within pages place }
 {
-    place % 4 == 0 && place < PAGE_BYTES * u64::from(pages)
+    place % INSTRUCTION_BYTES == 0 && place < PAGE_BYTES * u64::from(pages)
 }
 
 /// The field holds the low part of an address, whose high part stands at the anchor.

@@ -5,6 +5,7 @@ ghost use Rattle.std.specs.List.{list_all};
 ghost use Rattle.policy_making.specs.WordRanges as spec;
 
 use policy_limits::MOST_ENTRIES;
+use processor::INSTRUCTION_BYTES;
 use std::alloc::{AllocError, Global};
 use text_numbers::address_of;
 
@@ -14,7 +15,7 @@ fn is_entry(part: &str) -> bool
     ensures { result ≡ spec.is_entry part.now }
 {
     match address_of(part) {
-        Some(address) => address % 4 == 0,
+        Some(address) => address % INSTRUCTION_BYTES == 0,
         None => false,
     }
 }

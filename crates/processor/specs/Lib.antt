@@ -9,6 +9,7 @@ pub mod Translation
 pub mod SecondStage
 pub mod CachedWalks
 pub mod Bits
+pub mod Counters
 pub mod IntegerRegisters
 pub mod Registers
 pub mod Traps

@@ -26,7 +26,10 @@ pub record Settings : Type 0 where
 
 -- ---- table entries
 
--- the bytes of an entry, and the entries of a table
+-- the levels of tables, the entries of a table, and the bytes of an entry
+abbrev pub table_levels : ℕ
+table_levels = 3
+
 abbrev pub entry_size : ℕ
 entry_size = 8
 
@@ -35,37 +38,66 @@ table_entries = 512
 
 -- ---- the bits of a table entry
 
+-- the places of its flags: V, R, W, X, U, A and D
+abbrev pub valid_place : ℕ
+valid_place = 0
+
+abbrev pub readable_place : ℕ
+readable_place = 1
+
+abbrev pub writable_place : ℕ
+writable_place = 2
+
+abbrev pub executable_place : ℕ
+executable_place = 3
+
+abbrev pub user_place : ℕ
+user_place = 4
+
+abbrev pub accessed_place : ℕ
+accessed_place = 6
+
+abbrev pub dirty_place : ℕ
+dirty_place = 7
+
+-- the number of a page stands below the reserved bits
+abbrev pub page_number_place : ℕ
+page_number_place = 10
+
+abbrev pub reserved_place : ℕ
+reserved_place = 54
+
 abbrev pub entry_valid : ℕ → Bool
-entry_valid e = bit e 0
+entry_valid e = bit e valid_place
 
 abbrev pub entry_readable : ℕ → Bool
-entry_readable e = bit e 1
+entry_readable e = bit e readable_place
 
 abbrev pub entry_writable : ℕ → Bool
-entry_writable e = bit e 2
+entry_writable e = bit e writable_place
 
 abbrev pub entry_executable : ℕ → Bool
-entry_executable e = bit e 3
+entry_executable e = bit e executable_place
 
 abbrev pub entry_user : ℕ → Bool
-entry_user e = bit e 4
+entry_user e = bit e user_place
 
 abbrev pub entry_accessed : ℕ → Bool
-entry_accessed e = bit e 6
+entry_accessed e = bit e accessed_place
 
 abbrev pub entry_dirty : ℕ → Bool
-entry_dirty e = bit e 7
+entry_dirty e = bit e dirty_place
 
 -- the number of the page that an entry names, and the page
 abbrev pub entry_page_number : ℕ → ℕ
-entry_page_number e = bits e 10 54
+entry_page_number e = bits e page_number_place reserved_place
 
 abbrev pub entry_page : ℕ → ℕ
 entry_page e = page_size * entry_page_number e
 
 -- V is set, W comes with R, and the reserved bits are 0
 unfoldable pub well_formed : ℕ → Bool
-well_formed e = entry_valid e && (not (entry_writable e) || entry_readable e) && e / 2 ^ 54 == 0
+well_formed e = entry_valid e && (not (entry_writable e) || entry_readable e) && e / 2 ^ reserved_place == 0
 
 -- it names the next table
 unfoldable pub is_pointer : ℕ → Bool

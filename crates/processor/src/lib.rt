@@ -36,13 +36,13 @@ pub use interrupt::{EXTERNAL_PLACE, Interrupt, SOFTWARE_PLACE, TIMER_PLACE};
 pub use lines::Lines;
 pub use memory::{
     ENTRY_BYTES, ENTRY_WIDTH, PAGE_BYTES, PAGE_SIZE, RAM_BASE, RESERVED_BYTES, TABLE_ENTRIES,
-    is_in_ram, page_of, ram_place,
+    TABLE_LEVELS, is_in_ram, page_of, ram_place,
 };
 pub use mode::Mode;
 pub use outcome::{Exception, Outcome, Wrote};
 pub use pte_bits::PteBits;
 pub use registers::{A0, A1, A2, A3, A6, A7, REGISTERS, S0, S1, T0, T1, T2, T3, T4, X0};
 pub use translation::{
-    BARE, Fault, GUEST_ADDRESS_BITS, GuestFault, HTVAL_UNIT, Place, ROOT_MODE_PLACE,
-    ROOT_PAGE_BITS, SV39, SV39X4,
+    BARE, Fault, GUEST_ADDRESS_BITS, GuestFault, HTVAL_UNIT, PAGE_NUMBER_PLACE, Place,
+    ROOT_MODE_PLACE, ROOT_PAGE_BITS, SV39, SV39X4,
 };

@@ -21,6 +21,9 @@ pub const ENTRY_BYTES: u64 = ENTRY_WIDTH as u64;
 /// The entries of a translation table.
 pub const TABLE_ENTRIES: u64 = 512;
 
+/// The levels of translation tables.
+pub const TABLE_LEVELS: u32 = 3;
+
 /// The bytes of a reservation, which begins at a multiple of them.
 pub const RESERVED_BYTES: u64 = 8;
 

@@ -6,6 +6,9 @@ pub const ROOT_MODE_PLACE: u32 = 60;
 /// The bits of the number of the root's page there, which is that of a page in an entry too.
 pub const ROOT_PAGE_BITS: u32 = 44;
 
+/// The place of the number of a page in an entry of a table. Privileged manual, "Sv39".
+pub const PAGE_NUMBER_PLACE: u32 = 10;
+
 /// The mode of `satp` and `vsatp` in which an address is left as it is.
 pub const BARE: u64 = 0;
 

@@ -1,6 +1,7 @@
 // Turns in a row.
 
-ghost use Rattle.std.specs.Prelude.{◌≡◌, ◌-◌, ◌<◌, ◌≤◌, ◌^◌, None};
+ghost use Rattle.std.specs.Prelude.{◌≡◌, ◌≤◌, None};
+ghost use Rattle.processor.specs.Counters.{CanCount};
 ghost use Rattle.processor.specs.HardwareAttempt.{attempt};
 ghost use Rattle.processor.specs.HypervisorRegisters.{pending};
 ghost use Rattle.processor.specs.declared.lines.Lines.{Lines};
@@ -85,7 +86,7 @@ impl Row {
     /// All turns that were made.
     #[inline(always)]
     pub fn turns(self) -> u64
-        requires { self.made < 2 ^ 64 - 1 }
+        requires { CanCount self.made }
         ensures { result ≡ turns_of self }
     {
         match self.left {

@@ -1,6 +1,7 @@
 // The words that were met, in their flat form.
 
-ghost use Rattle.std.specs.Prelude.{◌≡◌, ◌^◌, IfOk, length};
+ghost use Rattle.std.specs.Prelude.{◌≡◌, IfOk, length};
+ghost use Rattle.hart.specs.Cores.{word_places};
 
 use crate::flat::Flat;
 use crate::flatten::flatten;
@@ -12,7 +13,7 @@ use std::alloc::{AllocError, Global};
 #[derive(Drop)]
 pub struct Words {
     places: Vec<Flat>,
-    ghost size: { length places.items ≡ 2 ^ 16 },
+    ghost size: { length places.items ≡ word_places },
 }
 
 impl Words {

@@ -2,7 +2,7 @@
 use Rattle.std.specs.Prelude.{◌≡◌, ℕ, zero, suc, ◌+◌, ◌*◌, ◌/◌, ◌%◌, ◌<◌, Bool, List, length, replicate, Option, Some, None, Result, Ok, Err, slice_index_or, slice_set}
 use Rattle.processor.specs.Bytes.{page_size}
 use Rattle.processor.specs.Regions.{Region, host_word}
-use Rattle.processor.specs.Translation.{walk, at_leaf, entry_size}
+use Rattle.processor.specs.Translation.{walk, at_leaf, entry_size, table_levels}
 use Rattle.processor.specs.SecondStage.{walk_guest, entry_through, two_stages}
 use Rattle.processor.specs.declared.access.Access.{Access}
 use Rattle.processor.specs.declared.access.Access.TheVariants.{Fetch, Load, Store}
@@ -48,9 +48,9 @@ ArePlaces tables hgatp entries = Above 0 (IsPlace tables hgatp) entries
 pub record EndsAt (tables : List ℕ) (hgatp root va : ℕ) (entries : Entries) : Type 0 where
   pub below : ℕ
   pub entry : ℕ
-  pub few : below < 3
+  pub few : below < table_levels
   pub ends : (r : Region) → r.tables ≡ tables → AreThere r entries → (grants : ℕ → Bool) (other : ℕ) → other / page_size ≡ va / page_size
-      → walk (entry_through r hgatp) grants (indices_of 3 other) root other ≡ at_leaf grants below entry other
+      → walk (entry_through r hgatp) grants (indices_of table_levels other) root other ≡ at_leaf grants below entry other
 
 -- ---- one line
 

@@ -4,7 +4,7 @@ ghost use Rattle.std.specs.Prelude.{◌≡◌, ◌<◌, true};
 ghost use Rattle.processor.specs.Regions.{IsHostPlace};
 ghost use Rattle.processor.specs.SecondStage.{WalksApart};
 ghost use Rattle.reach.specs.Kept.{with_entry, IsThere, AreThere, ArePlaces};
-ghost use Rattle.processor.specs.Translation.{entry_size};
+ghost use Rattle.processor.specs.Translation.{entry_size, table_levels};
 
 use host_mem::HostMem;
 use processor::ENTRY_WIDTH;
@@ -50,7 +50,7 @@ impl Entries {
 
     // With the entry of the level that has so many below it, which stands for these too.
     pub(crate) fn with_entry(self, below: u32, seen: Entry) -> Entries
-        requires { below < 3 }
+        requires { below < table_levels }
         ensures { result ≡ with_entry below self seen }
     {
         match below {

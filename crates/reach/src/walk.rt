@@ -12,7 +12,7 @@ ghost use Rattle.processor.specs.Translation.{entry_size};
 use crate::entries::{Entries, Entry};
 use gstage_cache::Cache;
 use host_mem::HostMem;
-use processor::{Access, ENTRY_BYTES, ENTRY_WIDTH, PteBits};
+use processor::{Access, ENTRY_BYTES, ENTRY_WIDTH, PteBits, TABLE_LEVELS};
 use sv39_walk::{SecondStage, entry_page, index, is_pointer};
 
 // The entry at a guest-physical address, read where the second stage leads as a load.
@@ -51,7 +51,7 @@ pub(crate) fn read_entries(
 {
     let mut table = root;
     let mut entries = Entries::none();
-    'levels: for below in (0..3).rev() {
+    'levels: for below in (0..TABLE_LEVELS).rev() {
         let Some(seen) = read_entry(cache, mem, hgatp, table + ENTRY_BYTES * index(va, below))
         else {
             return None;

@@ -1,5 +1,6 @@
 -- What the machine records: counts, notes, printed bytes and the verdict. This project's own.
-use Rattle.std.specs.Prelude.{ℕ, ◌+◌, ◌-◌, ◌^◌, ◌%◌, ◌<◌, ◌≤◌, [], ◌∷◌, ◌++◌, take}
+use Rattle.std.specs.Prelude.{ℕ, ◌+◌, ◌%◌, ◌≤◌, [], ◌∷◌, ◌++◌, take}
+use Rattle.processor.specs.Counters.{CanCount}
 use Rattle.sv_types.specs.declared.event.Counts.{Counts}
 use Rattle.processor.specs.declared.mode.Mode.{Mode}
 use Rattle.processor.specs.declared.mode.Mode.TheVariants.{Kernel, User}
@@ -77,17 +78,17 @@ pub record CountsAtMost (n : ℕ) (c : Counts) : Type 0 where
 
 -- what happens within an event can be counted: all counts but those of the events are below the end of their type
 pub record MayCount (c : Counts) : Type 0 where
-  pub retired : c.retired < 2 ^ 64 - 1
-  pub traps : c.traps < 2 ^ 64 - 1
-  pub enters : c.enters < 2 ^ 64 - 1
-  pub leaves : c.leaves < 2 ^ 64 - 1
-  pub demotes : c.demotes < 2 ^ 64 - 1
-  pub denied : c.denied < 2 ^ 64 - 1
-  pub dropped : c.dropped < 2 ^ 64 - 1
-  pub loads : c.loads < 2 ^ 64 - 1
-  pub unloads : c.unloads < 2 ^ 64 - 1
-  pub refused : c.refused < 2 ^ 64 - 1
-  pub notes : c.notes < 2 ^ 64 - 1
+  pub retired : CanCount c.retired
+  pub traps : CanCount c.traps
+  pub enters : CanCount c.enters
+  pub leaves : CanCount c.leaves
+  pub demotes : CanCount c.demotes
+  pub denied : CanCount c.denied
+  pub dropped : CanCount c.dropped
+  pub loads : CanCount c.loads
+  pub unloads : CanCount c.unloads
+  pub refused : CanCount c.refused
+  pub notes : CanCount c.notes
 
 -- ---- the journal
 

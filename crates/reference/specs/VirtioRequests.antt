@@ -12,6 +12,9 @@ use Rattle.sv_types.specs.VirtioResults.{is_done}
 
 -- ---- the header: a type, 4 bytes that nothing reads, a sector
 
+abbrev pub sector_place : ℕ
+sector_place = 8
+
 abbrev pub read_disk : ℕ
 read_disk = 0
 
@@ -22,7 +25,7 @@ abbrev pub type_of : List ℕ → List VirtioPart → ℕ
 type_of ram parts = word ram (ram_place (header_of parts).gpa) 4
 
 abbrev pub sector_of : List ℕ → List VirtioPart → ℕ
-sector_of ram parts = word ram (ram_place (header_of parts).gpa + 8) 8
+sector_of ram parts = word ram (ram_place (header_of parts).gpa + sector_place) 8
 
 -- ---- the result
 

@@ -2,7 +2,8 @@
 ghost use Rattle.std.specs.Prelude.{◌≡◌, ◌<◌, ◌≤◌, ◌-◌, ◌⊎◌, ℕ, List, map, string_bytes, false, IsTrue, None};
 ghost use Rattle.std.specs.Result.{is_ok};
 ghost use Rattle.sv_types.specs.Limits.{most_events};
-ghost use Rattle.outside.specs.Outside.{MayWrite, CanCount};
+ghost use Rattle.outside.specs.Outside.{MayWrite};
+ghost use Rattle.processor.specs.Counters.{CanCount};
 ghost use Rattle.secvisor_cli.specs.Answers.{outside, Headline, Performs};
 ghost use Rattle.secvisor_cli.specs.Reading.{MayFollow, IsNamed, SavesUnder};
 ghost use Rattle.resume_cli.specs.ResumePlans.{resume_plan, words_plan};

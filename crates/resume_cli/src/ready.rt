@@ -8,7 +8,7 @@ ghost use Rattle.snapshot_form.specs.Snapshots as form;
 ghost use Rattle.resume_cli.specs.ResumePlans.{events_behind, resumed_due, words_plan};
 ghost use Rattle.resume_cli.specs.ResumeReady.{IsMachine, IsResumed, Resumes};
 ghost use Rattle.resume_cli.specs.ResumeWords.{resume_value};
-ghost use Rattle.outside.specs.Outside.{CanCount};
+ghost use Rattle.processor.specs.Counters.{CanCount};
 
 use crate::skipping::events_left;
 use crate::snapshot_file::read_snapshot;

@@ -4,7 +4,7 @@ ghost use Rattle.secvisor_cli.specs.Ready.{MayStage, Staged};
 ghost use Rattle.snapshot_form.specs.Snapshots as form;
 ghost use Rattle.resume_cli.specs.ResumePlans.{snapshot_part};
 ghost use Rattle.resume_cli.specs.ResumeReady.{IsSnapshot};
-ghost use Rattle.outside.specs.Outside.{CanCount};
+ghost use Rattle.processor.specs.Counters.{CanCount};
 
 use outside::Files;
 use secvisor_cli::{FileFault, Part, Refusal, Stop, read_part};

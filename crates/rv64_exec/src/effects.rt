@@ -128,7 +128,7 @@ fn even(target: u64) -> u64
 fn jump(rd: u8, link: u64, target: u64) -> Effect
     ensures { result ≡ table.jump rd link target }
 {
-    if target.is_multiple_of(4) {
+    if target.is_multiple_of(INSTRUCTION_BYTES) {
         set(rd, link, target)
     } else {
         Effect::MisalignedJump { target }

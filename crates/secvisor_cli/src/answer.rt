@@ -18,7 +18,8 @@ ghost use Rattle.secvisor_cli.specs.Plans.{Due, Exactly, RunFrom, command_plan, 
 ghost use Rattle.secvisor_cli.specs.Reading.{MayFollow, IsNamed, SavesUnder};
 ghost use Rattle.secvisor_cli.specs.Ready.{Prepares, IsReady, IsRunnable, MayCarryOut, MaySaveRun};
 ghost use Rattle.secvisor_cli.specs.Answers.{outside, Writes, Answers, SavesAndWrites, Performs, RunsTo, RunsAndSaves, Headline};
-ghost use Rattle.outside.specs.Outside.{MayWrite, CanCount};
+ghost use Rattle.outside.specs.Outside.{MayWrite};
+ghost use Rattle.processor.specs.Counters.{CanCount};
 
 use crate::converting::prepare_converted;
 use crate::flat::prepare_flat;

@@ -1,7 +1,8 @@
 // The command `convert`: a policy's entries are bound to their places in a kernel.
 ghost use Rattle.std.specs.Prelude.{◌≡◌, ◌<◌, ◌-◌, IfOk, IsTrue, length, string_bytes, true};
 ghost use Rattle.sv_types.specs.Policies.{rules_of, rules_within};
-ghost use Rattle.outside.specs.Outside.{FilesState, CanCount};
+ghost use Rattle.outside.specs.Outside.{FilesState};
+ghost use Rattle.processor.specs.Counters.{CanCount};
 ghost use Rattle.secvisor_cli.specs.Plans.{bound_plan, convert_plan, converted_line, kernel_part};
 ghost use Rattle.secvisor_cli.specs.Reading.{MayFollow};
 ghost use Rattle.secvisor_cli.specs.Ready.{IsMade, Prepares};

@@ -6,7 +6,7 @@ ghost use Rattle.sv_types.specs.Boot.{most_flat_bytes};
 ghost use Rattle.secvisor_cli.specs.Plans.{flat_plan, flat_events, is_whole_pages, measure_judged};
 ghost use Rattle.secvisor_cli.specs.Reading.{MayFollow};
 ghost use Rattle.secvisor_cli.specs.Ready.{IsReady, Prepares};
-ghost use Rattle.outside.specs.Outside.{CanCount};
+ghost use Rattle.processor.specs.Counters.{CanCount};
 
 use crate::file_fault::{FileFault, Part};
 use crate::parts::read_part;

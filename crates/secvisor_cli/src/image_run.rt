@@ -16,7 +16,7 @@ ghost use Rattle.secvisor_cli.specs.Reading.{MayFollow};
 ghost use Rattle.secvisor_cli.specs.Ready.{Prepares, Staged, MayStage, DrawsFrom, IsPolicy, IsKernel, IsScript};
 ghost use Rattle.secvisor_cli.specs.Words.{source_value, run_value};
 ghost use Rattle.script.specs.HartCounts.{IsHartCount};
-ghost use Rattle.outside.specs.Outside.{CanCount};
+ghost use Rattle.processor.specs.Counters.{CanCount};
 
 use crate::file_fault::{FileFault, Part};
 use crate::parts::read_part;

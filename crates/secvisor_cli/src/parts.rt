@@ -1,7 +1,7 @@
 // The reading of files.
 ghost use Rattle.std.specs.Prelude.{◌<◌, ◌-◌, [], ◌∷◌, IsTrue};
 ghost use Rattle.secvisor_cli.specs.Ready.{PartRead};
-ghost use Rattle.outside.specs.Outside.{CanCount};
+ghost use Rattle.processor.specs.Counters.{CanCount};
 
 use crate::file_fault::{FileFault, Part};
 use crate::ready::Stop;

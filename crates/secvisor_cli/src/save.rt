@@ -5,7 +5,7 @@ ghost use Rattle.reference.specs.Disk.{disk_bytes};
 ghost use Rattle.secvisor_cli.specs.Plans.{saving_of_bytes};
 ghost use Rattle.secvisor_cli.specs.Reading.{MaySave};
 ghost use Rattle.secvisor_cli.specs.Answers.{AfterSave};
-ghost use Rattle.outside.specs.Outside.{CanCount};
+ghost use Rattle.processor.specs.Counters.{CanCount};
 
 use machine::Machine;
 use outside::{Files, Trouble};

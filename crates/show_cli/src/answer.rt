@@ -1,6 +1,7 @@
 // The answer to the words of `show`.
 ghost use Rattle.std.specs.Prelude.{◌≡◌, ◌<◌, ◌≤◌, ◌-◌, ℕ, List, Some, Ok, map, string_bytes, IsTrue};
-ghost use Rattle.outside.specs.Outside.{MayWrite, CanCount};
+ghost use Rattle.outside.specs.Outside.{MayWrite};
+ghost use Rattle.processor.specs.Counters.{CanCount};
 ghost use Rattle.snapshot_form.specs.Snapshots.{contents};
 ghost use Rattle.snapshot_text.specs.SnapshotTexts as text;
 ghost use Rattle.show_cli.specs.Showing as spec;

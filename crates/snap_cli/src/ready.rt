@@ -6,7 +6,7 @@ ghost use Rattle.secvisor_cli.specs.Plans.{run_plan};
 ghost use Rattle.secvisor_cli.specs.Reading.{MayFollow};
 ghost use Rattle.secvisor_cli.specs.Words.{run_value};
 ghost use Rattle.snap_cli.specs.SnapReady.{Boots};
-ghost use Rattle.outside.specs.Outside.{CanCount};
+ghost use Rattle.processor.specs.Counters.{CanCount};
 
 use outside::Files;
 use secvisor_cli::{Booted, Ready, Run, Stop, prepare_run};

@@ -7,7 +7,7 @@ ghost use Rattle.secvisor_cli.specs.Answers.{AfterSave};
 ghost use Rattle.secvisor_cli.specs.Plans.{Exactly};
 ghost use Rattle.snap_cli.specs.SnapReady.{MaySaveUnder};
 ghost use Rattle.snap_cli.specs.Spelling.{SpellsMachine, SavesMachine};
-ghost use Rattle.outside.specs.Outside.{CanCount};
+ghost use Rattle.processor.specs.Counters.{CanCount};
 
 use machine::Machine;
 use outside::Files;

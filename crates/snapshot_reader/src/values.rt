@@ -1,6 +1,7 @@
 // A value at the front of some bytes, and the bytes behind it.
 
 ghost use Rattle.std.specs.Prelude.{◌≡◌, ◌<◌, Ok, Err, if◌then◌else◌};
+ghost use Rattle.processor.specs.Bytes.{instruction_size};
 ghost use Rattle.snapshot_form.specs.Forms.{byte, number, plain};
 ghost use Rattle.snapshot_form.specs.HartForms.{multiple_of, flag, place};
 ghost use Rattle.snapshot_form.specs.JournalForms.{hart_number};
@@ -86,7 +87,7 @@ pub(crate) fn read_place(bytes: &[u8]) -> Result<(Option<u8>, &[u8]), SnapRefusa
 
 // An instruction's address.
 pub(crate) fn read_pc(bytes: &[u8]) -> Result<(u64, &[u8]), SnapRefusal>
-    ensures { Gives (λ x. (x.0, x.1.now)) result ((multiple_of 4).taken bytes.now) }
+    ensures { Gives (λ x. (x.0, x.1.now)) result ((multiple_of instruction_size).taken bytes.now) }
 {
     read_aligned(bytes, INSTRUCTION_BYTES)
 }

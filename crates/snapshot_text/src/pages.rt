@@ -1,5 +1,6 @@
 // The lines of pages.
-ghost use Rattle.std.specs.Prelude.{◌≡◌, ◌<◌, ◌-◌, ◌^◌, ◌++◌, OnOk, IfOk, string_bytes};
+ghost use Rattle.std.specs.Prelude.{◌≡◌, ◌++◌, OnOk, IfOk, string_bytes};
+ghost use Rattle.processor.specs.Counters.{CanCount};
 ghost use Rattle.snapshot_text.specs.PageTexts as spec;
 
 use std::alloc::{AllocError, Global};
@@ -55,7 +56,7 @@ fn push_run(alloc: Global, text: &mut String, run: PageRun) -> Result<(), AllocE
 
 #[tactic(auto, unfolding(crate::specs::PageTexts::next_run))]
 fn next_run(run: PageRun, page: Protection) -> PageRun
-    requires { run.last < 2 ^ 64 - 1 }
+    requires { CanCount run.last }
     ensures { result ≡ spec.next_run run page }
 {
     let last = run.last + 1;

@@ -2,7 +2,7 @@
 
 ghost use Rattle.std.specs.Prelude.{◌≡◌, ◌+◌, ◌*◌, ◌/◌, ◌%◌, ◌^◌, ◌<◌, ◌≤◌, Some, None};
 ghost use Rattle.std.specs.Option.{ok_or};
-ghost use Rattle.processor.specs.Translation.{walk, root_of, entry_size};
+ghost use Rattle.processor.specs.Translation.{walk, root_of, entry_size, table_levels};
 ghost use Rattle.processor.specs.SecondStage.{host_entry, entry_in_region, permits_guest, address_at, walk_guest, guest_address_bits};
 ghost use Rattle.processor.specs.declared.access.Access.{Access as Kind};
 ghost use Rattle.sv39_walk.specs.Levels.{indices_of, IsTable};
@@ -16,7 +16,7 @@ use crate::entry::{
 use host_mem::{HostMem, Steps};
 use processor::{
     Access, ENTRY_BYTES, ENTRY_WIDTH, GUEST_ADDRESS_BITS, GuestFault, PAGE_BYTES, PAGE_SIZE,
-    PteBits,
+    PteBits, TABLE_LEVELS,
 };
 use std::marker::Brand;
 use std::sync::ledger::{Blank, Ledger};
@@ -58,7 +58,7 @@ pub fn walk_g_counted<L: Ledger>(
 ) -> Result<u64, GuestFault>
     requires { IsSv39x4 hgatp }
     ensures value { result ≡ ok_or (walk_guest mem.now hgatp gpa access) (record { gpa = gpa }) }
-    ensures steps { steps.new ≤ steps.old + 3 }
+    ensures steps { steps.new ≤ steps.old + table_levels }
 {
     walk_counted(mem, hgatp, gpa, access, steps).ok_or(GuestFault { gpa })
 }
@@ -96,7 +96,7 @@ fn walk_counted<L: Ledger>(
     steps: &mut Steps<L>,
 ) -> Option<u64>
     ensures value { result ≡ walk_guest mem.now hgatp gpa access }
-    ensures steps { steps.new ≤ steps.old + 3 }
+    ensures steps { steps.new ≤ steps.old + table_levels }
 {
     match find_mapping(mem, hgatp, gpa, steps) {
         Some(mapping) => {
@@ -119,7 +119,7 @@ pub fn find_mapping<L: Ledger>(
     steps: &mut Steps<L>,
 ) -> Option<Mapping>
     ensures value { (access : Kind) → walk_guest mem.now hgatp gpa access ≡ mapping_answer result access }
-    ensures steps { steps.new ≤ steps.old + 3 }
+    ensures steps { steps.new ≤ steps.old + table_levels }
 {
     if gpa >> GUEST_ADDRESS_BITS == 0 {
         walk_levels(mem, root_table(hgatp, gpa), gpa, steps)
@@ -145,11 +145,11 @@ fn walk_levels<L: Ledger>(
     steps: &mut Steps<L>,
 ) -> Option<Mapping>
     requires { IsTable root }
-    ensures value { (access : Kind) → address_at (walk (entry_in_region mem.now) (permits_guest access) (indices_of 3 gpa) root gpa) ≡ mapping_answer result access }
-    ensures steps { steps.new ≤ steps.old + 3 }
+    ensures value { (access : Kind) → address_at (walk (entry_in_region mem.now) (permits_guest access) (indices_of table_levels gpa) root gpa) ≡ mapping_answer result access }
+    ensures steps { steps.new ≤ steps.old + table_levels }
 {
     let mut table = root;
-    'levels: for below in (0..3).rev() {
+    'levels: for below in (0..TABLE_LEVELS).rev() {
         let entry = host_entry(mem, table + ENTRY_BYTES * index(gpa, below), steps);
         if !is_pointer(entry) {
             return at_leaf(entry, below, gpa);
@@ -161,7 +161,7 @@ fn walk_levels<L: Ledger>(
 
 // What an entry that is no pointer gives, with so many levels below it.
 fn at_leaf(entry: PteBits, below: u32, gpa: u64) -> Option<Mapping>
-    requires { below < 3 }
+    requires { below < table_levels }
     ensures { result ≡ found_mapping below entry gpa }
 {
     if is_leaf(entry, below) {

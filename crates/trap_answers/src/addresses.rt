@@ -7,7 +7,7 @@ ghost use Rattle.processor.specs.SecondStage.{htval_unit};
 
 use hart::IMPLICIT_READ;
 use host_mem::HostMem;
-use processor::{Exit, HTVAL_UNIT};
+use processor::{Exit, GUEST_ADDRESS_BITS, HTVAL_UNIT};
 
 /// The access was an implicit read of a first-stage entry.
 pub(crate) fn is_implicit(exit: &Exit) -> bool
@@ -33,7 +33,7 @@ pub(crate) fn gpa_in_ram(mem: &HostMem, exit: &Exit, width: u64) -> Option<u64>
 {
     let _pages = mem.ram_pages();
     // (four times as much is past every place in RAM, and within 64 bits below it)
-    if exit.htval >= 1 << 40 {
+    if exit.htval >> GUEST_ADDRESS_BITS != 0 {
         return None;
     }
     let gpa = HTVAL_UNIT * exit.htval + low_bits(exit);

@@ -58,7 +58,7 @@ fn mode_at_return(status: u64) -> Mode
 #[tactic(auto, using(processor_laws::proofs::RegisterBits::target_aligned), unfolding(processor::specs::Traps::trap_target))]
 pub fn target(csrs: &Csrs, cause: ExitCause) -> u64
     ensures value { result ≡ trap_target csrs.now.vstvec (is_interrupt cause) (guest_number cause) }
-    ensures aligned { result % 4 ≡ 0 }
+    ensures aligned { result % instruction_size ≡ 0 }
 {
     let base = csrs.vstvec & !VECTOR_MODE;
     if cause.is_interrupt() && has_bit(csrs.vstvec, 0) {
@@ -73,7 +73,7 @@ pub fn target(csrs: &Csrs, cause: ExitCause) -> u64
 pub fn into_guest(csrs: &mut Csrs, from: Mode, cause: ExitCause, tval: u64, pc: u64) -> u64
     requires { pc % instruction_size ≡ 0 }
     ensures target { result ≡ trap_target csrs.old.vstvec (is_interrupt cause) (guest_number cause) }
-    ensures aligned { result % 4 ≡ 0 }
+    ensures aligned { result % instruction_size ≡ 0 }
     ensures registers { csrs.new ≡ registers_at_trap csrs.old from pc (is_interrupt cause) (guest_number cause) tval }
 {
     csrs.vsstatus = status_at_trap(csrs.vsstatus, from);
@@ -104,7 +104,7 @@ pub fn into_hypervisor(csrs: &mut Csrs, exit: Exit) -> Exit
 #[inline(always)]
 pub fn return_to_guest(csrs: &mut Csrs) -> (u64, Mode)
     ensures pc { result.0 ≡ csrs.old.vsepc }
-    ensures aligned { result.0 % 4 ≡ 0 }
+    ensures aligned { result.0 % instruction_size ≡ 0 }
     ensures mode { result.1 ≡ mode_at_return csrs.old.vsstatus }
     ensures registers { csrs.new ≡ registers_at_return csrs.old }
 {

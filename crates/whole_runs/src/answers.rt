@@ -1,6 +1,6 @@
 // Calls of the program by their first word, over files and a sink in memory.
 ghost use Rattle.std.specs.Prelude.{◌<◌, ◌-◌};
-ghost use Rattle.outside.specs.Outside.{CanCount};
+ghost use Rattle.processor.specs.Counters.{CanCount};
 
 use crate::memory::Answer;
 use outside::{MemFiles, MemSink};

@@ -1,6 +1,6 @@
 // Files in memory, as they lie in the folder that the program is run in.
 ghost use Rattle.std.specs.Prelude.{◌≡◌, ◌<◌, ◌-◌, OnOk};
-ghost use Rattle.outside.specs.Outside.{CanCount};
+ghost use Rattle.processor.specs.Counters.{CanCount};
 
 use outside::{Files, MemFiles};
 use std::io::ErrorKind;

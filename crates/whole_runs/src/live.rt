@@ -1,6 +1,6 @@
 // Live runs, whose keys a second thread reads.
 ghost use Rattle.std.specs.Prelude.{◌≡◌, ◌<◌, ◌-◌, IfOk};
-ghost use Rattle.outside.specs.Outside.{CanCount};
+ghost use Rattle.processor.specs.Counters.{CanCount};
 
 use crate::calls::{is_same, line, make_call, print_lines, tell};
 use crate::case::Case;
