@@ -1,5 +1,6 @@
 -- A kernel's image before the first event.
 use Rattle.std.proofs.Common.{get_or, ◌==◌, ◌^◌, ◌<◌, inl, inr, ◌≡◌, ℕ, suc, ◌-◌, ◌%◌, ◌≤◌, true, IsTrue, List, [], ◌∷◌, length, take, refl, sym, ◌∙◌, ap, arith, subst, length-append, length-take}
+use Rattle.processor.specs.Bytes.{page_size}
 use Rattle.std.specs.Prelude.{Option, Some, None, find, flat_map}
 use Rattle.std.proofs.lemmas.Bool.Decides.{nat_tests}
 use Rattle.std.proofs.lemmas.Bool.{cases_Bool}
@@ -28,11 +29,11 @@ use Rattle.machine.specs.declared.boot.BootRefusal.TheVariants.{Measure, Entry, 
 short_take : (n : ℕ) (bytes : List ℕ) → length (take n bytes) ≤ n
 short_take n bytes = simp length-take (omega arith)
 
-page_whole : (page : ℕ) (o : Option LoadedSegment) → length (text_page_in page o) % 4096 ≡ 0
+page_whole : (page : ℕ) (o : Option LoadedSegment) → length (text_page_in page o) % page_size ≡ 0
 page_whole page None = refl
-page_whole page (Some s) = ap (λ (n : ℕ). n % 4096) (length_padded (filled_part page s) 4096 (short_take 4096 _))
+page_whole page (Some s) = ap (λ (n : ℕ). n % page_size) (length_padded (filled_part page s) page_size (short_take page_size _))
 
-pages_whole : (ss : List LoadedSegment) (pages : List ℕ) → length (flat_map (text_page ss) pages) % 4096 ≡ 0
+pages_whole : (ss : List LoadedSegment) (pages : List ℕ) → length (flat_map (text_page ss) pages) % page_size ≡ 0
 pages_whole ss [] = refl
 pages_whole ss (page ∷ pages) =
     let both = length-append (text_page ss page) (flat_map (text_page ss) pages) in
@@ -40,9 +41,9 @@ pages_whole ss (page ∷ pages) =
     let rest = pages_whole ss pages in
     omega (arith, both, first, rest)
 
-pub text_whole : (image : KernelImage) (text : List ℕ) → text ≡ text_of (segments_of image) → length text % 4096 ≡ 0
+pub text_whole : (image : KernelImage) (text : List ℕ) → text ≡ text_of (segments_of image) → length text % page_size ≡ 0
 unfolding text_of
-text_whole image text is = ap (λ (text : List ℕ). length text % 4096) is ∙ pages_whole (segments_of image) (numbers_from 0 most_ram_pages)
+text_whole image text is = ap (λ (text : List ℕ). length text % page_size) is ∙ pages_whole (segments_of image) (numbers_from 0 most_ram_pages)
 
 -- ---- refusals
 

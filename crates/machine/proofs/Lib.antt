@@ -3,7 +3,6 @@ pub mod Starting
 pub mod ImageStarting
 pub mod NewFit
 pub mod Hosts
-pub mod Emptied
 pub mod Turns
 pub mod Seated
 pub mod Called

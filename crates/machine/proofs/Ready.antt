@@ -1,5 +1,6 @@
 -- What a machine that stands for a state may do.
 use Rattle.std.proofs.Common.{◌≡◌, ℕ, zero, suc, ◌<◌, List, [], ◌∷◌, length, refl, sym, ◌∙◌, ap, subst, arith, true, ◌*◌, slice_get}
+use Rattle.processor.specs.Bytes.{page_size}
 use Rattle.std.specs.Prelude.{Option, Some, None, IfSome, option_map}
 use Rattle.processor.specs.Hardware.{Core}
 use Rattle.processor.specs.HardwareAttempt.{attempt, after_pending, OnlyWrites}
@@ -122,7 +123,7 @@ attempt_writes r core lines = pending_writes r core lines (pending core.hregs co
 
 same_size : (m after : Machine) (r next : State) → StandsFor m r → StandsFor after next → after.rules ≡ m.rules → length after.region.ram ≡ length m.region.ram
 same_size m after r next before behind same =
-    (in_order after next behind).size ∙ ap (λ (rules : Rules). 4096 * rules.ram_pages) same ∙ sym (in_order m r before).size
+    (in_order after next behind).size ∙ ap (λ (rules : Rules). page_size * rules.ram_pages) same ∙ sym (in_order m r before).size
 
 stepped : (m after : Machine) (r : State) (h : ℕ) → StandsFor m r → m.journal.verdict ≡ Running → IsTurn m h after → StandsFor after (step r (Turn h))
 unfolding IsStep

@@ -1,9 +1,8 @@
 -- A row of turns is as many events, one after another.
 use Rattle.std.proofs.Common.{◌≡◌, ℕ, zero, suc, ◌+◌, ◌%◌, ◌<◌, List, [], ◌∷◌, length, map, refl, sym, ◌∙◌, ap, subst, arith, false, inl, inr}
+use Rattle.quick_turns.proofs.Exits.{Ends}
 use Rattle.std.specs.Prelude.{Option, Some, None, is_some, slice_index_or, slice_set}
 use Rattle.std.proofs.lemmas.Bool.Decides.{eqb_tells}
-use Rattle.processor.specs.HypervisorRegisters.{pending}
-use Rattle.processor.specs.declared.lines.Lines.{Lines}
 use Rattle.hart_answers.specs.Hosts.{host_at, hosts_of}
 use Rattle.hart_answers.specs.declared.seats.Seat.{Seat}
 use Rattle.machine.proofs.Hosts.{core_put, host_there}
@@ -24,7 +23,7 @@ use Rattle.machine_model.specs.Machine.{Machine, HostHart, with_count_raised, up
 use Rattle.machine_model.specs.StandsFor.{StandsFor}
 use Rattle.machine_model.specs.Steps.{IsStep, IsTurn, StepsUnder}
 use Rattle.answer_laws.specs.Laws.{IsQuiet as IsQuietOutcome}
-use Rattle.quick_turns.specs.Rows.{IsRetired, Carries, EndsBy, RetiresThrough}
+use Rattle.quick_turns.specs.Rows.{IsRetired, Carries, RetiresThrough}
 use Rattle.quick_turns.specs.declared.leaving.Leaving.{Leaving}
 use Rattle.machine.proofs.Addressed.{step_addressed}
 use Rattle.machine.proofs.Repeated.{step_counts}
@@ -253,9 +252,6 @@ seat_there (x ∷ seats) zero new below = refl
 seat_there (x ∷ seats) (suc h) new below = seat_there seats h new (omega arith)
 
 -- what the clause on a row's end says
-abbrev pub Ends : Leaving → ℕ → Region → Core → Region → Core → Type 0
-Ends left n r core after next = (lines : Lines) → pending core.hregs core.csrs lines ≡ None → EndsBy left n r core lines after next
-
 pub row_there : (seats : List Seat) (h : ℕ) (left : Leaving) (n : ℕ) (d new : Seat) (r after : Region) → h < length seats
     → Ends left n r (host_at (slice_index_or seats h d)).core after (host_at new).core
     → Ends left n r (hart_in (hosts_of seats) h).core after (hart_in (hosts_of (slice_set seats h new)) h).core

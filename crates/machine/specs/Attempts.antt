@@ -1,7 +1,6 @@
--- What an attempt of a hart asks for, and the caches of second-stage walks. This project's own.
-use Rattle.std.specs.Prelude.{◌≡◌, ◌<◌, ◌%◌, ℕ, zero, suc, true, false, List}
-use Rattle.std.specs.Prelude.{[], ◌∷◌, length, replicate, Some, None, slice_get, slice_index_or}
-use Rattle.processor.specs.CachedWalks.{CacheAgrees, no_lines}
+-- What an attempt of a hart asks for, and what turns of a hart among all do. This project's own.
+use Rattle.std.specs.Prelude.{◌≡◌, ◌<◌, ◌%◌, ℕ, true, false, List, length, replicate, None, slice_index_or}
+use Rattle.hart_caches.specs.Usable.{AreUsable}
 use Rattle.processor.specs.HardwareAttempt.{attempt}
 use Rattle.processor.specs.HypervisorRegisters.{registers_at_boot}
 use Rattle.processor.specs.Regions.{Region}
@@ -13,8 +12,7 @@ use Rattle.processor.specs.declared.mode.Mode.TheVariants.{Kernel}
 use Rattle.hart.specs.Conditions.{KeepsMode}
 use Rattle.machine_model.specs.Machine.{HostHart}
 use Rattle.machine_model.specs.StandsFor.{hregs_in}
-use Rattle.reach.specs.Kept.{no_lines as none_led, ReachAgrees}
-use Rattle.machine.specs.declared.caches.HartCaches.{HartCaches}
+use Rattle.hart_caches.specs.declared.caches.HartCaches.{HartCaches}
 use Rattle.processor.specs.Bytes.{instruction_size}
 
 -- a stopped hart, past the end of all harts
@@ -43,15 +41,6 @@ pub record IsReady (region : Region) (host : HostHart) (lines : Lines) : Type 0 
   pub apart : WalksApart region host.core.hregs.hgatp
   pub ram : length (attempt region host.core lines).region.ram ≡ length region.ram
 
--- what a hart keeps of walks agrees with the tables
-pub record IsUsable (tables : List ℕ) (own : HartCaches) : Type 0 where
-  pub second : CacheAgrees tables own.second
-  pub both : ReachAgrees tables own.both
-
--- what each hart keeps does
-pub record AreUsable (tables : List ℕ) (caches : List HartCaches) : Type 0 where
-  pub each : (h : ℕ) (own : HartCaches) → slice_get caches h ≡ Some own → IsUsable tables own
-
 -- a hart among all harts may make turns: it is there, and there are as many caches as harts, all of which are usable
 pub record MayTakeTurns {S : Type 0} (tables : List ℕ) (seats : List S) (caches : List HartCaches) (hart : ℕ) : Type 0 where
   pub there : hart < length seats
@@ -65,12 +54,3 @@ pub record KeepsTurns {S : Type 0} (before after : Region) (seats left : List S)
   pub tables : after.tables ≡ before.tables
   pub ram : length after.ram ≡ length before.ram
   pub usable : AreUsable after.tables held
-
-abbrev pub nothing_kept : HartCaches
-nothing_kept = record { second = no_lines; both = none_led }
-
--- the first n caches emptied
-unfoldable pub first_emptied : ℕ → List HartCaches → List HartCaches
-first_emptied zero caches = caches
-first_emptied (suc n) [] = []
-first_emptied (suc n) (own ∷ caches) = nothing_kept ∷ first_emptied n caches

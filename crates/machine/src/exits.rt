@@ -18,11 +18,11 @@ ghost use Rattle.trap_answers.specs.Possible.{IsPossible};
 ghost use Rattle.machine.specs.Attempts.{hart_in};
 ghost use Rattle.machine.specs.Turns.{IsGuarded, MayServe, MayTrap, answered_exit, asked_of, left_entry};
 
-use crate::caches::fence;
 use crate::parts::Parts;
 use access_answers::{Load, Store, device_load, device_store};
 use call_answers::law_starts;
 use hart_answers::{Asked, Trap};
+use hart_caches::fence;
 use machine_model::ExitAnswer;
 use module_answers::{give_pages, module_answer};
 use processor::Exit;

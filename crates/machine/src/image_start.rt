@@ -7,7 +7,7 @@ ghost use Rattle.sv_types.specs.Measure.{measure};
 ghost use Rattle.sv_types.specs.Policies.{rules_of, rules_within};
 ghost use Rattle.processor.specs.Regions.{most_ram_pages};
 ghost use Rattle.gstage_tables.specs.Layout.{most_bound, table_size};
-ghost use Rattle.page_guard.specs.Guarded.{IsTheirs};
+ghost use Rattle.page_guard.specs.Guarded.{Guards};
 ghost use Rattle.elf64_load.specs.Images.{segments_of};
 ghost use Rattle.image_loader.specs.Placed.{ArePlaced};
 ghost use Rattle.reference.specs.Start.{image_start, AreWords};
@@ -174,8 +174,7 @@ fn image_guard(
     requires tables { length mem.old.tables ≡ table_size ram_pages (length bound.now) }
     requires placed { ArePlaced ram_pages (segments_of image.now) }
     ensures guard { IfOk result (λ g. g.pages ≡ image_protections ram_pages (segments_of image.now)) }
-    ensures bound { IfOk result (λ g. g.bound ≡ bound.now) }
-    ensures theirs { IfOk result (λ g. IsTheirs mem.new g) }
+    ensures guards { IfOk result (λ g. Guards mem.new bound.now g) }
     ensures ram { mem.new.ram ≡ mem.old.ram }
 {
     let mut guard = Guard::new(alloc, mem, bound)?;

@@ -4,7 +4,6 @@
 mod attempts;
 mod beats;
 mod boot;
-mod caches;
 mod exits;
 mod image_start;
 mod machine;

@@ -21,7 +21,6 @@ ghost use Rattle.processor.specs.Bytes.{instruction_size};
 
 use crate::attempts::attempt;
 use crate::beats::beat_disk;
-use crate::caches::HartCaches;
 use crate::exits::is_again;
 use crate::wires::HartWires;
 use call_answers::law_starts;
@@ -30,6 +29,7 @@ use disk_port::Port;
 use dma_guard::Beaten;
 use hart::Cpu;
 use hart_answers::{Seat, forget};
+use hart_caches::HartCaches;
 use host_mem::HostMem;
 use journal_records::Journal;
 use module_answers::{Modules, load_turn};

@@ -12,15 +12,16 @@ ghost use Rattle.hart_answers.specs.Hosts.{host_at, hosts_of};
 ghost use Rattle.quick_turns.specs.Ends.{turns_of};
 ghost use Rattle.quick_turns.specs.Rows.{EndsBy};
 ghost use Rattle.quick_turns.specs.declared.leaving.Leaving.TheVariants.{Returns};
-ghost use Rattle.machine.specs.Attempts.{hart_in, IsReady, IsUsable, KeepsTurns, MayTakeTurns};
+ghost use Rattle.machine.specs.Attempts.{hart_in, IsReady, KeepsTurns, MayTakeTurns};
+ghost use Rattle.hart_caches.specs.Usable.{IsUsable};
 ghost use Rattle.machine.specs.Limits.{most_counts};
 ghost use Rattle.machine.specs.Rows.{AnswersLeaving, AreFree, EndsRow, WalksUnderRoot, IsQuietAt, counted_leaving, counted_row, MayRow};
 ghost use Rattle.machine.specs.Turns.{MayTrap};
 ghost use Rattle.processor.specs.Bytes.{instruction_size};
 
-use crate::caches::HartCaches;
 use crate::parts::Parts;
 use hart_answers::{Seat, Trap};
+use hart_caches::HartCaches;
 use host_mem::HostMem;
 use journal_records::Journal;
 use processor::{Cause, ExitCause};

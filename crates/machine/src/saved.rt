@@ -11,6 +11,7 @@ ghost use Rattle.machine.specs.Keeping.{gpa_behind, AreKeepable, IsKeepable, kep
 
 use crate::machine::Machine;
 use crate::parts::Parts;
+use csr_file::at_guest_places;
 use devices::Devices;
 use disk_port::Port;
 use hart_answers::Seat;
@@ -103,14 +104,14 @@ fn saved_hart(seat: &Seat, timer: u64, tables: usize) -> SavedHart
         pc: hart.core.pc,
         registers: hart.core.regs.values(),
         sstatus: csrs.vsstatus,
-        sie: csrs.hie >> 1,
+        sie: at_guest_places(csrs.hie),
         stvec: csrs.vstvec,
         scounteren: csrs.scounteren,
         sscratch: csrs.vsscratch,
         sepc: csrs.vsepc,
         scause: csrs.vscause,
         stval: csrs.vstval,
-        sip: csrs.hvip >> 1,
+        sip: at_guest_places(csrs.hvip),
         satp: csrs.vsatp,
         reservation: saved_reservation(hart.core.reservation, tables),
         entry: seat.side.entry(),

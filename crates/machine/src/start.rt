@@ -7,7 +7,7 @@ ghost use Rattle.sv_types.specs.Limits.{most_harts};
 ghost use Rattle.sv_types.specs.Measure.{measure};
 ghost use Rattle.sv_types.specs.Policies.{rules_of};
 ghost use Rattle.gstage_tables.specs.Layout.{most_bound, table_size};
-ghost use Rattle.page_guard.specs.Guarded.{IsTheirs};
+ghost use Rattle.page_guard.specs.Guarded.{IsTheirs, Guards};
 ghost use Rattle.hart_answers.specs.Hosts.{host_at, hosts_of};
 ghost use Rattle.reference.specs.Start.{flat_rules, flat_start};
 ghost use Rattle.machine_model.specs.Reaches.{IsNew};
@@ -15,17 +15,17 @@ ghost use Rattle.machine_model.specs.StandsFor.{bound_pages};
 ghost use Rattle.module_gate.specs.Gates.{no_modules};
 ghost use Rattle.standing_laws.specs.Starts.{host_at_boot, hosts_at_boot, machine_at_boot, first_approved, flat_ram, flat_machine, journal_at_boot, IsGuarded};
 ghost use Rattle.disk_port.specs.Ports.{port_disk};
-ghost use Rattle.machine.specs.Attempts.{nothing_kept};
+ghost use Rattle.hart_caches.specs.Usable.{nothing_kept};
 ghost use Rattle.machine.specs.Boot.{RefusesFlat};
 
 use crate::boot::BootRefusal;
-use crate::caches::HartCaches;
 use crate::parts::Parts;
 use devices::Devices;
 use disk_port::Port;
 use gstage_tables::Trees;
 use hart::{Cpu, Hart};
 use hart_answers::Seat;
+use hart_caches::HartCaches;
 use host_mem::HostMem;
 use journal_records::Journal;
 use module_answers::Modules;
@@ -306,8 +306,7 @@ fn approved_start(alloc: Global, mem: &mut HostMem, count: u32) -> Result<Guard,
     requires tables { length mem.old.tables ≡ table_size flat_ram_pages 0 }
     requires few { count ≤ flat_ram_pages }
     ensures guard { IfOk result (λ g. g.pages ≡ first_approved count) }
-    ensures unbound { IfOk result (λ g. g.bound ≡ []) }
-    ensures theirs { IfOk result (λ g. IsTheirs mem.new g) }
+    ensures guards { IfOk result (λ g. Guards mem.new [] g) }
     ensures ram { mem.new.ram ≡ mem.old.ram }
 {
     let mut guard = Guard::new(alloc, mem, &[])?;

@@ -4,7 +4,7 @@ use Rattle.machine_model.specs.StandsFor.{bound_pages}
 use Rattle.machine.proofs.start.assemble.Goals as goal
 
 pub at_boot-requires-clause-places : goal.at_boot-requires-clause-places
-at_boot-requires-clause-places c = c.in_ok-guard.ensures.unbound ∙ sym (ap (λ (rules : Rules). bound_pages rules) c.in_ok-policy.ensures)
+at_boot-requires-clause-places c = c.in_ok-guard.ensures.guards.bound ∙ sym (ap (λ (rules : Rules). bound_pages rules) c.in_ok-policy.ensures)
 
 pub at_boot-requires-clause-along : goal.at_boot-requires-clause-along
 at_boot-requires-clause-along c = let none = ap (λ (rules : Rules). length rules.bound) c.in_ok-policy.ensures in omega (arith, none)

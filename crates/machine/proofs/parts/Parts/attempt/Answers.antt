@@ -4,8 +4,9 @@ use Rattle.hart_answers.specs.declared.seats.Seat.{Seat}
 use Rattle.machine_model.specs.Machine.{Machine}
 use Rattle.reference.specs.Devices.{lines_at}
 use Rattle.machine.proofs.Called.{harts_number}
-use Rattle.machine.specs.Attempts.{hart_in, AreUsable, IsReady}
-use Rattle.machine.specs.declared.caches.HartCaches.{HartCaches}
+use Rattle.machine.specs.Attempts.{hart_in, IsReady}
+use Rattle.hart_caches.specs.Usable.{AreUsable}
+use Rattle.hart_caches.specs.declared.caches.HartCaches.{HartCaches}
 use Rattle.machine.proofs.parts.Parts.attempt.Goals as goal
 
 pub invariant_of-wires : goal.invariant_of-wires

@@ -4,8 +4,8 @@ use Rattle.std.specs.Prelude.{Some, slice_get}
 use Rattle.processor.specs.Regions.{Region}
 use Rattle.gstage_cache.proofs.Lines.{none_agrees}
 use Rattle.reach.proofs.Holding.{none_agrees as none_leads}
-use Rattle.machine.specs.Attempts.{first_emptied, nothing_kept, IsUsable, AreUsable}
-use Rattle.machine.specs.declared.caches.HartCaches.{HartCaches}
+use Rattle.hart_caches.specs.Usable.{first_emptied, nothing_kept, IsUsable, AreUsable}
+use Rattle.hart_caches.specs.declared.caches.HartCaches.{HartCaches}
 
 -- nothing that is kept agrees with every table
 pub nothing_usable : (tables : List ℕ) → IsUsable tables nothing_kept

@@ -1,21 +1,21 @@
 // What harts keep of walks, and where protections change.
 
 ghost use Rattle.std.specs.Prelude.{◌≡◌, true, false, ℕ, List, length};
-ghost use Rattle.machine.specs.Attempts.{AreUsable, nothing_kept};
+ghost use Rattle.hart_caches.specs.Usable.{AreUsable, nothing_kept};
 
 use gstage_cache::Cache;
 use reach::Reach;
 
 /// What a hart keeps of walks: where the second stage leads, and where both lead.
 #[derive(Drop)]
-pub(crate) struct HartCaches {
-    pub(crate) second: Cache,
-    pub(crate) both: Reach,
+pub struct HartCaches {
+    pub second: Cache,
+    pub both: Reach,
 }
 
 impl HartCaches {
     /// Nothing is kept.
-    pub(crate) fn new() -> HartCaches
+    pub fn new() -> HartCaches
         ensures { result ≡ nothing_kept }
     {
         HartCaches {
@@ -44,7 +44,7 @@ fn empty_all(caches: &mut [HartCaches])
 }
 
 /// Empties all caches where a protection changed.
-pub(crate) fn fence(caches: &mut [HartCaches], changed: bool)
+pub fn fence(caches: &mut [HartCaches], changed: bool)
     ensures usable { changed ≡ true → (tables : List ℕ) → AreUsable tables caches.new }
     ensures kept { changed ≡ false → caches.new ≡ caches.old }
     ensures number { length caches.new ≡ length caches.old }
