@@ -109,7 +109,7 @@ beat_meets (VirtioDisk d) ram f g k agree = ap virtio_beaten (virtio_meets d ram
 
 pub page_of_beat : (ram : List ℕ) (gpa size n : ℕ) → length ram ≡ page_size * n → 1 ≤ size → in_ram ram gpa size ≡ true → page_of gpa < n
 page_of_beat ram gpa size n is some inside =
-    let tests : (nat_le ram_base gpa && nat_le (ram_place gpa + size) (4096 * n)) ≡ true = ap (λ (k : ℕ). nat_le ram_base gpa && nat_le (ram_place gpa + size) k) (sym is) ∙ inside in
+    let tests : (nat_le ram_base gpa && nat_le (ram_place gpa + size) (page_size * n)) ≡ true = ap (λ (k : ℕ). nat_le ram_base gpa && nat_le (ram_place gpa + size) k) (sym is) ∙ inside in
     grind (arith, nat_tests)
 
 same_beat : (r : State) → IsSound r

@@ -4,7 +4,7 @@ use Rattle.std.proofs.Common.{◌≡◌, ℕ, ◌+◌, ◌%◌, ◌<◌, ◌≤�
 use Rattle.std.specs.Prelude.{Some, None, option_map, if◌then◌else◌}
 use Rattle.std.proofs.lemmas.Bool.Decides.{nat_tests}
 use Rattle.std.proofs.lemmas.Option.{slice_get-map}
-use Rattle.processor.specs.Bytes.{overwrite, in_ram, page_of, ram_place}
+use Rattle.processor.specs.Bytes.{overwrite, in_ram, page_of, ram_place, page_size}
 use Rattle.sv_types.specs.Clock.{after_tick}
 use Rattle.sv_types.specs.Console.{after_key, has_room}
 use Rattle.processor.specs.Regions.{IsRegion}
@@ -89,7 +89,7 @@ permits r page below free =
     ∙ ap (λ (k : ℕ). Some (protection_in r.approved r.held k)) first)
     ∙ ap Some (free_by (is_approved_in r.approved page) (has_number r.held page) ∙ free)
 
-in_one_page : (p n size : ℕ) → n ≤ size → p % 4096 + size ≤ 4096 → p % 4096 + n ≤ 4096
+in_one_page : (p n size : ℕ) → n ≤ size → p % page_size + size ≤ page_size → p % page_size + n ≤ page_size
 in_one_page p n size short fits = omega (arith, short, fits)
 
 fewer_inside : (ram : List ℕ) (gpa n size : ℕ) → n ≤ size → in_ram ram gpa size ≡ true → in_ram ram gpa n ≡ true

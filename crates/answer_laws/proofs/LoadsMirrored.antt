@@ -39,7 +39,7 @@ text_inside r load rule s k known =
     rw s.size inside
 
 text_size : (r : State) (load : Loading) (rule : ModuleRule) → IsSound r → HoldsModule r.rules r.approved r.loaded r.held load → slice_get r.rules.modules load.about.id ≡ Some rule
-    → length (module_text r.ram load.about rule.pages) ≡ 4096 * rule.pages
+    → length (module_text r.ram load.about rule.pages) ≡ page_size * rule.pages
 text_size r load rule s k known = length_part r.ram (ram_place load.about.gpa) (page_size * rule.pages) (text_inside r load rule s k known)
 
 text_lies : (r : State) (load : Loading) (rule : ModuleRule) → IsSound r → HoldsModule r.rules r.approved r.loaded r.held load → slice_get r.rules.modules load.about.id ≡ Some rule
@@ -49,7 +49,7 @@ text_lies r load rule s k known =
 
 -- ---- the decision
 
-measured_same : (text : List ℕ) (pages : ℕ) (rule : ModuleRule) → length (masked_text text rule.sites) ≡ 4096 * pages → measure (masked_text text rule.sites) ≡ joined_digests (page_digests pages (masked_text text rule.sites))
+measured_same : (text : List ℕ) (pages : ℕ) (rule : ModuleRule) → length (masked_text text rule.sites) ≡ page_size * pages → measure (masked_text text rule.sites) ≡ joined_digests (page_digests pages (masked_text text rule.sites))
 unfolding measure
 measured_same text pages rule size =
     let n : length (masked_text text rule.sites) / page_size ≡ pages = omega arith in
@@ -96,15 +96,15 @@ decision_mirrors o r h hart c load at k none =
 -- ---- a page turn
 
 -- a page of the text is the page of RAM
-page_there : (ram : List ℕ) (from n pages : ℕ) → from % 4096 ≡ 0 → n < pages → page_bytes (part ram from (page_size * pages)) n ≡ page_bytes ram (from / 4096 + n)
+page_there : (ram : List ℕ) (from n pages : ℕ) → from % page_size ≡ 0 → n < pages → page_bytes (part ram from (page_size * pages)) n ≡ page_bytes ram (from / page_size + n)
 page_there ram from n pages aligned less =
-    let place : from + page_size * n ≡ page_size * (from / 4096 + n) = omega arith in
+    let place : from + page_size * n ≡ page_size * (from / page_size + n) = omega arith in
     part_of_part ram from (page_size * pages) (page_size * n) page_size (omega arith) ∙ ap (λ (at : ℕ). part ram at page_size) place
 
 counted_left : (pages left : ℕ) → suc left ≤ pages → pages - left ≡ suc (pages - suc left)
 counted_left pages left least = omega arith
 
-page_room : (pages left : ℕ) → suc left ≤ pages → 4096 * (pages - suc left) + 4096 ≤ 4096 * pages
+page_room : (pages left : ℕ) → suc left ≤ pages → page_size * (pages - suc left) + page_size ≤ page_size * pages
 page_room pages left least = omega arith
 
 page_less : (pages left : ℕ) → suc left ≤ pages → pages - suc left < pages
@@ -112,16 +112,16 @@ page_less pages left least = omega arith
 
 -- what is kept of a load, with one page more
 pub kept_next : (rules : Rules) (ram : List ℕ) (load : Loading) (left : ℕ) (rule : ModuleRule) → IsTrue (rules_within rules) → slice_get rules.modules load.about.id ≡ Some rule
-    → ram_place load.about.gpa % 4096 ≡ 0 → ram_place load.about.gpa + page_size * rule.pages ≤ length ram → load.left ≡ suc left → load.left ≤ rule.pages
+    → ram_place load.about.gpa % page_size ≡ 0 → ram_place load.about.gpa + page_size * rule.pages ≤ length ram → load.left ≡ suc left → load.left ≤ rule.pages
     → load_kept_by rules ram (record load { left = left }) (Some rule) ≡ load_counted rules ram (load_kept_by rules ram load (Some rule)) left (Some rule)
 unfolding load_kept_by load_counted page_counted kept_digests kept_answer
 kept_next rules ram load left rule within known aligned inside more few =
     let text : List ℕ = module_text ram load.about rule.pages in
     let n : ℕ = rule.pages - suc left in
     let least : suc left ≤ rule.pages = subst (λ (m : ℕ). m ≤ rule.pages) more few in
-    let size : length text ≡ 4096 * rule.pages = length_part ram (ram_place load.about.gpa) (page_size * rule.pages) inside in
+    let size : length text ≡ page_size * rule.pages = length_part ram (ram_place load.about.gpa) (page_size * rule.pages) inside in
     let all : AllLieIn (length text) rule.sites = subst (λ (m : ℕ). AllLieIn m rule.sites) (sym size) (rule_lies rules load.about.id rule within known) in
-    let room : 4096 * n + 4096 ≤ length text = rw size (page_room rule.pages left least) in
+    let room : page_size * n + page_size ≤ length text = rw size (page_room rule.pages left least) in
     let page : page_bytes text n ≡ page_bytes ram (page_of load.about.gpa + n) = page_there ram (ram_place load.about.gpa) n rule.pages aligned (page_less rule.pages left least) in
     let old : rule.pages - load.left ≡ n = ap (λ (m : ℕ). rule.pages - m) more in
     let digests : page_digests (rule.pages - left) (masked_text text rule.sites) ≡ page_digests (rule.pages - load.left) (masked_text text rule.sites) ++ page_digest (masked_text (page_bytes ram (page_of load.about.gpa + n)) (page_sites n rule.sites)) ∷ [] =

@@ -55,7 +55,7 @@ not_free_by true b = refl
 not_free_by false true = refl
 not_free_by false false = refl
 
-beyond : (place n ram_pages page : ℕ) → place + 4096 * n ≤ 4096 * ram_pages → page < place / 4096 + n → ram_pages ≤ page → ⊥
+beyond : (place n ram_pages page : ℕ) → place + page_size * n ≤ page_size * ram_pages → page < place / page_size + n → ram_pages ≤ page → ⊥
 beyond place n ram_pages page inside below past = omega arith
 
 not_held_past : (r : State) (x : Option Loading) (page : ℕ) → IsSoundLoad r.rules r.approved r.loaded r.held x → r.rules.ram_pages ≤ page → has_number r.held page ≡ false
@@ -72,7 +72,7 @@ protected_same r page s = elim (lt_or_le page r.rules.ram_pages) [
   | inr past ↦ ap (λ (p : Protection). not (is_free p)) (past_page r page past) ∙ rw (not_approved r page s past, not_held_past r r.loading page s.load past) refl
 ]
 
-approved_by : (a b : Bool) → is_approved (protection_by a b) ≡ a
+pub approved_by : (a b : Bool) → is_approved (protection_by a b) ≡ a
 unfolding protection_by
 approved_by true b = refl
 approved_by false true = refl

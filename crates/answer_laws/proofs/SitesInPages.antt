@@ -14,45 +14,42 @@ use Rattle.sv_types.specs.declared.module.Site.{Site}
 use Rattle.sv_types.specs.declared.policy.Export.{Export}
 use Rattle.processor_laws.proofs.ByteLemmas.{length_low_bytes, length_overwrite, length_write_word, length_before, part_before, part_after, overwrite_behind, overwrite_in_front, word_in_page_bytes}
 use Rattle.machine_model.specs.HostExits.{moved_site, is_site_in, page_sites}
-use Rattle.reference.specs.Relocations.{field_of, field_width, field_bits, field_word, clear_field, masked_text, field_right, fields_right, site_value}
-use Rattle.reference.proofs.FieldWidths.{width_by, sizes}
+use Rattle.reference.specs.Relocations.{field_of, field_bits, width_of, field_word, clear_field, masked_text, field_right, fields_right, site_value, cleared_value}
+use Rattle.reference.proofs.FieldWidths.{sizes}
 use Rattle.sv_types.proofs.TruthValues.{and_first, and_second, and_swap}
 use Rattle.sv_types.proofs.PolicyLimits.{rule_within}
 
 -- ---- where fields lie
 
-abbrev pub width_of : Site → ℕ
-width_of site = field_width (field_of site.kind)
-
 pub record LiesIn (bytes : ℕ) (site : Site) : Type 0 where
   pub below : site.offset < bytes
   pub inside : site.offset + width_of site ≤ bytes
-  pub whole : site.offset % 4096 + width_of site ≤ 4096
+  pub whole : site.offset % page_size + width_of site ≤ page_size
 
 abbrev pub AllLieIn : ℕ → List Site → Type 0
 AllLieIn bytes [] = Unit {0}
 AllLieIn bytes (site ∷ sites) = LiesIn bytes site × AllLieIn bytes sites
 
-lies_four : (pages : ℕ) (site : Site) → width_of site ≡ 4 → site.offset % 4 ≡ 0 → site.offset < 4096 * pages → LiesIn (4096 * pages) site
+lies_four : (pages : ℕ) (site : Site) → width_of site ≡ 4 → site.offset % 4 ≡ 0 → site.offset < page_size * pages → LiesIn (page_size * pages) site
 lies_four pages site w aligned below = record { below = below; inside = rw w (omega arith); whole = rw w (grind arith) }
 
-lies_eight : (pages : ℕ) (site : Site) → width_of site ≡ 8 → site.offset % 8 ≡ 0 → site.offset < 4096 * pages → LiesIn (4096 * pages) site
+lies_eight : (pages : ℕ) (site : Site) → width_of site ≡ 8 → site.offset % 8 ≡ 0 → site.offset < page_size * pages → LiesIn (page_size * pages) site
 lies_eight pages site w aligned below = record { below = below; inside = rw w (omega arith); whole = rw w (grind arith) }
 
-lies_by : (pages : ℕ) (site : Site) (size : ℕ) → (size ≡ 4) ⊎ (size ≡ 8) → width_of site ≡ size → site.offset % size ≡ 0 → site.offset < 4096 * pages → LiesIn (4096 * pages) site
+lies_by : (pages : ℕ) (site : Site) (size : ℕ) → (size ≡ 4) ⊎ (size ≡ 8) → width_of site ≡ size → site.offset % size ≡ 0 → site.offset < page_size * pages → LiesIn (page_size * pages) site
 lies_by pages site size (inl four) w aligned below = lies_four pages site (w ∙ four) (subst (λ (n : ℕ). site.offset % n ≡ 0) four aligned) below
 lies_by pages site size (inr eight) w aligned below = lies_eight pages site (w ∙ eight) (subst (λ (n : ℕ). site.offset % n ≡ 0) eight aligned) below
 
-lies : (pages exports : ℕ) (site : Site) → site_within pages exports site ≡ true → LiesIn (4096 * pages) site
+lies : (pages exports : ℕ) (site : Site) → site_within pages exports site ≡ true → LiesIn (page_size * pages) site
 lies pages exports site e =
     let a = and_first (place_within pages site.offset && is_aligned site.kind site.offset && base_within exports site.base) (anchor_within pages site.kind site.offset site.anchor) e in
     let b = and_first (place_within pages site.offset && is_aligned site.kind site.offset) (base_within exports site.base) a in
     let d = and_first (place_within pages site.offset) (is_aligned site.kind site.offset) b in
     let aligned = and_second (place_within pages site.offset) (is_aligned site.kind site.offset) b in
-    let lower = and_second (site.offset % 4 == 0) (nat_lt site.offset (4096 * pages)) d in
-    lies_by pages site (site_size site.kind) (sizes site.kind) (width_by site.kind) (eqb-true (site.offset % site_size site.kind) 0 aligned) (grind (arith, nat_tests))
+    let lower = and_second (site.offset % 4 == 0) (nat_lt site.offset (page_size * pages)) d in
+    lies_by pages site (site_size site.kind) (sizes site.kind) refl (eqb-true (site.offset % site_size site.kind) 0 aligned) (grind (arith, nat_tests))
 
-all_lie : (pages exports : ℕ) (before sites : List Site) → each_within (next_site_within pages exports) before sites ≡ true → AllLieIn (4096 * pages) sites
+all_lie : (pages exports : ℕ) (before sites : List Site) → each_within (next_site_within pages exports) before sites ≡ true → AllLieIn (page_size * pages) sites
 all_lie pages exports before [] e = tt
 all_lie pages exports before (site ∷ sites) e =
     let first = and_first (next_site_within pages exports before site) (each_within (next_site_within pages exports) (before ++ site ∷ []) sites) e in (
@@ -61,7 +58,7 @@ all_lie pages exports before (site ∷ sites) e =
     )
 
 -- each field of a module of the policy lies in one page
-pub rule_lies : (rules : Rules) (i : ℕ) (rule : ModuleRule) → IsTrue (rules_within rules) → slice_get rules.modules i ≡ Some rule → AllLieIn (4096 * rule.pages) rule.sites
+pub rule_lies : (rules : Rules) (i : ℕ) (rule : ModuleRule) → IsTrue (rules_within rules) → slice_get rules.modules i ≡ Some rule → AllLieIn (page_size * rule.pages) rule.sites
 rule_lies rules i rule within found = all_lie rule.pages (length rules.exports) [] rule.sites (rule_within rules i rule within found).1
 
 -- ---- digests
@@ -78,53 +75,50 @@ digest_more (suc n) bytes =
 -- ---- clearing, page by page
 
 -- what is written inside a page
-inside_page : (text bytes : List ℕ) (n k : ℕ) → 4096 * n + 4096 ≤ length text → k + length bytes ≤ 4096
-    → page_bytes (overwrite text (4096 * n + k) bytes) n ≡ overwrite (page_bytes text n) k bytes
+inside_page : (text bytes : List ℕ) (n k : ℕ) → page_size * n + page_size ≤ length text → k + length bytes ≤ page_size
+    → page_bytes (overwrite text (page_size * n + k) bytes) n ≡ overwrite (page_bytes text n) k bytes
 inside_page text bytes n k room fits =
-    let front : List ℕ = take (4096 * n) text in
-    let rest : List ℕ = drop (4096 * n) text in
-    let size : length front ≡ 4096 * n = length_before text (4096 * n) (omega arith) in
-    let left = length-drop (4096 * n) text in
-    let page : List ℕ = take 4096 rest in
-    let full : length page ≡ 4096 = length_before rest 4096 (omega arith) in
-    let whole : overwrite text (4096 * n + k) bytes ≡ front ++ overwrite rest k bytes =
-    subst (λ (l : List ℕ). overwrite l (4096 * n + k) bytes ≡ front ++ overwrite rest k bytes) (take-append-drop (4096 * n) text)
+    let front : List ℕ = take (page_size * n) text in
+    let rest : List ℕ = drop (page_size * n) text in
+    let size : length front ≡ page_size * n = length_before text (page_size * n) (omega arith) in
+    let left = length-drop (page_size * n) text in
+    let page : List ℕ = take page_size rest in
+    let full : length page ≡ page_size = length_before rest page_size (omega arith) in
+    let whole : overwrite text (page_size * n + k) bytes ≡ front ++ overwrite rest k bytes =
+    subst (λ (l : List ℕ). overwrite l (page_size * n + k) bytes ≡ front ++ overwrite rest k bytes) (take-append-drop (page_size * n) text)
     (subst (λ (m : ℕ). overwrite (front ++ rest) (m + k) bytes ≡ front ++ overwrite rest k bytes) size (overwrite_behind front rest bytes k)) in
-    let split : overwrite rest k bytes ≡ overwrite page k bytes ++ drop 4096 rest =
-    subst (λ (l : List ℕ). overwrite l k bytes ≡ overwrite page k bytes ++ drop 4096 rest) (take-append-drop 4096 rest)
-    (overwrite_in_front page (drop 4096 rest) bytes k (rw full fits)) in
+    let split : overwrite rest k bytes ≡ overwrite page k bytes ++ drop page_size rest =
+    subst (λ (l : List ℕ). overwrite l k bytes ≡ overwrite page k bytes ++ drop page_size rest) (take-append-drop page_size rest)
+    (overwrite_in_front page (drop page_size rest) bytes k (rw full fits)) in
     ap (λ (l : List ℕ). page_bytes l n) whole
-    ∙ ap (take 4096) (drop_at front (overwrite rest k bytes) (4096 * n) size ∙ split)
-    ∙ take_at (overwrite page k bytes) (drop 4096 rest) 4096 (length_overwrite page bytes k (rw full fits) ∙ full)
+    ∙ ap (take page_size) (drop_at front (overwrite rest k bytes) (page_size * n) size ∙ split)
+    ∙ take_at (overwrite page k bytes) (drop page_size rest) page_size (length_overwrite page bytes k (rw full fits) ∙ full)
 
 -- the field of a page's word is that of the text's
-same_word : (text : List ℕ) (n : ℕ) (site : Site) → (4096 * n) + (site.offset - 4096 * n) ≡ site.offset → site.offset - 4096 * n + width_of site ≤ 4096
+same_word : (text : List ℕ) (n : ℕ) (site : Site) → (page_size * n) + (site.offset - page_size * n) ≡ site.offset → site.offset - page_size * n + width_of site ≤ page_size
     → field_word (page_bytes text n) (moved_site n site) ≡ field_word text site
 same_word text n site back fits =
-    word_in_page_bytes text n (site.offset - 4096 * n) (width_of site) fits ∙ ap (λ (at : ℕ). word text at (width_of site)) back
+    word_in_page_bytes text n (site.offset - page_size * n) (width_of site) fits ∙ ap (λ (at : ℕ). word text at (width_of site)) back
 
-abbrev pub cleared_value : List ℕ → Site → ℕ
-cleared_value text site = without (field_word text site) (field_bits (field_of site.kind))
-
-clear_here : (text : List ℕ) (n : ℕ) (site : Site) → 4096 * n + 4096 ≤ length text → 4096 * n + (site.offset - 4096 * n) ≡ site.offset → site.offset - 4096 * n + width_of site ≤ 4096
+clear_here : (text : List ℕ) (n : ℕ) (site : Site) → page_size * n + page_size ≤ length text → page_size * n + (site.offset - page_size * n) ≡ site.offset → site.offset - page_size * n + width_of site ≤ page_size
     → page_bytes (clear_field text site) n ≡ clear_field (page_bytes text n) (moved_site n site)
 unfolding clear_field
 clear_here text n site room back fits =
     let size : length (low_bytes (width_of site) (cleared_value text site)) ≡ width_of site = length_low_bytes (width_of site) (cleared_value text site) in
     ap (λ (at : ℕ). page_bytes (overwrite text at (low_bytes (width_of site) (cleared_value text site))) n) (sym back)
-    ∙ inside_page text (low_bytes (width_of site) (cleared_value text site)) n (site.offset - 4096 * n) room (rw size fits)
-    ∙ ap (λ (w : ℕ). write_word (page_bytes text n) (site.offset - 4096 * n) (width_of site) (without w (field_bits (field_of site.kind)))) (sym (same_word text n site back fits))
+    ∙ inside_page text (low_bytes (width_of site) (cleared_value text site)) n (site.offset - page_size * n) room (rw size fits)
+    ∙ ap (λ (w : ℕ). write_word (page_bytes text n) (site.offset - page_size * n) (width_of site) (without w (field_bits (field_of site.kind)))) (sym (same_word text n site back fits))
 
-clear_there : (text : List ℕ) (n : ℕ) (site : Site) → LiesIn (length text) site → (site.offset / 4096 == n) ≡ false → page_bytes (clear_field text site) n ≡ page_bytes text n
+clear_there : (text : List ℕ) (n : ℕ) (site : Site) → LiesIn (length text) site → (site.offset / page_size == n) ≡ false → page_bytes (clear_field text site) n ≡ page_bytes text n
 unfolding clear_field
 clear_there text n site k other =
     let size : length (low_bytes (width_of site) (cleared_value text site)) ≡ width_of site = length_low_bytes (width_of site) (cleared_value text site) in
     let inside = k.inside in
     let whole = k.whole in
-    let apart : (site.offset / 4096 < n) ⊎ (n < site.offset / 4096) = grind (arith, nat_tests) in
+    let apart : (site.offset / page_size < n) ⊎ (n < site.offset / page_size) = grind (arith, nat_tests) in
     elim apart [
-      | inl before ↦ part_after text (low_bytes (width_of site) (cleared_value text site)) site.offset (4096 * n) 4096 (rw size inside) (rw size (omega arith))
-      | inr behind ↦ part_before text (low_bytes (width_of site) (cleared_value text site)) site.offset (4096 * n) 4096 (rw size inside) (omega arith)
+      | inl before ↦ part_after text (low_bytes (width_of site) (cleared_value text site)) site.offset (page_size * n) page_size (rw size inside) (rw size (omega arith))
+      | inr behind ↦ part_before text (low_bytes (width_of site) (cleared_value text site)) site.offset (page_size * n) page_size (rw size inside) (omega arith)
     ]
 
 length_cleared : (text : List ℕ) (site : Site) → LiesIn (length text) site → length (clear_field text site) ≡ length text
@@ -138,21 +132,21 @@ length_masked text (site ∷ sites) all =
     let same = length_cleared text site all.0 in
     length_masked (clear_field text site) sites (subst (λ (n : ℕ). AllLieIn n sites) (sym same) all.1) ∙ same
 
-in_page : (n : ℕ) (site : Site) (bytes : ℕ) → LiesIn bytes site → (site.offset / 4096 == n) ≡ true → (4096 * n + (site.offset - 4096 * n) ≡ site.offset) × (site.offset - 4096 * n + width_of site ≤ 4096)
+in_page : (n : ℕ) (site : Site) (bytes : ℕ) → LiesIn bytes site → (site.offset / page_size == n) ≡ true → (page_size * n + (site.offset - page_size * n) ≡ site.offset) × (site.offset - page_size * n + width_of site ≤ page_size)
 in_page n site bytes k here =
-    let same : site.offset / 4096 ≡ n = eqb-true (site.offset / 4096) n here in
+    let same : site.offset / page_size ≡ n = eqb-true (site.offset / page_size) n here in
     let whole = k.whole in
     (omega arith, omega arith)
 
 -- a page of the cleared text is the page cleared
-pub page_masked : (text : List ℕ) (n : ℕ) (sites : List Site) → 4096 * n + 4096 ≤ length text → AllLieIn (length text) sites
+pub page_masked : (text : List ℕ) (n : ℕ) (sites : List Site) → page_size * n + page_size ≤ length text → AllLieIn (length text) sites
     → page_bytes (masked_text text sites) n ≡ masked_text (page_bytes text n) (page_sites n sites)
 unfolding masked_text page_sites
 page_masked text n [] room all = refl
 page_masked text n (site ∷ sites) room all =
     let same = length_cleared text site all.0 in
     let rest = page_masked (clear_field text site) n sites (rw same room) (subst (λ (m : ℕ). AllLieIn m sites) (sym same) all.1) in
-    rest ∙ elim (cases_Bool (site.offset / 4096 == n)) [
+    rest ∙ elim (cases_Bool (site.offset / page_size == n)) [
       | inl here ↦ let k = in_page n site (length text) all.0 here in
           ap (λ (page : List ℕ). masked_text page (page_sites n sites)) (clear_here text n site room k.0 k.1)
           ∙ ap (λ (b : Bool). masked_text (page_bytes text n) (if b then moved_site n site ∷ page_sites n sites else page_sites n sites)) (sym here)
@@ -163,7 +157,7 @@ page_masked text n (site ∷ sites) room all =
 
 -- ---- judging, page by page
 
-same_right : (exports : List Export) (bases : Bases) (text : List ℕ) (n : ℕ) (site : Site) → LiesIn (length text) site → (site.offset / 4096 == n) ≡ true
+same_right : (exports : List Export) (bases : Bases) (text : List ℕ) (n : ℕ) (site : Site) → LiesIn (length text) site → (site.offset / page_size == n) ≡ true
     → field_right exports bases (page_bytes text n) (moved_site n site) ≡ field_right exports bases text site
 unfolding field_right site_value
 same_right exports bases text n site k here =
@@ -221,7 +215,7 @@ right_more exports bases text n (site ∷ sites) all =
     ∙ rw (lifted exports bases text (below n site) site (filter (below n) sites), lifted exports bases (page_bytes text n) (is_site_in n site) (moved_site n site) (page_sites n sites)) refl
 
 -- of a text all sites lie before its end
-pub all_below : (pages : ℕ) (sites : List Site) → AllLieIn (4096 * pages) sites → filter (below pages) sites ≡ sites
+pub all_below : (pages : ℕ) (sites : List Site) → AllLieIn (page_size * pages) sites → filter (below pages) sites ≡ sites
 all_below pages [] all = refl
 all_below pages (site ∷ sites) all =
     let lower = all.0.below in

@@ -1,7 +1,7 @@
 -- LR, SC and atomic operations.
 use Rattle.std.proofs.Common.{◌≡◌, ℕ, ◌+◌, ◌%◌, ◌/◌, length, refl, sym, subst, Bool, true, false, arith}
 use Rattle.std.specs.Prelude.{Some, None, if◌then◌else◌, Ok, ◌==◌}
-use Rattle.processor.specs.Bytes.{word, write_word, low_bytes, ram_place, in_ram}
+use Rattle.processor.specs.Bytes.{word, write_word, low_bytes, ram_place, in_ram, page_size}
 use Rattle.processor.specs.Effects.{amo_value}
 use Rattle.processor.specs.Hardware.{Attempted, with_region}
 use Rattle.processor.specs.HardwareMemory.{after_load_reserved, after_store_conditional, after_amo, fault_exception, implicit_read, with_reservation, retire_with, write_at, behind_write, aligned_translation}
@@ -64,10 +64,10 @@ load_exit r h hart address htval htinst pc word = rw word.same (load_exit_by r h
 
 -- ---- LR
 
-reserved_behind : (t p : ℕ) → t % 4096 ≡ 0 → reserved_at (t + p) ≡ t + reserved_at p
+reserved_behind : (t p : ℕ) → t % page_size ≡ 0 → reserved_at (t + p) ≡ t + reserved_at p
 reserved_behind t p whole = grind arith
 
-reserves_there : (o : Unseen) (r : State) (hart : Hart) (c : HypervisorRegisters) (rd width p : ℕ) → length o.tables % 4096 ≡ 0
+reserves_there : (o : Unseen) (r : State) (hart : Hart) (c : HypervisorRegisters) (rd width p : ℕ) → length o.tables % page_size ≡ 0
     → with_region (region_at o r) (retire_with (with_reservation (core_at o c hart) (Some (reserved_at (length o.tables + p)))) rd
     (loaded_value true width (host_word (region_at o r) (length o.tables + p) width)) None)
     ≡ record {
@@ -110,14 +110,14 @@ store_exit_by r h hart address htval htinst pc (Effect.StoreConditional rd a w v
 store_exit_by r h hart address htval htinst pc (Effect.Amo rd a w op v) atomic = refl
 store_exit_by r h hart address htval htinst pc e atomic = absurd atomic
 
-store_exit : (r : State) (h : ℕ) (hart : Hart) (address gpa htinst pc : ℕ) → IsAtomicWord htinst hart → gpa % 4096 ≡ address % 4096 → in_ram r.ram gpa 1 ≡ false
+store_exit : (r : State) (h : ℕ) (hart : Hart) (address gpa htinst pc : ℕ) → IsAtomicWord htinst hart → gpa % page_size ≡ address % page_size → in_ram r.ram gpa 1 ≡ false
     → exception r h hart Cause.StoreAccess address
     ≡ serve_plain r h hart (record { cause = ExitCause.Exception Cause.GuestStore; pc = pc; stval = address; htval = gpa / 4; htinst = htinst })
 unfolding serve_plain plain_answer write_answer
 store_exit r h hart address gpa htinst pc word same outside =
     rw (word.explicit, gpa_back gpa address same, outside, word.same) (store_exit_by r h hart address (gpa / 4) htinst pc word.effect word.atomic)
 
-guarded_exit : (r : State) (h : ℕ) (hart : Hart) (address gpa htinst pc : ℕ) → IsAtomicWord htinst hart → gpa % 4096 ≡ address % 4096 → in_ram r.ram gpa 1 ≡ true
+guarded_exit : (r : State) (h : ℕ) (hart : Hart) (address gpa htinst pc : ℕ) → IsAtomicWord htinst hart → gpa % page_size ≡ address % page_size → in_ram r.ram gpa 1 ≡ true
     → write_stopped r h hart gpa
     ≡ serve_plain r h hart (record { cause = ExitCause.Exception Cause.GuestStore; pc = pc; stval = address; htval = gpa / 4; htinst = htinst })
 unfolding serve_plain plain_answer write_answer exit_answered

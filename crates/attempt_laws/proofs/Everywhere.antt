@@ -1,5 +1,6 @@
 -- A first stage keeps an address's place in its page, for every virtual address, of 64 bits or not.
 use Rattle.std.proofs.Common.{◌≡◌, ℕ, ◌%◌, ◌/◌, ◌^◌, refl, Bool, true, false, lit≤}
+use Rattle.processor.specs.Bytes.{page_size}
 use Rattle.std.specs.Prelude.{Option, if◌then◌else◌, ◌==◌}
 use Rattle.processor.specs.Translation.{Destination, At, PageFault, Unreadable, first_stage, Settings, walk, permits_access, sv39_indices, root_of, is_canonical}
 use Rattle.processor.specs.declared.access.Access.{Access}
@@ -7,7 +8,7 @@ use Rattle.processor.specs.declared.mode.Mode.{Mode}
 use Rattle.processor_laws.proofs.Walks.{Fits, walk_fits}
 
 abbrev pub Keeps : ℕ → Destination → Type 0
-Keeps a (At found) = found % 4096 ≡ a % 4096
+Keeps a (At found) = found % page_size ≡ a % page_size
 Keeps a PageFault = Unit {0}
 Keeps a (Unreadable entry) = Unit {0}
 

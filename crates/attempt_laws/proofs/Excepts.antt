@@ -18,7 +18,7 @@ use Rattle.reference.specs.Counting.{count, count_trap}
 use Rattle.reference.specs.Trapping.{hart_at_trap, trap_from, exception}
 use Rattle.machine_model.specs.Served.{seen_of, serve_exit, exit_answer, answer_in, plain_answer, exit_answered, is_fetch_exit}
 use Rattle.attempt_laws.proofs.Plain.{serve_plain}
-use Rattle.machine_model.specs.StandsFor.{Unseen, host_core, kernel_hedeleg}
+use Rattle.machine_model.specs.StandsFor.{Unseen, host_core, kernel_hedeleg, delegated_exceptions, entry_exceptions}
 use Rattle.attempt_laws.specs.Agree.{IsAt, Agrees, QuietTo, region_at, core_at}
 use Rattle.attempt_laws.proofs.Stays.{GoesOn, traps}
 use Rattle.reference.specs.Turn.{bound_entry}
@@ -86,7 +86,7 @@ exit_outside r h hart exit none = serve_outside r h hart exit (bound_entry r.rul
 -- ---- in user mode
 
 -- what SecVisor makes of a plain exception's exit
-pub plain_served : (r : State) (h : ℕ) (hart : Hart) (cause : Cause) (tval pc : ℕ) → bit 0xB1FF (cause_number cause) ≡ true
+pub plain_served : (r : State) (h : ℕ) (hart : Hart) (cause : Cause) (tval pc : ℕ) → bit delegated_exceptions (cause_number cause) ≡ true
     → exception r h hart cause tval ≡ serve_plain r h hart (exit_of (plain_exception cause tval) pc)
 unfolding serve_plain plain_answer exit_answered
 plain_served r h hart Cause.InstrMisaligned tval pc e = refl
@@ -154,10 +154,10 @@ exception_agrees_in o r h hart c cause tval User at user delegated served =
     (user_raises (length o.tables) c hart (plain_exception cause tval) user) served
 
 -- what is delegated in an entry is delegated in kernel mode too, and is no fetch's
-delegated_by : (entry : Option ℕ) (cause : Cause) → bit 0xA1FF (cause_number cause) ≡ true → bit (kernel_hedeleg entry) (cause_number cause) ≡ true
+delegated_by : (entry : Option ℕ) (cause : Cause) → bit entry_exceptions (cause_number cause) ≡ true → bit (kernel_hedeleg entry) (cause_number cause) ≡ true
 delegated_by None cause e = delegated_outside cause e
   where
-    delegated_outside : (cause : Cause) → bit 0xA1FF (cause_number cause) ≡ true → bit 0xB1FF (cause_number cause) ≡ true
+    delegated_outside : (cause : Cause) → bit entry_exceptions (cause_number cause) ≡ true → bit delegated_exceptions (cause_number cause) ≡ true
     delegated_outside Cause.InstrMisaligned e = refl
     delegated_outside Cause.InstrAccess e = refl
     delegated_outside Cause.Illegal e = refl
@@ -177,7 +177,7 @@ delegated_by None cause e = delegated_outside cause e
     delegated_outside Cause.GuestStore e = cc
 delegated_by (Some i) cause e = e
 
-no_fetch : (cause : Cause) (tval pc : ℕ) → bit 0xA1FF (cause_number cause) ≡ true → is_fetch_exit (exit_of (plain_exception cause tval) pc) ≡ false
+no_fetch : (cause : Cause) (tval pc : ℕ) → bit entry_exceptions (cause_number cause) ≡ true → is_fetch_exit (exit_of (plain_exception cause tval) pc) ≡ false
 no_fetch Cause.InstrMisaligned tval pc e = refl
 no_fetch Cause.InstrAccess tval pc e = refl
 no_fetch Cause.Illegal tval pc e = refl
@@ -197,7 +197,7 @@ no_fetch Cause.Virtual tval pc e = refl
 no_fetch Cause.GuestStore tval pc e = refl
 
 pub exception_agrees : (o : Unseen) (r : State) (h : ℕ) (hart : Hart) (c : HypervisorRegisters) (cause : Cause) (tval : ℕ) → IsAt o r h hart c
-    → bit 0xA1FF (cause_number cause) ≡ true
+    → bit entry_exceptions (cause_number cause) ≡ true
     → Agrees o r h hart c (with_region (region_at o r) (raise (core_at o c hart) (plain_exception cause tval))) (exception r h hart cause tval)
 exception_agrees o r h hart c cause tval at delegated =
     exception_agrees_in o r h hart c cause tval hart.mode at refl (delegated_by hart.entry cause delegated)
@@ -229,17 +229,17 @@ leaves_by o r h hart c e next not_delegated served =
 
 -- what kernel mode leaves to SecVisor besides fetches
 abbrev pub is_left : Cause → Bool
-is_left cause = not (bit 0xB1FF (cause_number cause)) && not (cause_number cause == 20)
+is_left cause = not (bit delegated_exceptions (cause_number cause)) && not (cause_number cause == 20)
 
 left_by : (entry : Option ℕ) (cause : Cause) → is_left cause ≡ true → bit (kernel_hedeleg entry) (cause_number cause) ≡ false
-left_by None cause e = left_outside (bit 0xB1FF (cause_number cause)) (not (cause_number cause == 20)) e
+left_by None cause e = left_outside (bit delegated_exceptions (cause_number cause)) (not (cause_number cause == 20)) e
   where
     left_outside : (a b : Bool) → (not a && b) ≡ true → a ≡ false
     left_outside true b e = cc
     left_outside false b e = refl
 left_by (Some i) cause e = left_inside cause e
   where
-    left_inside : (cause : Cause) → is_left cause ≡ true → bit 0xA1FF (cause_number cause) ≡ false
+    left_inside : (cause : Cause) → is_left cause ≡ true → bit entry_exceptions (cause_number cause) ≡ false
     left_inside Cause.InstrMisaligned e = cc
     left_inside Cause.InstrAccess e = cc
     left_inside Cause.Illegal e = cc

@@ -1,7 +1,8 @@
 -- A fetch of the hardware's is the reference machine's: in kernel mode it reads the approved bytes.
-use Rattle.std.proofs.Common.{◌≡◌, ℕ, ◌+◌, ◌*◌, ◌%◌, ◌/◌, ◌≤◌, inl, inr, List, length, refl, sym, ◌∙◌, ap, subst, Bool, true, false, ◌&&◌, arith}
+use Rattle.std.proofs.Common.{◌≡◌, ℕ, ◌+◌, ◌*◌, ◌%◌, ◌/◌, inl, inr, List, length, refl, sym, ◌∙◌, ap, subst, Bool, true, false, ◌&&◌, arith}
+use Rattle.sv_types.proofs.InPages.{word_in_page}
 use Rattle.std.specs.Prelude.{Option, Some, None, is_some, if◌then◌else◌, ◌==◌}
-use Rattle.processor.specs.Bytes.{word, ram_place, page_of, place_in_page, in_ram}
+use Rattle.processor.specs.Bytes.{word, ram_place, page_of, place_in_page, in_ram, page_size}
 use Rattle.processor.specs.Hardware.{Attempted, with_region, raise, plain_exception, exit_of}
 use Rattle.processor.specs.Bits.{bit}
 use Rattle.processor.specs.HardwareAttempt.{after_fetch, after_word}
@@ -64,13 +65,13 @@ unfolding exit_answered fetch_answer
 implicit_in r h hart htval Kernel = refl
 implicit_in r h hart htval User = refl
 
-outside_in : (r : State) (h : ℕ) (hart : Hart) (gpa : ℕ) (mode : Mode) → gpa % 4096 ≡ hart.pc % 4096 → in_ram r.ram gpa 4 ≡ false
+outside_in : (r : State) (h : ℕ) (hart : Hart) (gpa : ℕ) (mode : Mode) → gpa % page_size ≡ hart.pc % page_size → in_ram r.ram gpa 4 ≡ false
     → exception r h hart Cause.InstrAccess hart.pc ≡ fetch_served r h hart mode (fetch_exit hart.pc (gpa / 4) 0)
 unfolding exit_answered fetch_answer
 outside_in r h hart gpa Kernel same outside = rw (gpa_back gpa hart.pc same, outside) refl
 outside_in r h hart gpa User same outside = refl
 
-stray_in : (r : State) (h : ℕ) (hart : Hart) (gpa : ℕ) → gpa % 4096 ≡ hart.pc % 4096 → in_ram r.ram gpa 4 ≡ true
+stray_in : (r : State) (h : ℕ) (hart : Hart) (gpa : ℕ) → gpa % page_size ≡ hart.pc % page_size → in_ram r.ram gpa 4 ≡ true
     → demote r h hart gpa ≡ fetch_served r h hart Kernel (fetch_exit hart.pc (gpa / 4) 0)
 unfolding exit_answered fetch_answer
 stray_in r h hart gpa same inside = rw (gpa_back gpa hart.pc same, inside) refl
@@ -100,7 +101,7 @@ abbrev pub TextAt : State → ℕ → Option (List ℕ) → Type 0
 TextAt r gpa text = (bytes : List ℕ) → text ≡ Some bytes → word bytes (place_in_page gpa) 4 ≡ word r.ram (ram_place gpa) 4
 
 at_place : (o : Unseen) (r : State) (h : ℕ) (hart : Hart) (c : HypervisorRegisters) (gpa : ℕ) (mode : Mode) (inside : Bool) (text : Option (List ℕ))
-    → IsAt o r h hart c → WordsAgree o r h hart c → hart.entry ≡ None → hart.mode ≡ mode → gpa % 4096 ≡ hart.pc % 4096 → in_ram r.ram gpa 4 ≡ inside → TextAt r gpa text
+    → IsAt o r h hart c → WordsAgree o r h hart c → hart.entry ≡ None → hart.mode ≡ mode → gpa % page_size ≡ hart.pc % page_size → in_ram r.ram gpa 4 ≡ inside → TextAt r gpa text
     → Agrees o r h hart c
     (after_fetch (region_at o r) (core_at o c hart) (lines_at r.devices h)
     (place_or_exception Access.Fetch hart.pc 0 (place_through gpa (if inside && fetches (sight_by mode None) (page_of gpa) (is_some text) then Some (length o.tables + ram_place gpa) else None))))
@@ -117,16 +118,13 @@ at_place o r h hart c gpa mode false text at words none e same inside kept =
 
 -- ---- the approved bytes
 
-room_behind : (p : ℕ) → p % 4 ≡ 0 → p % 4096 + 4 ≤ 4096
-room_behind p h = grind arith
-
-whole_place : (p : ℕ) → 4096 * (p / 4096) + p % 4096 ≡ p
+whole_place : (p : ℕ) → page_size * (p / page_size) + p % page_size ≡ p
 whole_place p = omega arith
 
 text_at : (r : State) (gpa : ℕ) → IsSound r → ram_place gpa % 4 ≡ 0 → TextAt r gpa (approved_bytes r.approved (page_of gpa))
 text_at r gpa sound aligned bytes e =
     ap (λ (xs : List ℕ). word xs (place_in_page gpa) 4) (sym (sound.text.same (page_of gpa) bytes e))
-    ∙ word_in_page_bytes r.ram (page_of gpa) (place_in_page gpa) 4 (room_behind (ram_place gpa) aligned)
+    ∙ word_in_page_bytes r.ram (page_of gpa) (place_in_page gpa) 4 (word_in_page (ram_place gpa) aligned)
     ∙ ap (λ (p : ℕ). word r.ram p 4) (whole_place (ram_place gpa))
 
 -- ---- outside of an entry, by where the pc leads
@@ -176,7 +174,7 @@ unfolding serve_exit exit_answer
 away_served r h hart entry exit gpa bound again is noted =
     away_answered r h hart gpa exit (hart.pc == entry.va) again noted ∙ sym (entry_by r h hart entry exit (bound_entry r.rules hart.entry) bound is)
 
-noted_by : (r : State) (pc gpa : ℕ) (inside : Bool) → gpa % 4096 ≡ pc % 4096 → in_ram r.ram gpa 4 ≡ inside
+noted_by : (r : State) (pc gpa : ℕ) (inside : Bool) → gpa % page_size ≡ pc % page_size → in_ram r.ram gpa 4 ≡ inside
     → (if inside then gpa else 0) ≡ exit_ram_gpa r.ram (fetch_exit pc (gpa / 4) 0)
 unfolding exit_ram_gpa
 noted_by r pc gpa inside same is = rw (gpa_back gpa pc same, is) refl
@@ -190,7 +188,7 @@ unfolding exit_ram_gpa
 noted_fault r pc = refl
 
 bound_away : (o : Unseen) (r : State) (h : ℕ) (hart : Hart) (c : HypervisorRegisters) (entry : Binding) (gpa : ℕ) (inside : Bool)
-    → bound_entry r.rules hart.entry ≡ Some entry → TurnsAgain r h hart → gpa % 4096 ≡ hart.pc % 4096 → in_ram r.ram gpa 4 ≡ inside
+    → bound_entry r.rules hart.entry ≡ Some entry → TurnsAgain r h hart → gpa % page_size ≡ hart.pc % page_size → in_ram r.ram gpa 4 ≡ inside
     → Agrees o r h hart c (guest_fetch_fault o r hart c gpa) (turned_away r h hart entry (if inside then gpa else 0))
 bound_away o r h hart c entry gpa inside bound again same is =
     leaves_by o r h hart c (fault_exception Access.Fetch hart.pc 0 (Fault.Guest gpa false)) (turned_away r h hart entry (if inside then gpa else 0)) (never_delegated hart.entry)
@@ -199,7 +197,7 @@ bound_away o r h hart c entry gpa inside bound again same is =
 -- whether the page is in RAM, approved, and the entry's
 bound_place : (o : Unseen) (r : State) (h : ℕ) (hart : Hart) (c : HypervisorRegisters) (entry : Binding) (gpa : ℕ) (inside : Bool) (text : Option (List ℕ)) (its : Bool)
     → IsAt o r h hart c → WordsAgree o r h hart c → bound_entry r.rules hart.entry ≡ Some entry → TurnsAgain r h hart
-    → gpa % 4096 ≡ hart.pc % 4096 → in_ram r.ram gpa 4 ≡ inside → TextAt r gpa text
+    → gpa % page_size ≡ hart.pc % page_size → in_ram r.ram gpa 4 ≡ inside → TextAt r gpa text
     → Agrees o r h hart c
     (after_fetch (region_at o r) (core_at o c hart) (lines_at r.devices h)
     (place_or_exception Access.Fetch hart.pc 0 (place_through gpa (if inside && is_some text && its then Some (length o.tables + ram_place gpa) else None))))

@@ -2,7 +2,7 @@
 use Rattle.std.proofs.Common.{◌≡◌, ℕ, ◌+◌, ◌*◌, ◌%◌, ◌/◌, length, refl, sym, ◌∙◌, subst, Bool, true, false, ◌&&◌, arith}
 use Rattle.std.specs.Prelude.{Some, None, if◌then◌else◌, Err, ◌==◌}
 use Rattle.std.proofs.lemmas.Bool.Decides.{nat_tests}
-use Rattle.processor.specs.Bytes.{word, ram_place}
+use Rattle.processor.specs.Bytes.{word, ram_place, page_size}
 use Rattle.processor.specs.Hardware.{with_region, plain_exception}
 use Rattle.processor.specs.HardwareMemory.{after_load, place_or_exception, fault_exception, implicit_read, retire_with, aligned_translation}
 use Rattle.processor.specs.HypervisorRegisters.{HypervisorRegisters}
@@ -39,7 +39,7 @@ pub record IsLoad (htinst : ℕ) (hart : Hart) (rd width : ℕ) (signed : Bool) 
   pub explicit : (htinst == implicit_read) ≡ false
 
 -- the two low bits of a guest-physical address are those of the virtual one
-pub gpa_back : (gpa va : ℕ) → gpa % 4096 ≡ va % 4096 → 4 * (gpa / 4) + va % 4 ≡ gpa
+pub gpa_back : (gpa va : ℕ) → gpa % page_size ≡ va % page_size → 4 * (gpa / 4) + va % 4 ≡ gpa
 gpa_back gpa va same = let low : va % 4 ≡ gpa % 4 = grind arith in rw low (grind arith)
 
 -- an entry of the first stage can't be read
@@ -51,7 +51,7 @@ unreadable_load r h hart address htval pc = refl
 
 -- no RAM is there
 device_served : (r : State) (h : ℕ) (hart : Hart) (rd address width : ℕ) (signed : Bool) (gpa htinst pc : ℕ)
-    → IsLoad htinst hart rd width signed → gpa % 4096 ≡ address % 4096
+    → IsLoad htinst hart rd width signed → gpa % page_size ≡ address % page_size
     → carry_out_device_load r h hart rd address width signed (device_load r.devices gpa width)
     ≡ serve_plain r h hart (record { cause = ExitCause.Exception Cause.GuestLoad; pc = pc; stval = address; htval = gpa / 4; htinst = htinst })
 unfolding serve_plain plain_answer exit_answered load_answer
@@ -60,7 +60,7 @@ device_served r h hart rd address width signed gpa htinst pc load same =
 
 -- over whether the page lies in RAM
 at_place : (o : Unseen) (r : State) (h : ℕ) (hart : Hart) (c : HypervisorRegisters) (rd address width : ℕ) (signed : Bool) (gpa htinst : ℕ) (inside : Bool)
-    → IsAt o r h hart c → IsLoad htinst hart rd width signed → gpa % 4096 ≡ address % 4096
+    → IsAt o r h hart c → IsLoad htinst hart rd width signed → gpa % page_size ≡ address % page_size
     → Agrees o r h hart c
     (with_region (region_at o r) (after_load (region_at o r) (core_at o c hart) rd width signed
     (place_or_exception Access.Load address htinst (place_through gpa (if inside && true then Some (length o.tables + ram_place gpa) else None)))))

@@ -1,5 +1,6 @@
 -- A write into a free page leaves what is kept of a load under way.
 use Rattle.std.proofs.Common.{◌≡◌, ℕ, zero, suc, ◌+◌, ◌*◌, ◌%◌, ◌/◌, ◌<◌, ◌≤◌, ◌⊎◌, inl, inr, List, length, refl, sym, ◌∙◌, ap, Bool, true, false, ◌||◌, arith}
+use Rattle.sv_types.proofs.InPages.{aligned_in_page}
 use Rattle.std.specs.Prelude.{Option, Some, None, option_map, ◌==◌, nat_le, slice_get, ◌&&◌}
 use Rattle.std.proofs.lemmas.Bool.Decides.{nat_tests}
 use Rattle.processor.specs.Bytes.{part, write_word, low_bytes, ram_base, ram_place, page_of, page_size}
@@ -33,16 +34,10 @@ elsewhere first (suc n) q e =
       | inr behind ↦ inr (omega arith)
     ]
 
-pub in_page : (width p : ℕ) → IsWidth width → p % width ≡ 0 → p % 4096 + width ≤ 4096
-in_page width p (inl one) aligned = rw one (grind arith)
-in_page width p (inr (inl two)) aligned = let e : p % 2 ≡ 0 = rw two at aligned in rw two (grind arith)
-in_page width p (inr (inr (inl four))) aligned = let e : p % 4 ≡ 0 = rw four at aligned in rw four (grind arith)
-in_page width p (inr (inr (inr eight))) aligned = let e : p % 8 ≡ 0 = rw eight at aligned in rw eight (grind arith)
-
-text_kept : (ram : List ℕ) (from n p width value : ℕ) → IsWidth width → p % width ≡ 0 → p + width ≤ length ram → from % 4096 ≡ 0
-    → (p / 4096 < from / 4096) ⊎ (from / 4096 + n ≤ p / 4096) → part ram from (page_size * n) ≡ part (write_word ram p width value) from (page_size * n)
+text_kept : (ram : List ℕ) (from n p width value : ℕ) → IsWidth width → p % width ≡ 0 → p + width ≤ length ram → from % page_size ≡ 0
+    → (p / page_size < from / page_size) ⊎ (from / page_size + n ≤ p / page_size) → part ram from (page_size * n) ≡ part (write_word ram p width value) from (page_size * n)
 text_kept ram from n p width value whole aligned inside page (inl before) =
-    let room = in_page width p whole aligned in
+    let room = aligned_in_page width p whole aligned in
     let size : length (low_bytes width value) ≡ width = length_low_bytes width value in
     let far : p + width ≤ from = omega arith in
     sym (part_after ram (low_bytes width value) p from (page_size * n) (rw size inside) (rw size far))
@@ -59,12 +54,12 @@ rule_kept r load ram None same = refl
 rule_kept r load ram (Some rule) same = rw same refl
 
 loading_stays : (r : State) (x : Option Loading) (p width value : ℕ) → IsSoundLoad r.rules r.approved r.loaded r.held x → IsWidth width → p % width ≡ 0 → p + width ≤ length r.ram
-    → has_number r.held (p / 4096) ≡ false
+    → has_number r.held (p / page_size) ≡ false
     → option_map (load_kept r.rules r.ram) x ≡ option_map (load_kept r.rules (write_word r.ram p width value)) x
 loading_stays r None p width value sound whole aligned inside free = refl
 loading_stays r (Some load) p width value sound whole aligned inside free =
     let n : ℕ = pages_in_rule (slice_get r.rules.modules load.about.id) in
-    let apart = elsewhere (page_of load.about.gpa) n (p / 4096) (rw sound.pages at free) in
+    let apart = elsewhere (page_of load.about.gpa) n (p / page_size) (rw sound.pages at free) in
     ap Some (rule_kept r load (write_word r.ram p width value) (slice_get r.rules.modules load.about.id)
     (text_kept r.ram (ram_place load.about.gpa) n p width value whole aligned inside sound.aligned apart))
 
@@ -72,9 +67,9 @@ pub free_keeps : (r : State) (width value : ℕ) → IsSound r → IsWidth width
 unfolding is_protected
 free_keeps r width value sound whole gpa inside free aligned =
     let p : ℕ = ram_place gpa in
-    let tests : (nat_le ram_base gpa && nat_le (p + width) (4096 * r.rules.ram_pages)) ≡ true =
+    let tests : (nat_le ram_base gpa && nat_le (p + width) (page_size * r.rules.ram_pages)) ≡ true =
     ap (λ (b : Bool). nat_le ram_base gpa && b) (whole_access width p r.rules.ram_pages whole aligned) ∙ inside in
-    let fits : p + width ≤ 4096 * r.rules.ram_pages = grind (arith, nat_tests) in
+    let fits : p + width ≤ page_size * r.rules.ram_pages = grind (arith, nat_tests) in
     let room : p + width ≤ length r.ram = rw sound.size fits in (
       room,
       loading_stays r r.loading p width value sound.load whole aligned room

@@ -2,7 +2,7 @@
 use Rattle.attempt_laws.proofs.StoresAgree.{one_divides}
 use Rattle.std.proofs.Common.{◌≡◌, ℕ, ◌+◌, ◌%◌, inl, length, refl, Bool, true, false, not, ◌&&◌}
 use Rattle.std.specs.Prelude.{Some, None, if◌then◌else◌, Result, Ok, Err, ◌==◌}
-use Rattle.processor.specs.Bytes.{ram_place, page_of, in_ram}
+use Rattle.processor.specs.Bytes.{ram_place, page_of, in_ram, page_size}
 use Rattle.processor.specs.Hardware.{Attempted, plain_exception}
 use Rattle.processor.specs.HardwareMemory.{place_or_exception, fault_exception, aligned_translation}
 use Rattle.processor.specs.HypervisorRegisters.{HypervisorRegisters}
@@ -27,14 +27,14 @@ use Rattle.attempt_laws.proofs.LoadsAgree.{aligned_if}
 pub record SourcesAgree (o : Unseen) (r : State) (h : ℕ) (hart : Hart) (c : HypervisorRegisters) (address htinst : ℕ)
     (hard : Result ℕ Exception → Attempted) (soft : Source → State) : Type 0 where
   pub ram : (gpa : ℕ) → Agrees o r h hart c (hard (Ok (length o.tables + ram_place gpa))) (soft (FromRam gpa))
-  pub device : (gpa : ℕ) → gpa % 4096 ≡ address % 4096
+  pub device : (gpa : ℕ) → gpa % page_size ≡ address % page_size
       → Agrees o r h hart c (hard (Err (fault_exception Access.Load address htinst (Fault.Guest gpa false)))) (soft (FromDevice gpa))
   pub unreadable : (entry : ℕ) → Agrees o r h hart c (hard (Err (fault_exception Access.Load address htinst (Fault.Guest entry true)))) (soft (NoSource Cause.LoadAccess))
   pub page : Agrees o r h hart c (hard (Err (plain_exception Cause.LoadPage address))) (soft (NoSource Cause.LoadPage))
   pub misaligned : Agrees o r h hart c (hard (Err (plain_exception Cause.LoadMisaligned address))) (soft (NoSource Cause.LoadMisaligned))
 
 source_place : (o : Unseen) (r : State) (h : ℕ) (hart : Hart) (c : HypervisorRegisters) (address htinst gpa : ℕ) (inside : Bool)
-    (hard : Result ℕ Exception → Attempted) (soft : Source → State) → SourcesAgree o r h hart c address htinst hard soft → gpa % 4096 ≡ address % 4096
+    (hard : Result ℕ Exception → Attempted) (soft : Source → State) → SourcesAgree o r h hart c address htinst hard soft → gpa % page_size ≡ address % page_size
     → Agrees o r h hart c
     (hard (place_or_exception Access.Load address htinst (place_through gpa (if inside && true then Some (length o.tables + ram_place gpa) else None))))
     (soft (if inside then FromRam gpa else FromDevice gpa))
@@ -82,9 +82,9 @@ pub record TargetsAgree (o : Unseen) (r : State) (h : ℕ) (hart : Hart) (c : Hy
     (hard : Result ℕ Exception → Attempted) (soft : Target → State) : Type 0 where
   pub ram : (gpa : ℕ) → page_in_ram r.rules.ram_pages gpa ≡ true → is_protected r (page_of gpa) ≡ false → ram_place gpa % width ≡ 0
       → Agrees o r h hart c (hard (Ok (length o.tables + ram_place gpa))) (soft (ToRam gpa))
-  pub guarded : (gpa : ℕ) → in_ram r.ram gpa 1 ≡ true → gpa % 4096 ≡ address % 4096
+  pub guarded : (gpa : ℕ) → in_ram r.ram gpa 1 ≡ true → gpa % page_size ≡ address % page_size
       → Agrees o r h hart c (hard (Err (fault_exception Access.Store address htinst (Fault.Guest gpa false)))) (soft (Guarded gpa))
-  pub device : (gpa : ℕ) → in_ram r.ram gpa 1 ≡ false → gpa % 4096 ≡ address % 4096
+  pub device : (gpa : ℕ) → in_ram r.ram gpa 1 ≡ false → gpa % page_size ≡ address % page_size
       → Agrees o r h hart c (hard (Err (fault_exception Access.Store address htinst (Fault.Guest gpa false)))) (soft (ToDevice gpa))
   pub unreadable : (entry : ℕ) → Agrees o r h hart c (hard (Err (fault_exception Access.Store address htinst (Fault.Guest entry true)))) (soft (NoTarget Cause.StoreAccess))
   pub page : Agrees o r h hart c (hard (Err (plain_exception Cause.StorePage address))) (soft (NoTarget Cause.StorePage))
@@ -92,7 +92,7 @@ pub record TargetsAgree (o : Unseen) (r : State) (h : ℕ) (hart : Hart) (c : Hy
 
 target_place : (o : Unseen) (r : State) (h : ℕ) (hart : Hart) (c : HypervisorRegisters) (address width htinst gpa : ℕ) (inside guarded : Bool)
     (hard : Result ℕ Exception → Attempted) (soft : Target → State) → TargetsAgree o r h hart c address width htinst hard soft
-    → gpa % 4096 ≡ address % 4096 → in_ram r.ram gpa 1 ≡ inside → page_in_ram r.rules.ram_pages gpa ≡ inside → is_protected r (page_of gpa) ≡ guarded
+    → gpa % page_size ≡ address % page_size → in_ram r.ram gpa 1 ≡ inside → page_in_ram r.rules.ram_pages gpa ≡ inside → is_protected r (page_of gpa) ≡ guarded
     → ram_place gpa % width ≡ 0
     → Agrees o r h hart c
     (hard (place_or_exception Access.Store address htinst (place_through gpa (if inside && not guarded then Some (length o.tables + ram_place gpa) else None))))

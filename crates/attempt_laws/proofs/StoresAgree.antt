@@ -1,7 +1,7 @@
 -- A store of the hardware's is the reference machine's, wherever it leads.
 use Rattle.std.proofs.Common.{◌≡◌, ℕ, ◌+◌, ◌%◌, ◌/◌, inl, length, refl, sym, subst, Bool, true, false, not, ◌&&◌, arith}
 use Rattle.std.specs.Prelude.{Some, None, if◌then◌else◌, Err, ◌==◌}
-use Rattle.processor.specs.Bytes.{write_word, low_bytes, ram_place, page_of, in_ram}
+use Rattle.processor.specs.Bytes.{write_word, low_bytes, ram_place, page_of, in_ram, page_size}
 use Rattle.processor.specs.Hardware.{Attempted, with_region, plain_exception}
 use Rattle.processor.specs.HardwareMemory.{after_store, place_or_exception, fault_exception, implicit_read, retire, behind_write, write_at, aligned_translation}
 use Rattle.processor.specs.HypervisorRegisters.{HypervisorRegisters}
@@ -45,7 +45,7 @@ unfolding serve_plain plain_answer exit_answered write_answer
 unreadable_store r h hart address htval pc = refl
 
 device_served : (r : State) (h : ℕ) (hart : Hart) (address width value gpa htinst pc : ℕ)
-    → IsStore htinst hart width value → gpa % 4096 ≡ address % 4096 → in_ram r.ram gpa 1 ≡ false
+    → IsStore htinst hart width value → gpa % page_size ≡ address % page_size → in_ram r.ram gpa 1 ≡ false
     → carry_out_device_store r h hart address (device_store r.devices r.journal gpa width value)
     ≡ serve_plain r h hart (record { cause = ExitCause.Exception Cause.GuestStore; pc = pc; stval = address; htval = gpa / 4; htinst = htinst })
 unfolding serve_plain plain_answer exit_answered write_answer store_answer
@@ -53,7 +53,7 @@ device_served r h hart address width value gpa htinst pc store same outside =
     rw (store.explicit, gpa_back gpa address same, outside, store.effect, store.explicit, gpa_back gpa address same, store_beyond r.devices r.journal gpa width value) refl
 
 guarded_served : (r : State) (h : ℕ) (hart : Hart) (address width value gpa htinst pc : ℕ)
-    → IsStore htinst hart width value → gpa % 4096 ≡ address % 4096 → in_ram r.ram gpa 1 ≡ true
+    → IsStore htinst hart width value → gpa % page_size ≡ address % page_size → in_ram r.ram gpa 1 ≡ true
     → write_stopped r h hart gpa
     ≡ serve_plain r h hart (record { cause = ExitCause.Exception Cause.GuestStore; pc = pc; stval = address; htval = gpa / 4; htinst = htinst })
 unfolding serve_plain plain_answer exit_answered write_answer
@@ -74,7 +74,7 @@ written o r hart c p width value =
 
 -- over whether the page lies in RAM, and is protected
 at_place : (o : Unseen) (r : State) (h : ℕ) (hart : Hart) (c : HypervisorRegisters) (address width value gpa htinst : ℕ) (inside guarded : Bool)
-    → IsAt o r h hart c → IsStore htinst hart width value → gpa % 4096 ≡ address % 4096 → in_ram r.ram gpa 1 ≡ inside
+    → IsAt o r h hart c → IsStore htinst hart width value → gpa % page_size ≡ address % page_size → in_ram r.ram gpa 1 ≡ inside
     → (inside ≡ true → guarded ≡ false → CanWrite r (ram_place gpa) width value)
     → Agrees o r h hart c
     (after_store (region_at o r) (core_at o c hart) width value

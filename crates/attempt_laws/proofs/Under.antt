@@ -3,7 +3,7 @@ use Rattle.std.proofs.Common.{◌≡◌, ℕ, ◌+◌, ◌*◌, ◌%◌, ◌/◌
 use Rattle.std.specs.Prelude.{Option, Some, None, option_map, Result, nat_le, nat_lt, not, ◌==◌}
 use Rattle.std.proofs.lemmas.Bool.Decides.{nat_tests}
 use Rattle.std.proofs.lemmas.Option.{slice_get-map}
-use Rattle.processor.specs.Bytes.{ram_base, ram_place, page_of, in_ram}
+use Rattle.processor.specs.Bytes.{ram_base, ram_place, page_of, in_ram, page_size}
 use Rattle.processor.specs.HardwareMemory.{translation_result, place_or_exception}
 use Rattle.processor.specs.HypervisorRegisters.{HypervisorRegisters}
 use Rattle.processor.specs.Regions.{IsWidth}
@@ -74,20 +74,20 @@ translated_under o r h hart c access va htinst at =
 
 -- ---- aligned accesses stay in their page
 
-pub whole_access : (width p n : ℕ) → IsWidth width → p % width ≡ 0 → nat_le (p + width) (4096 * n) ≡ nat_lt (p / 4096) n
+pub whole_access : (width p n : ℕ) → IsWidth width → p % width ≡ 0 → nat_le (p + width) (page_size * n) ≡ nat_lt (p / page_size) n
 whole_access width p n (inl one) aligned = rw one (grind (arith, nat_tests))
 whole_access width p n (inr (inl two)) aligned = let e : p % 2 ≡ 0 = rw two at aligned in rw two (grind (arith, nat_tests))
 whole_access width p n (inr (inr (inl four))) aligned = let e : p % 4 ≡ 0 = rw four at aligned in rw four (grind (arith, nat_tests))
 whole_access width p n (inr (inr (inr eight))) aligned = let e : p % 8 ≡ 0 = rw eight at aligned in rw eight (grind (arith, nat_tests))
 
-pub moved : (width gpa va : ℕ) → IsWidth width → gpa % 4096 ≡ va % 4096 → va % width ≡ 0 → ram_place gpa % width ≡ 0
+pub moved : (width gpa va : ℕ) → IsWidth width → gpa % page_size ≡ va % page_size → va % width ≡ 0 → ram_place gpa % width ≡ 0
 moved width gpa va (inl one) same aligned = rw one (grind arith)
 moved width gpa va (inr (inl two)) same aligned = let e : va % 2 ≡ 0 = rw two at aligned in rw two (grind arith)
 moved width gpa va (inr (inr (inl four))) same aligned = let e : va % 4 ≡ 0 = rw four at aligned in rw four (grind arith)
 moved width gpa va (inr (inr (inr eight))) same aligned = let e : va % 8 ≡ 0 = rw eight at aligned in rw eight (grind arith)
 
 -- an aligned access lies in RAM exactly where its page does
-pub access_in_ram : (r : State) (gpa va width : ℕ) → IsSound r → IsWidth width → gpa % 4096 ≡ va % 4096 → va % width ≡ 0
+pub access_in_ram : (r : State) (gpa va width : ℕ) → IsSound r → IsWidth width → gpa % page_size ≡ va % page_size → va % width ≡ 0
     → in_ram r.ram gpa width ≡ page_in_ram r.rules.ram_pages gpa
 access_in_ram r gpa va width sound whole same aligned =
     ap (λ (n : ℕ). nat_le ram_base gpa && nat_le (ram_place gpa + width) n) sound.size

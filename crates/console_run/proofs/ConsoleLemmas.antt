@@ -1,5 +1,6 @@
 -- A run, its console and the sink.
 use Rattle.std.proofs.Common.{◌≡◌, ◌≢◌, ℕ, zero, suc, ◌≤◌, ◌<◌, List, [], ◌∷◌, ◌++◌, length, replicate, refl, sym, ◌∙◌, ap, subst, append_assoc, arith, IsTrue}
+use Rattle.sv_types.specs.Limits.{most_printed}
 use Rattle.std.proofs.lemmas.List.{append-nil}
 use Rattle.sv_types.specs.declared.event.Event.{Event}
 use Rattle.sv_types.specs.declared.event.Counts.{Counts}
@@ -116,7 +117,7 @@ runs_more n first start all left rest m next flushed event old now new some on p
 
 broke_next : (n : ℕ) (first : Machine) (start : State) (all left rest : List Event) (m next : Machine) (event : Event) (old now new : SinkState) →
     RunsOn first start all left m old now → left ≡ replicate n event ++ rest → Repeats n m event next →
-    length next.journal.printed ≤ 4096 → IsTrue (is_due next.journal.printed) → BreaksOff now new next.journal.printed → RunBroke first start all next old new
+    length next.journal.printed ≤ most_printed → IsTrue (is_due next.journal.printed) → BreaksOff now new next.journal.printed → RunBroke first start all next old new
 broke_next n first start all left rest m next event old now new on parts repeats room due broke =
     let ran : HasRun first start (on.done ++ replicate n event) next old now = ran_again n first start on.done m next event old now on.ran repeats in
     record {
@@ -133,7 +134,7 @@ broke_next n first start all left rest m next event old now new on parts repeats
 
 pub runs_broke : (n : ℕ) (first : Machine) (start : State) (all left rest : List Event) (m next stays : Machine) (event : Event) (old now new : SinkState) →
     RunsOn first start all left m old now → left ≡ replicate n event ++ rest → Repeats n m event next →
-    stays ≡ next → length next.journal.printed ≤ 4096 → IsTrue (is_due next.journal.printed) → BreaksOff now new next.journal.printed → RunBroke first start all stays old new
+    stays ≡ next → length next.journal.printed ≤ most_printed → IsTrue (is_due next.journal.printed) → BreaksOff now new next.journal.printed → RunBroke first start all stays old new
 runs_broke n first start all left rest m next stays event old now new on parts repeats same room due broke =
     subst (λ (x : Machine). RunBroke first start all x old new) (sym same)
     (broke_next n first start all left rest m next event old now new on parts repeats room due broke)
@@ -181,13 +182,13 @@ pub flushed_counts : (n : ℕ) (next flushed : Machine) (now new : SinkState) �
     CountsAtMost n flushed.journal.counts
 flushed_counts n next flushed now new counts f = subst (λ (c : Counts). CountsAtMost n c) (sym (away_counts next flushed f.cleared f.away)) counts
 
-pub room_after : (m next : Machine) (e : Event) → HasState m → Makes m e next → length m.journal.printed < 4096 →
-    length next.journal.printed ≤ 4096
+pub room_after : (m next : Machine) (e : Event) → HasState m → Makes m e next → length m.journal.printed < most_printed →
+    length next.journal.printed ≤ most_printed
 room_after m next e has makes room =
     let grown = step_room m next has.state e has.stands (makes.stands has.state has.stands) makes.event in omega arith
 
 -- the last event alone may print
-pub room_again : (n : ℕ) (m next : Machine) (e : Event) → HasState m → Repeats n m e next → length m.journal.printed < 4096 → length next.journal.printed ≤ 4096
+pub room_again : (n : ℕ) (m next : Machine) (e : Event) → HasState m → Repeats n m e next → length m.journal.printed < most_printed → length next.journal.printed ≤ most_printed
 room_again zero m next e has same room = let none : length next.journal.printed ≡ length m.journal.printed = ap (λ (x : Machine). length x.journal.printed) same in omega (arith, none)
 room_again (suc n) m next e has (before, (those, (quiet, makes))) room =
     room_after before next e (record { state = run has.state (replicate n e); stands = repeats_stand n m before e those has.state has.stands }) makes (omega (arith, quiet, room))

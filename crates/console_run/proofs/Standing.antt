@@ -1,5 +1,6 @@
 -- What follows where a machine stands for a state. The other proofs use no more of it than this.
 use Rattle.std.proofs.Common.{◌≡◌, ◌≢◌, ◌≤◌, ◌+◌, ◌-◌, ℕ, zero, suc, List, [], ◌∷◌, ◌++◌, length, take, drop, Bool, true, false, Option, Some, None, refl, sym, ◌∙◌, ap, subst, append_assoc, arith, slice_get}
+use Rattle.sv_types.proofs.Sums.{plus_none}
 use Rattle.std.proofs.lemmas.List.{take-append-le, take-append-drop, length-drop}
 use Rattle.std.proofs.Math.Seq.{take-add}
 use Rattle.processor.specs.Hardware.{Attempted}
@@ -190,9 +191,6 @@ stands_output m r cleared s =
     ∙ ap (λ (j : Journal). r.journal.printed ++ report j) (journal_is m r s.stands)
 
 -- ---- the console's bytes
-
-plus_none : (n : ℕ) → n ≡ n + 0
-plus_none n = omega arith
 
 pub cleared_none : (m : Machine) → Cleared m m
 cleared_none m = record { taken = 0; there = omega arith; same = ap (λ (n : ℕ). record m { cleared = n }) (plus_none m.cleared) }

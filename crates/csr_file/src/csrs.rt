@@ -2,9 +2,13 @@
 
 ghost use Rattle.std.specs.Prelude.{◌≡◌, ◌^◌, ◌<◌, true};
 ghost use Rattle.std.specs.Result.{result_err};
-ghost use Rattle.processor.specs.HypervisorRegisters.{registers_at_boot, hip_value, at_hypervisor_places, guest_alias, with_alias, is_hypervisor_number, refusal, csr_access, read_virtual, write_virtual, read_answer, after_write};
+ghost use Rattle.processor.specs.HypervisorRegisters.{registers_at_boot, hip_value, at_guest_places, at_hypervisor_places, guest_alias, with_alias, is_hypervisor_number, refusal, csr_access, read_virtual, write_virtual, read_answer, after_write};
 ghost use Rattle.processor.specs.Registers.{legal_satp};
 
+use crate::hypervisor::{
+    HCOUNTEREN, HEDELEG, HGATP, HIDELEG, HIE, HIP, HSTATUS, HTINST, HTVAL, HVIP, VSATP, VSCAUSE,
+    VSEPC, VSIE, VSIP, VSSCRATCH, VSSTATUS, VSTVAL, VSTVEC,
+};
 use crate::masks::{
     INTERRUPT_BITS, MISALIGNED, SATP_BITS, STATUS_BITS, TIME_ENABLE, TIME_ENABLE_PLACE,
     TVEC_RESERVED, UXL, VIRTUAL_EXTERNAL, VIRTUAL_INTERRUPT_BITS, VIRTUAL_SOFTWARE, VIRTUAL_TIMER,
@@ -47,34 +51,32 @@ impl Model for Csrs {
     ghost inverse = { fields_of };
 }
 
-/// Whether a number is one of the VS registers' (`vsstatus`, `vsie`, `vstvec`, `vsscratch`, `vsepc`, `vscause`, `vstval`,
-/// `vsip`, `vsatp`) or of the hypervisor's (`hstatus`, `hedeleg`, `hideleg`, `hie`, `hcounteren`, `htval`, `hip`, `hvip`,
-/// `htinst`, `hgatp`).
+/// Whether a number is one of the VS registers' or of the hypervisor's.
 #[tactic(auto, unfolding(processor::specs::HypervisorRegisters::is_hypervisor_number))]
 fn is_hypervisor_number(number: u16) -> bool
     ensures { result ≡ is_hypervisor_number number }
 {
     matches!(
         number,
-        0x200
-            | 0x204
-            | 0x205
-            | 0x240
-            | 0x241
-            | 0x242
-            | 0x243
-            | 0x244
-            | 0x280
-            | 0x600
-            | 0x602
-            | 0x603
-            | 0x604
-            | 0x606
-            | 0x643
-            | 0x644
-            | 0x645
-            | 0x64A
-            | 0x680
+        VSSTATUS
+            | VSIE
+            | VSTVEC
+            | VSSCRATCH
+            | VSEPC
+            | VSCAUSE
+            | VSTVAL
+            | VSIP
+            | VSATP
+            | HSTATUS
+            | HEDELEG
+            | HIDELEG
+            | HIE
+            | HCOUNTEREN
+            | HTVAL
+            | HIP
+            | HVIP
+            | HTINST
+            | HGATP
     )
 }
 
@@ -97,7 +99,15 @@ fn refusal(mode: Mode, scounteren: u64, writes: bool, csr: Csr) -> Option<CsrFau
 fn guest_alias(hideleg: u64, register: u64) -> u64
     ensures { result ≡ guest_alias hideleg register }
 {
-    (register & (hideleg & VIRTUAL_INTERRUPT_BITS)) >> 1
+    at_guest_places(register & (hideleg & VIRTUAL_INTERRUPT_BITS))
+}
+
+/// Interrupts of `hie` and `hip` at their places in `sie` and `sip`.
+#[inline(always)]
+pub fn at_guest_places(bits: u64) -> u64
+    ensures { result ≡ at_guest_places bits }
+{
+    bits >> 1
 }
 
 /// Interrupts of `sie` and `sip` at their places in `hie` and `hip`.
@@ -161,7 +171,7 @@ impl Csrs {
     pub fn access(&self, mode: Mode, number: u16, writes: bool) -> Result<Csr, CsrFault>
         ensures { result ≡ csr_access mode self.now number writes }
     {
-        let Some(csr) = Csr::named(number) else {
+        let Some(csr) = Csr::from_number(number) else {
             return Err(if is_hypervisor_number(number) {
                 CsrFault::Virtual
             } else {

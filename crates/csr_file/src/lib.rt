@@ -3,9 +3,10 @@
 #![tactic(auto)]
 
 mod csrs;
+mod hypervisor;
 mod masks;
 
-pub use csrs::{Csrs, at_hypervisor_places};
+pub use csrs::{Csrs, at_guest_places, at_hypervisor_places};
 pub use masks::{
     INTERRUPT_BITS, MISALIGNED, MXR_PLACE, SATP_BITS, SIE, SIE_PLACE, SOFTWARE_INTERRUPT, SPIE,
     SPIE_PLACE, SPP, SPP_PLACE, STATUS_BITS, SUM_PLACE, TIME_ENABLE, TVEC_RESERVED,

@@ -51,4 +51,5 @@ pub(crate) const TIME_ENABLE_PLACE: u8 = 1;
 /// Instructions lie at multiples of 4.
 pub const MISALIGNED: u64 = 3;
 /// The mode and the root's page of `satp`.
-pub const SATP_BITS: u64 = 15 << ROOT_MODE_PLACE | (1 << ROOT_PAGE_BITS) - 1;
+pub const SATP_BITS: u64 = ((1 << (64 - ROOT_MODE_PLACE)) - 1) << ROOT_MODE_PLACE
+    | (1 << ROOT_PAGE_BITS) - 1;

@@ -6,7 +6,7 @@ use Rattle.std.specs.Borrow.{Bor}
 use Rattle.std.specs.Str.{bytes_eq}
 use Rattle.elf64_sections.specs.Sections.{symbols_from, symbol_at}
 use Rattle.elf64_sections.specs.declared.tables.Symbol.{Symbol}
-use Rattle.elf64_load.specs.Addresses.{address_by_name}
+use Rattle.elf64_sections.specs.NameTables.{number_by_name}
 use Rattle.elf64_load.specs.Exports.{is_name_of, defines, address_among}
 
 pub name_tested : (global : Bool) (name : Option (List ℕ)) (key wanted : List ℕ) (one other : Option ℕ) → global ≡ true → name ≡ Some key
@@ -35,7 +35,7 @@ address_before strings symbols wanted i j n m s before after more next is so_far
 
 -- before the first, and behind the last
 pub none_found : (addresses : BTreeMap (Bor (List ℕ)) ℕ) (strings symbols wanted : List ℕ) (i n : ℕ) → addresses.entries ≡ [] → n ≡ 0
-    → address_by_name addresses wanted ≡ address_among strings (symbols_from symbols i n) wanted
+    → number_by_name addresses wanted ≡ address_among strings (symbols_from symbols i n) wanted
 none_found addresses strings symbols wanted i n empty none = rw (empty, none) refl
 
 pub all_found : (strings symbols wanted : List ℕ) (i n : ℕ) → i ≤ 0

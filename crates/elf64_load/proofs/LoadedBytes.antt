@@ -6,6 +6,7 @@ use Rattle.std.proofs.lemmas.List.{places, get_or-append_right, ext_get_or, get_
 use Rattle.processor.specs.Bytes.{overwrite, with_padding, part, page_bytes, page_size, ram_place}
 use Rattle.sv_types.specs.Kernel.{LoadedSegment, with_segment}
 use Rattle.processor_laws.proofs.ByteLemmas.{lt_or_le, length_overwrite, length_padded, length_part}
+use Rattle.elf64_load.specs.Images.{IsPlaced}
 
 -- ---- bytes, and zeros behind them
 
@@ -41,18 +42,14 @@ at_behind list bytes at i within behind = search (rules, places)
 
 -- ---- a segment in RAM of a size
 
-pub record Lies (size : ℕ) (s : LoadedSegment) : Type 0 where
-  pub inside : ram_place s.gpa + s.memory ≤ size
-  pub short : length s.bytes ≤ s.memory
-
-pub length_with_segment : (ram : List ℕ) (s : LoadedSegment) → Lies (length ram) s → length (with_segment ram s) ≡ length ram
+pub length_with_segment : (ram : List ℕ) (s : LoadedSegment) → IsPlaced (length ram) s → length (with_segment ram s) ≡ length ram
 length_with_segment ram s lies =
     let len = length_padded s.bytes s.memory lies.short in
     let inside = lies.inside in
     length_overwrite ram (with_padding s.bytes s.memory) (ram_place s.gpa) (omega arith)
 
 -- a byte that isn't the segment's stays
-pub byte_elsewhere : (ram : List ℕ) (s : LoadedSegment) (i : ℕ) → Lies (length ram) s
+pub byte_elsewhere : (ram : List ℕ) (s : LoadedSegment) (i : ℕ) → IsPlaced (length ram) s
     → nat_le (ram_place s.gpa) i && nat_lt i (ram_place s.gpa + s.memory) ≡ false
     → get_or (with_segment ram s) i 0 ≡ get_or ram i 0
 byte_elsewhere ram s i lies apart =
@@ -66,7 +63,7 @@ byte_elsewhere ram s i lies apart =
     ]
 
 -- a byte that is the segment's, or a zero behind its memory, is its byte or the zero behind them
-pub byte_there : (ram : List ℕ) (s : LoadedSegment) (i : ℕ) → Lies (length ram) s → ram_place s.gpa ≤ i → get_or ram i 0 ≡ 0
+pub byte_there : (ram : List ℕ) (s : LoadedSegment) (i : ℕ) → IsPlaced (length ram) s → ram_place s.gpa ≤ i → get_or ram i 0 ≡ 0
     → get_or (with_segment ram s) i 0 ≡ get_or s.bytes (i - ram_place s.gpa) 0
 byte_there ram s i lies from zero_before =
     let len = length_padded s.bytes s.memory lies.short in

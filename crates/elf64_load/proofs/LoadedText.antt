@@ -12,16 +12,17 @@ use Rattle.sv_types.specs.Kernel.{LoadedSegment, with_segment, segments_ram, loa
 use Rattle.sv_types.specs.ApprovedPages.{numbers_from}
 use Rattle.processor.specs.Regions.{most_ram_pages}
 use Rattle.sv_types.specs.declared.kernel.ProgramHeader.{ProgramHeader}
-use Rattle.elf64_load.proofs.LoadedBytes.{Lies, length_with_segment, byte_elsewhere, byte_there, same_page, zero_at}
+use Rattle.elf64_load.proofs.LoadedBytes.{length_with_segment, byte_elsewhere, byte_there, same_page, zero_at}
 use Rattle.elf64_load.specs.Headers.{HasMemory}
 use Rattle.elf64_load.proofs.FirstRefusals.{accepted_image, each_passed}
 use Rattle.elf64_load.proofs.Pages.{memory_of_loaded}
 use Rattle.processor_laws.proofs.ByteLemmas.{length_part}
 use Rattle.sv_types.proofs.FileChecks.{Passed, segment_passed, accepted_headers}
+use Rattle.elf64_load.specs.Images.{IsPlaced}
 
 -- a header whose segment is good, in a file, for RAM of a size
 pub record Sound (file : List ℕ) (size : ℕ) (h : ProgramHeader) : Type 0 where
-  pub lies : Lies size (loaded_segment file h)
+  pub lies : IsPlaced size (loaded_segment file h)
   pub in_ram : ram_base ≤ h.gpa
   pub memory : 0 < h.memory_size
   pub whole : is_executable h ≡ true → ram_place h.gpa % page_size ≡ 0

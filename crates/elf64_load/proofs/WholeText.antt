@@ -5,7 +5,7 @@ use Rattle.std.proofs.lemmas.Bool.Decides.{nat_tests}
 use Rattle.std.proofs.lemmas.Bool.{cases_Bool}
 use Rattle.std.proofs.lemmas.List.{take-append-drop, append-nil, drop-drop, length-drop, length-take-le}
 use Rattle.std.proofs.Math.ListN.{drop_of_length-le}
-use Rattle.processor.specs.Bytes.{with_padding, page_of, ram_place}
+use Rattle.processor.specs.Bytes.{with_padding, page_of, ram_place, page_size}
 use Rattle.processor.specs.Regions.{most_ram_pages}
 use Rattle.sv_types.specs.ApprovedPages.{numbers_from}
 use Rattle.sv_types.specs.Kernel.{LoadedSegment, is_text_of, text_of, text_page, text_page_in}
@@ -57,9 +57,9 @@ pages_are ss s only (page ∷ pages) =
 -- where the segment begins and how many pages it has
 record Spans (s : LoadedSegment) (first count : ℕ) : Type 0 where
   text : s.executable ≡ true
-  place : ram_place s.gpa ≡ 4096 * first
-  size : s.memory ≡ 4096 * count
-  filled : length s.bytes ≡ 4096 * count
+  place : ram_place s.gpa ≡ page_size * first
+  size : s.memory ≡ page_size * count
+  filled : length s.bytes ≡ page_size * count
 
 outside : (s : LoadedSegment) (first count page : ℕ) → Spans s first count → (page < first) ⊎ (first + count ≤ page) → page_in s page ≡ []
 unfolding page_in
@@ -68,7 +68,7 @@ outside s first count page spans out =
     rw none refl
 
 within : (s : LoadedSegment) (first count page : ℕ) → Spans s first count → first ≤ page → page < first + count
-    → page_in s page ≡ take 4096 (drop (4096 * (page - first)) s.bytes)
+    → page_in s page ≡ take page_size (drop (page_size * (page - first)) s.bytes)
 unfolding page_in
 within s first count page spans from below =
     let place = spans.place in
@@ -76,13 +76,13 @@ within s first count page spans from below =
     let filled = spans.filled in
     let there : is_text_of page s ≡ true = rw spans.text (grind (arith, nat_tests)) in
     let start : page_of s.gpa ≡ first = omega (arith, place) in
-    let dropped = length-drop (4096 * (page - first)) s.bytes in
-    let long : 4096 ≤ length (drop (4096 * (page - first)) s.bytes) = omega (arith, dropped, filled, below, from) in
-    let whole : length (take 4096 (drop (4096 * (page - first)) s.bytes)) ≡ 4096 = length-take-le 4096 (drop (4096 * (page - first)) s.bytes) long in
+    let dropped = length-drop (page_size * (page - first)) s.bytes in
+    let long : page_size ≤ length (drop (page_size * (page - first)) s.bytes) = omega (arith, dropped, filled, below, from) in
+    let whole : length (take page_size (drop (page_size * (page - first)) s.bytes)) ≡ page_size = length-take-le page_size (drop (page_size * (page - first)) s.bytes) long in
     rw there
-    (ap (λ (f : ℕ). with_padding (take 4096 (drop (4096 * (page - f)) s.bytes)) 4096) start
-    ∙ ap (λ (n : ℕ). take 4096 (drop (4096 * (page - first)) s.bytes) ++ replicate (4096 - n) 0) whole
-    ∙ append-nil (take 4096 (drop (4096 * (page - first)) s.bytes)))
+    (ap (λ (f : ℕ). with_padding (take page_size (drop (page_size * (page - f)) s.bytes)) page_size) start
+    ∙ ap (λ (n : ℕ). take page_size (drop (page_size * (page - first)) s.bytes) ++ replicate (page_size - n) 0) whole
+    ∙ append-nil (take page_size (drop (page_size * (page - first)) s.bytes)))
 
 behind : (s : LoadedSegment) (first count : ℕ) → Spans s first count → (n i : ℕ) → first + count ≤ i → flat_map (page_in s) (numbers_from i n) ≡ []
 behind s first count spans zero i past = refl
@@ -91,29 +91,29 @@ behind s first count spans (suc n) i past =
     ∙ behind s first count spans n (i + 1) (omega (arith, past))
 
 inside : (s : LoadedSegment) (first count : ℕ) → Spans s first count → (n i : ℕ) → first ≤ i → i ≤ first + count → first + count ≤ i + n
-    → flat_map (page_in s) (numbers_from i n) ≡ drop (4096 * (i - first)) s.bytes
-inside s first count spans zero i from to enough = let filled = spans.filled in sym (drop_of_length-le s.bytes {i = 4096 * (i - first)} (omega (arith, filled, to, enough)))
+    → flat_map (page_in s) (numbers_from i n) ≡ drop (page_size * (i - first)) s.bytes
+inside s first count spans zero i from to enough = let filled = spans.filled in sym (drop_of_length-le s.bytes {i = page_size * (i - first)} (omega (arith, filled, to, enough)))
 inside s first count spans (suc n) i from to enough = elim (cases_Bool (nat_lt i (first + count))) [
   | inl below ↦
       let less : i < first + count = grind (arith, nat_tests) in
-      let place : 4096 * (i - first) + 4096 ≡ 4096 * (i + 1 - first) = omega (arith, from) in
-      let bytes = drop (4096 * (i - first)) s.bytes in
+      let place : page_size * (i - first) + page_size ≡ page_size * (i + 1 - first) = omega (arith, from) in
+      let bytes = drop (page_size * (i - first)) s.bytes in
       ap (λ (page : List ℕ). page ++ flat_map (page_in s) (numbers_from (i + 1) n)) (within s first count i spans from less)
-      ∙ ap (λ (rest : List ℕ). take 4096 bytes ++ rest) (inside s first count spans n (i + 1) (omega (arith, from)) (omega (arith, less)) (omega (arith, enough)))
-      ∙ ap (λ (k : ℕ). take 4096 bytes ++ drop k s.bytes) (sym place)
-      ∙ ap (λ (rest : List ℕ). take 4096 bytes ++ rest) (sym (drop-drop 4096 (4096 * (i - first)) s.bytes))
-      ∙ take-append-drop 4096 bytes
+      ∙ ap (λ (rest : List ℕ). take page_size bytes ++ rest) (inside s first count spans n (i + 1) (omega (arith, from)) (omega (arith, less)) (omega (arith, enough)))
+      ∙ ap (λ (k : ℕ). take page_size bytes ++ drop k s.bytes) (sym place)
+      ∙ ap (λ (rest : List ℕ). take page_size bytes ++ rest) (sym (drop-drop page_size (page_size * (i - first)) s.bytes))
+      ∙ take-append-drop page_size bytes
   | inr past ↦
       let more : first + count ≤ i = grind (arith, nat_tests) in
       let filled = spans.filled in
-      behind s first count spans (suc n) i more ∙ sym (drop_of_length-le s.bytes {i = 4096 * (i - first)} (omega (arith, filled, to)))
+      behind s first count spans (suc n) i more ∙ sym (drop_of_length-le s.bytes {i = page_size * (i - first)} (omega (arith, filled, to)))
 ]
 
 from_below : (s : LoadedSegment) (first count : ℕ) → Spans s first count → (n i : ℕ) → i ≤ first → first + count ≤ i + n
     → flat_map (page_in s) (numbers_from i n) ≡ s.bytes
 from_below s first count spans zero i before enough =
     let place : i ≡ first = omega (arith, before, enough) in
-    let none : 4096 * (i - first) ≡ 0 = omega (arith, place) in
+    let none : page_size * (i - first) ≡ 0 = omega (arith, place) in
     inside s first count spans zero i (omega (arith, place)) (omega (arith, place)) enough ∙ ap (λ (k : ℕ). drop k s.bytes) none
 from_below s first count spans (suc n) i before enough = elim (cases_Bool (nat_lt i first)) [
   | inl below ↦
@@ -122,7 +122,7 @@ from_below s first count spans (suc n) i before enough = elim (cases_Bool (nat_l
       ∙ from_below s first count spans n (i + 1) (omega (arith, less)) (omega (arith, enough))
   | inr there ↦
       let place : i ≡ first = grind (arith, nat_tests) in
-      let none : 4096 * (i - first) ≡ 0 = omega (arith, place) in
+      let none : page_size * (i - first) ≡ 0 = omega (arith, place) in
       inside s first count spans (suc n) i (omega (arith, place)) (omega (arith, place)) enough ∙ ap (λ (k : ℕ). drop k s.bytes) none
 ]
 
@@ -140,11 +140,11 @@ whole_text ss s only whole =
     let pages = whole.pages in
     let filled = whole.filled in
     let inside = whole.inside in
-    let spans : Spans s (ram_place s.gpa / 4096) (s.memory / 4096) = record {
+    let spans : Spans s (ram_place s.gpa / page_size) (s.memory / page_size) = record {
       text = text_kept ss s only;
       place = omega (arith, first);
       size = omega (arith, pages);
       filled = filled ∙ omega (arith, pages);
     } in
     sym (pages_are ss s only (numbers_from 0 most_ram_pages)
-    ∙ from_below s (ram_place s.gpa / 4096) (s.memory / 4096) spans most_ram_pages 0 (omega arith) (omega (arith, inside)))
+    ∙ from_below s (ram_place s.gpa / page_size) (s.memory / page_size) spans most_ram_pages 0 (omega arith) (omega (arith, inside)))

@@ -7,6 +7,11 @@ use Rattle.sv_types.specs.Kernel.{LoadedSegment, is_text_of}
 use Rattle.elf64_load.specs.declared.image.Segment.{Segment}
 use Rattle.elf64_load.specs.declared.image.KernelImage.{KernelImage}
 
+-- its memory lies in RAM of a size, and it has no more bytes than memory
+pub record IsPlaced (size : ℕ) (s : LoadedSegment) : Type 0 where
+  pub inside : ram_place s.gpa + s.memory ≤ size
+  pub short : length s.bytes ≤ s.memory
+
 -- a segment, with its bytes as a list
 abbrev pub segment_of : Segment → LoadedSegment
 segment_of s = record {

@@ -1,4 +1,3 @@
-pub mod Addresses
 pub mod Exports
 pub mod Headers
 pub mod Images

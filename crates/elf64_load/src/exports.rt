@@ -2,7 +2,7 @@
 
 ghost use Rattle.std.specs.Prelude.{◌≡◌, ◌≤◌, ◌*◌, ℕ, List, [], length, if◌then◌else◌, Some, Ok, IfOk, IfErr, OnOk, option_map};
 ghost use Rattle.sv_types.specs.Elf.{file_header_size};
-ghost use Rattle.elf64_load.specs.Addresses.{address_by_name};
+ghost use Rattle.elf64_sections.specs.NameTables.{number_by_name};
 ghost use Rattle.elf64_load.specs.Exports as spec;
 ghost use Rattle.elf64_load.specs.Refusals.{Refuses};
 ghost use Rattle.elf64_sections.specs.Judged.{each};
@@ -32,7 +32,7 @@ fn define<'a>(
     strings: &'a [u8],
     symbol: &Symbol,
 ) -> Result<(), AllocError>
-    ensures { OnOk result ((name : List ℕ) → address_by_name addresses.new name ≡ (if spec.defines strings.now name symbol.now then Some symbol.now.value else address_by_name addresses.old name)) }
+    ensures { OnOk result ((name : List ℕ) → number_by_name addresses.new name ≡ (if spec.defines strings.now name symbol.now then Some symbol.now.value else number_by_name addresses.old name)) }
 {
     if !is_defined_global(symbol) {
         return Ok(());
@@ -48,7 +48,7 @@ fn addresses<'a>(
     alloc: Global,
     tables: &SymbolTables<'a>,
 ) -> Result<BTreeMap<&'a str, u64>, AllocError>
-    ensures { IfOk result (λ addresses. (name : List ℕ) → address_by_name addresses name ≡ spec.address_of (tables_view tables.now) name) }
+    ensures { IfOk result (λ addresses. (name : List ℕ) → number_by_name addresses name ≡ spec.address_of (tables_view tables.now) name) }
 {
     let mut addresses = BTreeMap::new(alloc);
     'symbols: for i in (0..symbol_count(tables.symbols)).rev() {
@@ -62,7 +62,7 @@ fn addresses<'a>(
 }
 
 fn export_at(addresses: &BTreeMap<&str, u64>, name: &Name) -> Result<Export, ImageFault>
-    ensures { result ≡ spec.export_at name.now (address_by_name addresses.now name.now) }
+    ensures { result ≡ spec.export_at name.now (number_by_name addresses.now name.now) }
 {
     match addresses.get(name.text()) {
         Some(addr) => Ok(Export {

@@ -1,6 +1,7 @@
 -- Relocations that are judged good stand in the text, at instructions. So do their fields and the anchors of these, each
 -- field at a multiple of its bytes, and their bases are there.
 use Rattle.std.proofs.Common.{◌≡◌, ℕ, suc, ◌+◌, ◌*◌, ◌%◌, ◌^◌, ◌<◌, ◌≤◌, Bool, true, false, cond, List, [], ◌∷◌, ◌++◌, length, Option, Some, None, Ok, Err, refl, sym, subst, ◌∙◌, arith}
+use Rattle.processor.specs.Bytes.{page_size}
 use Rattle.std.specs.Prelude.{◌&&◌, ◌||◌, ◌==◌, nat_le, nat_lt, if◌then◌else◌, find, slice_get}
 use Rattle.std.specs.List.{position_from}
 use Rattle.std.specs.Str.{bytes_eq}
@@ -47,10 +48,10 @@ pub record IsSiteOf (total exports : ℕ) (site : Site) : Type 0 where
   pub anchor : IsPlace total site.anchor
   pub own : (is_low_part site.kind || site.anchor == site.offset) ≡ true
 
-same_place : (place : ℕ) → place < 4096 * 1024 → place % 2 ^ 32 ≡ place
+same_place : (place : ℕ) → place < page_size * 1024 → place % 2 ^ 32 ≡ place
 same_place place small = omega arith
 
-site_made : (total exports place : ℕ) (kind : RelocationKind) (t : Target) (addend anchor : ℕ) → total ≤ 4096 * 1024 → IsPlace total place → place % site_size kind ≡ 0
+site_made : (total exports place : ℕ) (kind : RelocationKind) (t : Target) (addend anchor : ℕ) → total ≤ page_size * 1024 → IsPlace total place → place % site_size kind ≡ 0
     → t.base < 3 + exports → IsPlace total anchor → (is_low_part kind || anchor == place) ≡ true → IsSiteOf total exports (site_at place kind t addend anchor)
 site_made total exports place kind t addend anchor most at aligned based held own =
     let below = at.below in
@@ -77,13 +78,13 @@ record IsJudged (total : ℕ) (j : Judging) (r : Relocation) (f : Found) : Type 
   fields : fields_for j r asked target ≡ Ok f
 
 -- where a relocation's fields are inside their section, they are inside the text
-inside_text : (total home place offset size bytes : ℕ) → home + size ≤ total → place ≡ (home + offset) % 2 ^ 64 → offset + bytes ≤ size → total ≤ 4096 * 1024 → place + bytes ≤ total
+inside_text : (total home place offset size bytes : ℕ) → home + size ≤ total → place ≡ (home + offset) % 2 ^ 64 → offset + bytes ≤ size → total ≤ page_size * 1024 → place + bytes ≤ total
 inside_text total home place offset size bytes inside is fits most =
     let whole : (home + offset) % 2 ^ 64 ≡ home + offset = omega arith in
     omega (arith, is ∙ whole)
 
 inside_by : (total : ℕ) (j : Judging) (r : Relocation) (asked : Asked) (t : Target) (outside : Bool) (f : Found) → nat_lt r.size (r.offset + asked_bytes asked) ≡ outside
-    → (if outside then Err ObjectFault.OutsideSection else fields_for j r asked t) ≡ Ok f → symbol_target j.names r.symbol ≡ Some t → IsOfText total r → total ≤ 4096 * 1024
+    → (if outside then Err ObjectFault.OutsideSection else fields_for j r asked t) ≡ Ok f → symbol_target j.names r.symbol ≡ Some t → IsOfText total r → total ≤ page_size * 1024
     → r.place % place_alignment (Some asked) ≡ 0 → IsJudged total j r f
 inside_by total j r asked t true f test is symbol of most aligned = absurd (cc is)
 inside_by total j r asked t false f test is symbol of most aligned =
@@ -98,21 +99,21 @@ inside_by total j r asked t false f test is symbol of most aligned =
     }
 
 target_by : (total : ℕ) (j : Judging) (r : Relocation) (asked : Asked) (target : Option Target) (f : Found) → symbol_target j.names r.symbol ≡ target → fields_with j r asked target ≡ Ok f
-    → IsOfText total r → total ≤ 4096 * 1024 → r.place % place_alignment (Some asked) ≡ 0 → IsJudged total j r f
+    → IsOfText total r → total ≤ page_size * 1024 → r.place % place_alignment (Some asked) ≡ 0 → IsJudged total j r f
 target_by total j r asked None f symbol is of most aligned = absurd (cc is)
 target_by total j r asked (Some t) f symbol is of most aligned = inside_by total j r asked t (nat_lt r.size (r.offset + asked_bytes asked)) f refl is symbol of most aligned
 
-listed_by : (total : ℕ) (j : Judging) (r : Relocation) (asked : Option Asked) (f : Found) → fields_asked j r asked ≡ Ok f → IsOfText total r → total ≤ 4096 * 1024
+listed_by : (total : ℕ) (j : Judging) (r : Relocation) (asked : Option Asked) (f : Found) → fields_asked j r asked ≡ Ok f → IsOfText total r → total ≤ page_size * 1024
     → r.place % place_alignment asked ≡ 0 → IsJudged total j r f
 listed_by total j r None f is of most aligned = absurd (cc is)
 listed_by total j r (Some asked) f is of most aligned = target_by total j r asked (symbol_target j.names r.symbol) f refl is of most aligned
 
 aligned_by : (total : ℕ) (j : Judging) (r : Relocation) (asked : Option Asked) (whole : Bool) (f : Found) → (r.place % place_alignment asked == 0) ≡ whole
-    → (if whole then fields_asked j r asked else Err ObjectFault.Alignment) ≡ Ok f → IsOfText total r → total ≤ 4096 * 1024 → IsJudged total j r f
+    → (if whole then fields_asked j r asked else Err ObjectFault.Alignment) ≡ Ok f → IsOfText total r → total ≤ page_size * 1024 → IsJudged total j r f
 aligned_by total j r asked true f test is of most = listed_by total j r asked f is of most (eqb-true (r.place % place_alignment asked) 0 test)
 aligned_by total j r asked false f test is of most = absurd (cc is)
 
-is_judged : (total : ℕ) (j : Judging) (r : Relocation) (f : Found) → fields_judged j r ≡ Ok f → IsOfText total r → total ≤ 4096 * 1024 → IsJudged total j r f
+is_judged : (total : ℕ) (j : Judging) (r : Relocation) (f : Found) → fields_judged j r ≡ Ok f → IsOfText total r → total ≤ page_size * 1024 → IsJudged total j r f
 unfolding fields_judged
 is_judged total j r f is of most = aligned_by total j r (asked_of r.kind) (r.place % place_alignment (asked_of r.kind) == 0) f refl is of most
 
@@ -159,13 +160,13 @@ record IsSound (total exports : ℕ) (j : Judging) : Type 0 where
   bases : (symbol : ℕ) → IfThere (HasBase exports) (symbol_target j.names symbol)
   highs : (place : ℕ) → IfThere (IsPlaced total) (j.high_at place)
 
-next_place : (total place : ℕ) → place + 8 ≤ total → total ≤ 4096 * 1024 → (place + 4) % 2 ^ 64 ≡ place + 4
+next_place : (total place : ℕ) → place + 8 ≤ total → total ≤ page_size * 1024 → (place + 4) % 2 ^ 64 ≡ place + 4
 next_place total place fits most = omega arith
 
 four_more : (place : ℕ) → place % 4 ≡ 0 → (place + 4) % 4 ≡ 0
 four_more place aligned = omega arith
 
-call_sites : (total exports : ℕ) (r : Relocation) (t : Target) → r.place + 8 ≤ total → total ≤ 4096 * 1024 → r.place % 4 ≡ 0 → HasBase exports t
+call_sites : (total exports : ℕ) (r : Relocation) (t : Target) → r.place + 8 ≤ total → total ≤ page_size * 1024 → r.place % 4 ≡ 0 → HasBase exports t
     → Each (IsSiteOf total exports) (found_sites (call_fields r t))
 call_sites total exports r t fits most aligned based =
     let next : plus r.place 4 ≡ r.place + 4 = next_place total r.place fits most in
@@ -180,7 +181,7 @@ some_base exports None based = omega arith
 some_base exports (Some t) based = based
 
 low_sites : (total exports : ℕ) (j : Judging) (r : Relocation) (kind : RelocationKind) (high : Option Relocation) (f : Found) → IsSound total exports j → low_fields j r kind high ≡ Ok f
-    → is_low_part kind ≡ true → IfThere (IsPlaced total) high → IsPlace total r.place → total ≤ 4096 * 1024 → r.place % site_size kind ≡ 0 → Each (IsSiteOf total exports) (found_sites f)
+    → is_low_part kind ≡ true → IfThere (IsPlaced total) high → IsPlace total r.place → total ≤ page_size * 1024 → r.place % site_size kind ≡ 0 → Each (IsSiteOf total exports) (found_sites f)
 low_sites total exports j r kind None f sound is low held at most aligned = absurd (cc is)
 low_sites total exports j r kind (Some high) f sound is low held at most aligned =
     let target : Target = or_nothing (symbol_target j.names high.symbol) in
@@ -189,14 +190,14 @@ low_sites total exports j r kind (Some high) f sound is low held at most aligned
     (site_made total exports r.place kind target high.addend high.place most at aligned based held (or_left (is_low_part kind) (high.place == r.place) low), tt)
 
 low_by : (total exports : ℕ) (j : Judging) (r : Relocation) (kind : RelocationKind) (plain : Bool) (high : Option Relocation) (f : Found) → IsSound total exports j
-    → (if plain then low_fields j r kind high else Err ObjectFault.NoHighPart) ≡ Ok f → is_low_part kind ≡ true → IfThere (IsPlaced total) high → IsPlace total r.place → total ≤ 4096 * 1024
+    → (if plain then low_fields j r kind high else Err ObjectFault.NoHighPart) ≡ Ok f → is_low_part kind ≡ true → IfThere (IsPlaced total) high → IsPlace total r.place → total ≤ page_size * 1024
     → r.place % site_size kind ≡ 0 → Each (IsSiteOf total exports) (found_sites f)
 low_by total exports j r kind true high f sound is low held at most aligned = low_sites total exports j r kind high f sound is low held at most aligned
 low_by total exports j r kind false high f sound is low held at most aligned = absurd (cc is)
 
 field_by : (total exports : ℕ) (j : Judging) (r : Relocation) (kind : RelocationKind) (t : Target) (low : Bool) (f : Found) → IsSound total exports j → is_low_part kind ≡ low
     → (if low then (if r.addend == 0 && t.base == 0 then low_fields j r kind (j.high_at t.value) else Err ObjectFault.NoHighPart) else Ok (one_field (site_at r.place kind t r.addend r.place))) ≡ Ok f
-    → HasBase exports t → IsPlace total r.place → total ≤ 4096 * 1024 → r.place % site_size kind ≡ 0 → Each (IsSiteOf total exports) (found_sites f)
+    → HasBase exports t → IsPlace total r.place → total ≤ page_size * 1024 → r.place % site_size kind ≡ 0 → Each (IsSiteOf total exports) (found_sites f)
 field_by total exports j r kind t true f sound low is based at most aligned =
     low_by total exports j r kind (r.addend == 0 && t.base == 0) (j.high_at t.value) f sound is low (sound.highs t.value) at most aligned
 field_by total exports j r kind t false f sound low is based at most aligned =
@@ -204,12 +205,12 @@ field_by total exports j r kind t false f sound low is based at most aligned =
     (site_made total exports r.place kind t r.addend r.place most at aligned based at (or_right (is_low_part kind) (r.place == r.place) (eq-eqb r.place r.place refl)), tt)
 
 asked_sites : (total exports : ℕ) (j : Judging) (r : Relocation) (asked : Asked) (t : Target) (f : Found) → IsSound total exports j → fields_for j r asked t ≡ Ok f
-    → HasBase exports t → IsPlace total r.place → r.place + asked_bytes asked ≤ total → total ≤ 4096 * 1024 → r.place % place_alignment (Some asked) ≡ 0 → Each (IsSiteOf total exports) (found_sites f)
+    → HasBase exports t → IsPlace total r.place → r.place + asked_bytes asked ≤ total → total ≤ page_size * 1024 → r.place % place_alignment (Some asked) ≡ 0 → Each (IsSiteOf total exports) (found_sites f)
 asked_sites total exports j r Call t f sound is based at fits most aligned =
     subst (λ (x : Found). Each (IsSiteOf total exports) (found_sites x)) (ok_same (call_fields r t) f is) (call_sites total exports r t fits most aligned based)
 asked_sites total exports j r (Field kind) t f sound is based at fits most aligned = field_by total exports j r kind t (is_low_part kind) f sound refl is based at most aligned
 
-judged_sites : (total exports : ℕ) (j : Judging) (r : Relocation) (f : Found) → IsSound total exports j → total ≤ 4096 * 1024 → IsJudged total j r f → Each (IsSiteOf total exports) (found_sites f)
+judged_sites : (total exports : ℕ) (j : Judging) (r : Relocation) (f : Found) → IsSound total exports j → total ≤ page_size * 1024 → IsJudged total j r f → Each (IsSiteOf total exports) (found_sites f)
 judged_sites total exports j r f sound most judged =
     asked_sites total exports j r judged.asked judged.target f sound judged.fields (subst (IfThere (HasBase exports)) judged.symbol (sound.bases r.symbol)) (judged_place total j r f judged) judged.fits most
     judged.aligned
@@ -217,25 +218,25 @@ judged_sites total exports j r f sound most judged =
 -- ---- all relocations
 
 places_by : (total : ℕ) (j : Judging) (r : Relocation) (rs : List Relocation) (before sites : List Site) (judged : Judged Found) → fields_judged j r ≡ judged
-    → (judged >>= λ f. each_judged j (before ++ found_sites f) rs) ≡ Ok sites → IsOfText total r → total ≤ 4096 * 1024
+    → (judged >>= λ f. each_judged j (before ++ found_sites f) rs) ≡ Ok sites → IsOfText total r → total ≤ page_size * 1024
     → ((now : List Site) → each_judged j now rs ≡ Ok sites → Each (IsPlaced total) rs) → Each (IsPlaced total) (r ∷ rs)
 places_by total j r rs before sites (Ok f) here is of most rest = (judged_place total j r f (is_judged total j r f here of most), rest (before ++ found_sites f) is)
 places_by total j r rs before sites (Err fault) here is of most rest = absurd (cc is)
 
-all_places : (total : ℕ) (j : Judging) (rs : List Relocation) (before sites : List Site) → each_judged j before rs ≡ Ok sites → Each (IsOfText total) rs → total ≤ 4096 * 1024 → Each (IsPlaced total) rs
+all_places : (total : ℕ) (j : Judging) (rs : List Relocation) (before sites : List Site) → each_judged j before rs ≡ Ok sites → Each (IsOfText total) rs → total ≤ page_size * 1024 → Each (IsPlaced total) rs
 all_places total j [] before sites is of most = tt
 all_places total j (r ∷ rs) before sites is of most =
     places_by total j r rs before sites (fields_judged j r) refl is of.0 most (λ now more. all_places total j rs now sites more of.1 most)
 
 sites_by : (total exports : ℕ) (j : Judging) (r : Relocation) (rs : List Relocation) (before sites : List Site) (judged : Judged Found) → IsSound total exports j → fields_judged j r ≡ judged
-    → (judged >>= λ f. each_judged j (before ++ found_sites f) rs) ≡ Ok sites → IsOfText total r → total ≤ 4096 * 1024 → Each (IsSiteOf total exports) before
+    → (judged >>= λ f. each_judged j (before ++ found_sites f) rs) ≡ Ok sites → IsOfText total r → total ≤ page_size * 1024 → Each (IsSiteOf total exports) before
     → ((now : List Site) → each_judged j now rs ≡ Ok sites → Each (IsSiteOf total exports) now → Each (IsSiteOf total exports) sites) → Each (IsSiteOf total exports) sites
 sites_by total exports j r rs before sites (Ok f) sound here is of most good rest =
     rest (before ++ found_sites f) is (each_append (IsSiteOf total exports) before (found_sites f) good (judged_sites total exports j r f sound most (is_judged total j r f here of most)))
 sites_by total exports j r rs before sites (Err fault) sound here is of most good rest = absurd (cc is)
 
 all_sites : (total exports : ℕ) (j : Judging) (rs : List Relocation) (before sites : List Site) → IsSound total exports j → each_judged j before rs ≡ Ok sites → Each (IsOfText total) rs
-    → total ≤ 4096 * 1024 → Each (IsSiteOf total exports) before → Each (IsSiteOf total exports) sites
+    → total ≤ page_size * 1024 → Each (IsSiteOf total exports) before → Each (IsSiteOf total exports) sites
 all_sites total exports j [] before sites sound is of most good = subst (Each (IsSiteOf total exports)) (ok_same before sites is) good
 all_sites total exports j (r ∷ rs) before sites sound is of most good =
     sites_by total exports j r rs before sites (fields_judged j r) sound refl is of.0 most good (λ now more still. all_sites total exports j rs now sites sound more of.1 most still)
@@ -315,7 +316,7 @@ judging_sound total o exports placed = record {
 }
 
 -- the fields of an object's relocations are fields of its text
-pub object_sites : (total : ℕ) (o : Object) (exports : List Export) (sites : List Site) → sites_of exports o ≡ Ok sites → Each (IsOfText total) (relocations_of_object o) → total ≤ 4096 * 1024
+pub object_sites : (total : ℕ) (o : Object) (exports : List Export) (sites : List Site) → sites_of exports o ≡ Ok sites → Each (IsOfText total) (relocations_of_object o) → total ≤ page_size * 1024
     → Each (IsSiteOf total (length exports)) sites
 object_sites total o exports sites is of most =
     let j : Judging = judging_of o exports in

@@ -1,5 +1,6 @@
 -- Lists that grow by one step.
 use Rattle.std.proofs.Common.{◌≡◌, ℕ, zero, suc, ◌+◌, ◌-◌, ◌<◌, ◌≤◌, Bool, true, false, cond, ◌≢◌, ◌%◌, ◌&&◌, ◌||◌, List, [], ◌∷◌, ◌++◌, length, drop, get_or, Option, Some, Ok, refl, ap, sym, ◌∙◌, arith, append_assoc}
+use Rattle.processor.specs.Bytes.{page_size}
 use Rattle.std.specs.Prelude.{◌==◌, nat_le, if◌then◌else◌, find}
 use Rattle.std.specs.BTreeMap.{insert_entry}
 use Rattle.std.specs.Ordering.{nat_cmp}
@@ -107,14 +108,14 @@ judged_more j sites new found relocations i d within good now =
     ∙ ap (λ (rs : List Relocation). each_judged j sites rs) (sym (drop_more relocations i d within))
 
 -- zeros in front of a section are at most a page
-small : (b : Bool) (a x : ℕ) → (a == 0) ≡ b → (b || (nat_le a 4096 && 4096 % a == 0)) ≡ true → (if b then 0 else x % a) ≤ 4096
+small : (b : Bool) (a x : ℕ) → (a == 0) ≡ b → (b || (nat_le a page_size && page_size % a == 0)) ≡ true → (if b then 0 else x % a) ≤ page_size
 small true a x e good = omega arith
 small false a x e good =
     let some : a ≢ 0 = eqb-false a 0 e in
-    let most = and_parts (nat_le a 4096) (4096 % a == 0) good in
+    let most = and_parts (nat_le a page_size) (page_size % a == 0) good in
     grind (arith, nat_tests)
 
-pub padding_small : (end a : ℕ) → (a == 0 || (nat_le a 4096 && 4096 % a == 0)) ≡ true → padding end a ≤ 4096
+pub padding_small : (end a : ℕ) → (a == 0 || (nat_le a page_size && page_size % a == 0)) ≡ true → padding end a ≤ page_size
 padding_small end a good = small (a == 0) a (a - end % a) refl good
 
 -- what relocations are judged by, from the tables

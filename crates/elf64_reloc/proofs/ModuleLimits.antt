@@ -1,6 +1,7 @@
 -- A module that is read is within the limits: its text is whole pages, at most 1,024, and its fields stand in it, in the
 -- order of their places, under bases that there are.
 use Rattle.std.proofs.Common.{◌≡◌, ℕ, ◌+◌, ◌-◌, ◌*◌, ◌/◌, ◌%◌, ◌^◌, ◌<◌, ◌≤◌, Bool, true, false, List, [], ◌∷◌, ◌++◌, length, map, Option, Some, None, Ok, Err, Ordering, Less, Equal, Greater, refl, ap, sym, subst, ◌∙◌, arith, length-append}
+use Rattle.processor.specs.Bytes.{page_size}
 use Rattle.std.specs.Prelude.{◌&&◌, ◌||◌, ◌==◌, nat_le, nat_lt, if◌then◌else◌, Result, IfOk, slice_get}
 use Rattle.std.specs.BTreeMap.{insert_entry}
 use Rattle.std.specs.List.{list_all}
@@ -10,7 +11,7 @@ use Rattle.std.proofs.lemmas.Bool.Decides.{nat_tests}
 use Rattle.std.proofs.lemmas.List.{length-replicate, length-map}
 use Rattle.sv_types.specs.ApprovedPages.{numbers_from}
 use Rattle.sv_types.specs.Kernel.{first_refusal, file_checks}
-use Rattle.sv_types.specs.Policies.{is_low_part, site_size, module_pages_within, sites_count_within, place_within, is_aligned, base_within, anchor_within, site_within, site_end, sites_end, is_behind, next_site_within, each_within, sites_within}
+use Rattle.sv_types.specs.Policies.{is_low_part, site_size, module_pages_within, sites_count_within, place_within, is_aligned, base_within, anchor_within, site_within, site_end, field_end, sites_end, is_behind, next_site_within, each_within, sites_within}
 use Rattle.sv_types.specs.declared.image_fault.HeaderFault.{HeaderFault}
 use Rattle.sv_types.specs.declared.module.Site.{Site}
 use Rattle.sv_types.specs.declared.policy.Export.{Export}
@@ -19,7 +20,7 @@ use Rattle.sv_types.proofs.PageNumbers.{numbers_length}
 use Rattle.elf64_sections.specs.Sections.{Tables, sections_in_file, sections_among, sections_of, sections_count, sections_place, section_at, tables_of}
 use Rattle.elf64_sections.proofs.Steps.{ok_same}
 use Rattle.elf64_reloc.specs.Layouts.{is_good_alignment, padding, no_ends, placed_sections, text_size}
-use Rattle.elf64_reloc.specs.Modules.{Module, ordered_from, ordered_sites, field_end, some_touch, is_too_large, fields_overlap, module_with, module_of, module_judged, sites_of, text_of, text_from, whole_pages, zeros, pages_of, module_fits}
+use Rattle.elf64_reloc.specs.Modules.{Module, ordered_from, ordered_sites, some_touch, is_too_large, fields_overlap, module_with, module_of, module_judged, sites_of, text_of, text_from, whole_pages, zeros, pages_of, module_fits}
 use Rattle.elf64_reloc.specs.ModuleViews.{module_view}
 use Rattle.elf64_reloc.specs.Objects.{Object, is_good_part, object_with, object_of, object_behind, object_judged}
 use Rattle.elf64_reloc.specs.Refusals.{Judged}
@@ -110,32 +111,32 @@ in_order pages exports before (site ∷ sites) good apart =
 
 -- ---- the pages of the text
 
-pages_are : (text : List ℕ) (total : ℕ) → length text ≡ total → pages_of (whole_pages text) ≡ (total + (4096 - total % 4096) % 4096) / 4096
+pages_are : (text : List ℕ) (total : ℕ) → length text ≡ total → pages_of (whole_pages text) ≡ (total + (page_size - total % page_size) % page_size) / page_size
 pages_are text total same =
-    let behind : length (zeros (padding (length text) 4096)) ≡ padding (length text) 4096 = length-replicate (padding (length text) 4096) 0 in
-    ap (λ (n : ℕ). n / 4096) (length-append text (zeros (padding (length text) 4096)) ∙ ap (λ (n : ℕ). length text + n) behind)
-    ∙ ap (λ (n : ℕ). (n + (4096 - n % 4096) % 4096) / 4096) same
+    let behind : length (zeros (padding (length text) page_size)) ≡ padding (length text) page_size = length-replicate (padding (length text) page_size) 0 in
+    ap (λ (n : ℕ). n / page_size) (length-append text (zeros (padding (length text) page_size)) ∙ ap (λ (n : ℕ). length text + n) behind)
+    ∙ ap (λ (n : ℕ). (n + (page_size - n % page_size) % page_size) / page_size) same
 
 record AreEnough (total pages : ℕ) : Type 0 where
   some : 1 ≤ pages
   most : pages ≤ 1024
-  all : total ≤ 4096 * pages
+  all : total ≤ page_size * pages
 
-enough : (total : ℕ) → 0 < total → total ≤ 4096 * 1024 → AreEnough total ((total + (4096 - total % 4096) % 4096) / 4096)
+enough : (total : ℕ) → 0 < total → total ≤ page_size * 1024 → AreEnough total ((total + (page_size - total % page_size) % page_size) / page_size)
 enough total some most = record { some = omega arith; most = omega arith; all = omega arith }
 
 -- ---- each within the limits
 
-place_fits : (total pages place : ℕ) → IsPlace total place → total ≤ 4096 * pages → place_within pages place ≡ true
+place_fits : (total pages place : ℕ) → IsPlace total place → total ≤ page_size * pages → place_within pages place ≡ true
 place_fits total pages place at most =
     let begins = at.below in
-    let below : nat_lt place (4096 * pages) ≡ true = grind (arith, nat_tests) in
-    and_from (place % 4 == 0) (nat_lt place (4096 * pages)) (eq-eqb (place % 4) 0 at.whole) below
+    let below : nat_lt place (page_size * pages) ≡ true = grind (arith, nat_tests) in
+    and_from (place % 4 == 0) (nat_lt place (page_size * pages)) (eq-eqb (place % 4) 0 at.whole) below
 
 base_fits : (exports base : ℕ) → base < 3 + exports → base_within exports base ≡ true
 base_fits exports base below = grind (arith, nat_tests)
 
-one_fits : (total pages exports : ℕ) (site : Site) → IsSiteOf total exports site → total ≤ 4096 * pages → site_within pages exports site ≡ true
+one_fits : (total pages exports : ℕ) (site : Site) → IsSiteOf total exports site → total ≤ page_size * pages → site_within pages exports site ≡ true
 one_fits total pages exports site of most =
     let anchored : anchor_within pages site.kind site.offset site.anchor ≡ true =
     and_from (place_within pages site.anchor) (is_low_part site.kind || site.anchor == site.offset) (place_fits total pages site.anchor of.anchor most) of.own in
@@ -146,7 +147,7 @@ one_fits total pages exports site of most =
     and_from (place_within pages site.offset && is_aligned site.kind site.offset) (base_within exports site.base) placed (base_fits exports site.base of.base) in
     and_from (place_within pages site.offset && is_aligned site.kind site.offset && base_within exports site.base) (anchor_within pages site.kind site.offset site.anchor) based anchored
 
-all_fit : (total pages exports : ℕ) (sites : List Site) → Each (IsSiteOf total exports) sites → total ≤ 4096 * pages → Each (λ site. site_within pages exports site ≡ true) sites
+all_fit : (total pages exports : ℕ) (sites : List Site) → Each (IsSiteOf total exports) sites → total ≤ page_size * pages → Each (λ site. site_within pages exports site ≡ true) sites
 all_fit total pages exports [] of most = tt
 all_fit total pages exports (site ∷ sites) of most = (one_fits total pages exports site of.0 most, all_fit total pages exports sites of.1 most)
 
@@ -172,11 +173,11 @@ fits_in total pages exports sites enough fields =
     and_from (module_pages_within pages && sites_count_within 0 (length sites)) (sites_within pages exports sites) sized
     (in_order pages exports [] sites (all_fit total pages exports sites fields.each enough.all) fields.apart)
 
-fits_by : (text : List ℕ) (total exports : ℕ) (sites : List Site) → length text ≡ total → 0 < total → total ≤ 4096 * 1024 → AreFieldsOf total exports sites
+fits_by : (text : List ℕ) (total exports : ℕ) (sites : List Site) → length text ≡ total → 0 < total → total ≤ page_size * 1024 → AreFieldsOf total exports sites
     → module_fits exports (record { text = whole_pages text; sites = sites }) ≡ true
 fits_by text total exports sites same some most fields =
     subst (λ (n : ℕ). (module_pages_within n && sites_count_within 0 (length sites) && sites_within n exports sites) ≡ true) (sym (pages_are text total same))
-    (fits_in total ((total + (4096 - total % 4096) % 4096) / 4096) exports sites (enough total some most) fields)
+    (fits_in total ((total + (page_size - total % page_size) % page_size) / page_size) exports sites (enough total some most) fields)
 
 -- an object of a short file, whose sections are good
 record IsShort (o : Object) : Type 0 where
@@ -184,14 +185,14 @@ record IsShort (o : Object) : Type 0 where
   parts : list_all (is_good_part o.file) o.sections ≡ true
   few : 64 * length o.sections ≤ length o.file
 
-room_for : (sections size : ℕ) → size ≤ 2 ^ 32 → 64 * sections ≤ size → 0 + (2 ^ 32 + 4096) * sections < 2 ^ 64
+room_for : (sections size : ℕ) → size ≤ 2 ^ 32 → 64 * sections ≤ size → 0 + (2 ^ 32 + page_size) * sections < 2 ^ 64
 room_for sections size short few = omega arith
 
 record AreFew (count size : ℕ) : Type 0 where
   sites : count ≤ 65536
-  text : size ≤ 4096 * 1024
+  text : size ≤ page_size * 1024
 
-not_large : (count size : ℕ) → (nat_lt 65536 count || nat_lt (4096 * 1024) size) ≡ false → AreFew count size
+not_large : (count size : ℕ) → (nat_lt 65536 count || nat_lt (page_size * 1024) size) ≡ false → AreFew count size
 not_large count size test = record { sites = grind (arith, nat_tests); text = grind (arith, nat_tests) }
 
 not_zero : (n : ℕ) → (n == 0) ≡ false → 0 < n

@@ -1,5 +1,6 @@
 -- The sections of text stand in the text, one behind the other. In a short file no place goes beyond 64 bits.
 use Rattle.std.proofs.Common.{◌≡◌, ℕ, zero, suc, ◌+◌, ◌*◌, ◌%◌, ◌^◌, ◌<◌, ◌≤◌, Bool, true, false, List, [], ◌∷◌, ◌++◌, length, take, drop, Option, Some, None, refl, ap, sym, subst, ◌∙◌, arith, length-append, length-take, length-drop}
+use Rattle.processor.specs.Bytes.{page_size}
 use Rattle.std.specs.Prelude.{◌&&◌, ◌||◌, ◌==◌, if◌then◌else◌, flat_map, slice_get}
 use Rattle.std.specs.List.{list_all}
 use Rattle.std.proofs.lemmas.Bool.{and_parts, eqb-true, leb-true}
@@ -76,7 +77,7 @@ text_in_file file s is good =
 
 -- the most that a section adds to a text, with the zeros in front of it
 abbrev pub most_added : ℕ
-most_added = 2 ^ 32 + 4096
+most_added = 2 ^ 32 + page_size
 
 -- the end of the text behind a section
 abbrev end_behind : Ends → SectionHeader → Space → ℕ
@@ -84,13 +85,13 @@ end_behind ends s Text = ends.text + padding ends.text s.alignment + s.size
 end_behind ends s Data = ends.text
 end_behind ends s Elsewhere = ends.text
 
-sum_is_whole : (end gap size : ℕ) → gap ≤ 4096 → size ≤ 2 ^ 32 → end + most_added < 2 ^ 64 → ((end + gap) % 2 ^ 64 + size) % 2 ^ 64 ≡ end + gap + size
+sum_is_whole : (end gap size : ℕ) → gap ≤ page_size → size ≤ 2 ^ 32 → end + most_added < 2 ^ 64 → ((end + gap) % 2 ^ 64 + size) % 2 ^ 64 ≡ end + gap + size
 sum_is_whole end gap size few small room = omega arith
 
-place_is_whole : (end gap : ℕ) → gap ≤ 4096 → end + most_added < 2 ^ 64 → (end + gap) % 2 ^ 64 ≡ end + gap
+place_is_whole : (end gap : ℕ) → gap ≤ page_size → end + most_added < 2 ^ 64 → (end + gap) % 2 ^ 64 ≡ end + gap
 place_is_whole end gap few room = omega arith
 
-end_by : (ends : Ends) (s : SectionHeader) (space : Space) → (space ≡ Text → s.size ≤ 2 ^ 32) → padding ends.text s.alignment ≤ 4096 → ends.text + most_added < 2 ^ 64
+end_by : (ends : Ends) (s : SectionHeader) (space : Space) → (space ≡ Text → s.size ≤ 2 ^ 32) → padding ends.text s.alignment ≤ page_size → ends.text + most_added < 2 ^ 64
     → (ends_with ends space (plus (place_behind ends space s) s.size)).text ≡ end_behind ends s space
 end_by ends s Text small few room = sum_is_whole ends.text (padding ends.text s.alignment) s.size few (small refl) room
 end_by ends s Data small few room = refl
@@ -111,12 +112,12 @@ record IsNear (before after : ℕ) : Type 0 where
   behind : before ≤ after
   near : after ≤ before + most_added
 
-near_by : (ends : Ends) (s : SectionHeader) (space : Space) → (space ≡ Text → s.size ≤ 2 ^ 32) → padding ends.text s.alignment ≤ 4096 → IsNear ends.text (end_behind ends s space)
+near_by : (ends : Ends) (s : SectionHeader) (space : Space) → (space ≡ Text → s.size ≤ 2 ^ 32) → padding ends.text s.alignment ≤ page_size → IsNear ends.text (end_behind ends s space)
 near_by ends s Text small few =
     let size : s.size ≤ 2 ^ 32 = small refl in
     text_near ends.text (padding ends.text s.alignment) s.size few size
   where
-    text_near : (end gap size : ℕ) → gap ≤ 4096 → size ≤ 2 ^ 32 → IsNear end (end + gap + size)
+    text_near : (end gap size : ℕ) → gap ≤ page_size → size ≤ 2 ^ 32 → IsNear end (end + gap + size)
     text_near end gap size few small = record { behind = omega arith; near = omega arith }
 near_by ends s Data small few = record { behind = omega arith; near = omega arith }
 near_by ends s Elsewhere small few = record { behind = omega arith; near = omega arith }
@@ -175,7 +176,7 @@ end_rises file ends (s ∷ ss) short good room =
 abbrev IsInside : ℕ → PlacedSection → Type 0
 IsInside total p = p.space ≡ Text → p.place + p.size ≤ total
 
-inside_by : (total : ℕ) (ends : Ends) (s : SectionHeader) (space : Space) → padding ends.text s.alignment ≤ 4096 → ends.text + most_added < 2 ^ 64 → end_behind ends s space ≤ total
+inside_by : (total : ℕ) (ends : Ends) (s : SectionHeader) (space : Space) → padding ends.text s.alignment ≤ page_size → ends.text + most_added < 2 ^ 64 → end_behind ends s space ≤ total
     → space ≡ Text → place_behind ends space s + s.size ≤ total
 inside_by total ends s Text few room most is =
     let place = place_is_whole ends.text (padding ends.text s.alignment) few room in

@@ -1,5 +1,4 @@
 pub mod Asking
-pub mod Bases
 pub mod JudgingViews
 pub mod Layouts
 pub mod Modules

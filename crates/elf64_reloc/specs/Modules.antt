@@ -7,7 +7,7 @@ use Rattle.std.specs.Cmp.Lexicographic.{slice_cmp}
 use Rattle.std.specs.List.{list_all}
 use Rattle.std.specs.Ordering.{nat_cmp}
 use Rattle.processor.specs.Effects.{plus, signed_word}
-use Rattle.sv_types.specs.Policies.{is_low_part, site_size, module_pages_within, sites_count_within, sites_within}
+use Rattle.sv_types.specs.Policies.{is_low_part, field_end, module_pages_within, sites_count_within, sites_within}
 use Rattle.sv_types.specs.declared.module.Site.{Site}
 use Rattle.sv_types.specs.declared.policy.Export.{Export}
 use Rattle.sv_types.specs.declared.relocation_kind.RelocationKind.{RelocationKind}
@@ -145,10 +145,6 @@ ordered_from entries (site ∷ sites) = ordered_from (insert_entry nat_cmp entri
 
 abbrev pub ordered_sites : List Site → List Site
 ordered_sites sites = map (λ e. e.1) (ordered_from [] sites)
-
--- the byte behind a field
-abbrev pub field_end : Site → ℕ
-field_end site = site.offset + site_size site.kind
 
 -- a field begins in front of the end of the one before it
 abbrev pub some_touch : ℕ → List Site → Bool

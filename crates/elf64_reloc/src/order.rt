@@ -4,7 +4,7 @@ ghost use Rattle.std.specs.Prelude.{◌≡◌, IfOk};
 ghost use Rattle.std.specs.BTreeMap.{values};
 ghost use Rattle.elf64_reloc.specs.Modules as spec;
 
-use policy_limits::site_size;
+use policy_limits::field_end;
 use std::alloc::{AllocError, Global};
 use std::collections::BTreeMap;
 use sv_types::Site;
@@ -24,12 +24,6 @@ pub(crate) fn ordered_sites(alloc: Global, sites: &[Site]) -> Result<Vec<Site>, 
         entries.insert(site.offset, *site)?;
     }
     in_order(alloc, &entries)
-}
-
-fn field_end(site: &Site) -> u64
-    ensures { result ≡ spec.field_end site.now }
-{
-    site.offset as u64 + site_size(site.kind)
 }
 
 fn some_touch(ordered: &[Site]) -> bool

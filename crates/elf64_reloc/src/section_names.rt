@@ -3,7 +3,9 @@
 ghost use Rattle.std.specs.Prelude.{◌≤◌, length};
 ghost use Rattle.sv_types.specs.Elf.{file_header_size};
 
-use elf64_sections::elf::{E_SHOFF, E_SHSTRNDX, FILE_HEADER_BYTES, SECTION_HEADER_BYTES, SH_NAME};
+use elf64_sections::elf::{
+    E_SHOFF, E_SHSTRNDX, FILE_HEADER_BYTES, SECTION_HEADER_BYTES, SH_NAME, SH_TYPE,
+};
 use elf64_sections::{SectionHeader, double, half, name_at, part, part_in_file, word};
 
 // Where a section's name begins among the names of sections.
@@ -12,7 +14,8 @@ fn name_place(file: &[u8], section: usize) -> Option<u32>
 {
     let table = double(file, E_SHOFF) as usize;
     let at = table.saturating_add(section.saturating_mul(SECTION_HEADER_BYTES));
-    if at.saturating_add(4) > file.len() {
+    // the place of the name, which ends where the type begins
+    if at.saturating_add(SH_TYPE) > file.len() {
         return None;
     }
     Some(word(file, at + SH_NAME))

@@ -3,7 +3,7 @@
 ghost use Rattle.std.specs.Prelude.{◌≡◌, ◌≤◌, ◌<◌, ℕ, List, length, Some, IfOk, option_map};
 ghost use Rattle.sv_types.specs.Limits.{most_exports};
 ghost use Rattle.elf64_reloc.specs.Symbols as spec;
-ghost use Rattle.elf64_reloc.specs.Bases.{base_by_name};
+ghost use Rattle.elf64_sections.specs.NameTables.{number_by_name};
 ghost use Rattle.elf64_reloc.specs.Views.{names_view};
 
 use crate::layout::{PlacedSection, Space};
@@ -34,7 +34,7 @@ pub(crate) fn export_bases<'a>(
     exports: &'a [Export],
 ) -> Result<BTreeMap<&'a str, u16>, AllocError>
     requires { length exports.now ≤ most_exports }
-    ensures { IfOk result (λ bases. (name : List ℕ) → base_by_name bases name ≡ spec.export_base exports.now name) }
+    ensures { IfOk result (λ bases. (name : List ℕ) → number_by_name bases name ≡ spec.export_base exports.now name) }
 {
     let mut bases = BTreeMap::new(alloc);
     'exports: for i in (0..exports.len()).rev() {
@@ -47,7 +47,7 @@ pub(crate) fn export_bases<'a>(
 }
 
 fn wanted_target(bases: &BTreeMap<&str, u16>, name: Option<&str>) -> Option<Target>
-    ensures { result ≡ spec.wanted_target (base_by_name bases.now) (option_map (λ n. n.now) name.entry) }
+    ensures { result ≡ spec.wanted_target (number_by_name bases.now) (option_map (λ n. n.now) name.entry) }
 {
     match name {
         Some(name) => match bases.get(name) {

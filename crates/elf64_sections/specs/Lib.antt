@@ -1,3 +1,4 @@
 pub mod Judged
 pub mod Sections
 pub mod Views
+pub mod NameTables

@@ -1,11 +1,12 @@
 -- Lines of a cache: what they answer, and how they are filled.
 use Rattle.std.proofs.Common.{◌≡◌, ℕ, ◌+◌, ◌-◌, ◌*◌, ◌/◌, ◌%◌, ◌^◌, ◌<◌, ◌⊎◌, inl, inr, List, length, get_or, set, refl, sym, ◌∙◌, ap, subst, arith, Bool, true, false, ◌&&◌}
+use Rattle.processor.specs.Bytes.{page_size}
 use Rattle.std.specs.Prelude.{Option, Some, None, IfSome, if◌then◌else◌, ◌==◌}
 use Rattle.std.proofs.lemmas.Bool.Decides.{nat_tests, eqb_tells}
 use Rattle.std.proofs.lemmas.List.{get_or-set_same, get_or-set_other}
 use Rattle.processor.specs.Regions.{Region}
 use Rattle.processor.specs.Translation.{Destination, At, PageFault, Unreadable}
-use Rattle.processor.specs.SecondStage.{walk_guest, address_at, entry_in_region, entry_in_tables, guest_destination, permits_guest, WalksApart}
+use Rattle.processor.specs.SecondStage.{walk_guest, address_at, entry_in_region, entry_in_tables, guest_destination, permits_guest, WalksApart, guest_address_bits}
 use Rattle.processor.specs.CachedWalks.{line_permits, line_leads, line_at, LineAgrees, CacheAgrees, FilledUnder, no_lines}
 use Rattle.processor.specs.declared.cached.CacheLine.{CacheLine}
 use Rattle.processor.specs.declared.access.Access.{Access}
@@ -24,31 +25,31 @@ line_readable true x = tt
 line_readable false x = tt
 
 -- as the walk of the tables, for each address of its page
-pub line_answers : (r : Region) (line : CacheLine) (gpa : ℕ) (access : Access) → LineAgrees r.tables line → line.page ≡ gpa / 4096
-    → walk_guest r line.hgatp gpa access ≡ (if line_permits line access then Some (line.host + gpa % 4096) else None)
+pub line_answers : (r : Region) (line : CacheLine) (gpa : ℕ) (access : Access) → LineAgrees r.tables line → line.page ≡ gpa / page_size
+    → walk_guest r line.hgatp gpa access ≡ (if line_permits line access then Some (line.host + gpa % page_size) else None)
 line_answers r line gpa access agrees same =
-    let place : 4096 * line.page + gpa % 4096 ≡ gpa = omega arith in
-    let near : gpa < 2 ^ 41 = let reach = agrees.reach in omega arith in
-    let small : gpa % 4096 < 4096 = omega arith in
-    let leads : guest_destination (entry_in_tables r.tables) line.hgatp gpa access ≡ line_leads line access (gpa % 4096) =
-    ap (λ (a : ℕ). guest_destination (entry_in_tables r.tables) line.hgatp a access) (sym place) ∙ agrees.leads (gpa % 4096) access small in
+    let place : page_size * line.page + gpa % page_size ≡ gpa = omega arith in
+    let near : gpa < 2 ^ guest_address_bits = let reach = agrees.reach in omega arith in
+    let small : gpa % page_size < page_size = omega arith in
+    let leads : guest_destination (entry_in_tables r.tables) line.hgatp gpa access ≡ line_leads line access (gpa % page_size) =
+    ap (λ (a : ℕ). guest_destination (entry_in_tables r.tables) line.hgatp a access) (sym place) ∙ agrees.leads (gpa % page_size) access small in
     let readable : IsReadable (guest_destination (entry_in_tables r.tables) line.hgatp gpa access) =
-    subst (λ (d : Destination). IsReadable d) (sym leads) (line_readable (line_permits line access) (line.host + gpa % 4096)) in
+    subst (λ (d : Destination). IsReadable d) (sym leads) (line_readable (line_permits line access) (line.host + gpa % page_size)) in
     answer_is r line.hgatp gpa access near
     ∙ ap address_at (leads_in_region r line.hgatp gpa access readable ∙ leads)
-    ∙ address_chosen (line_permits line access) (line.host + gpa % 4096)
+    ∙ address_chosen (line_permits line access) (line.host + gpa % page_size)
 
-pub line_fits : (r : Region) (line : CacheLine) (gpa : ℕ) (access : Access) → LineAgrees r.tables line → line.page ≡ gpa / 4096
-    → line_permits line access ≡ true → line.host + gpa % 4096 < 2 ^ 64
+pub line_fits : (r : Region) (line : CacheLine) (gpa : ℕ) (access : Access) → LineAgrees r.tables line → line.page ≡ gpa / page_size
+    → line_permits line access ≡ true → line.host + gpa % page_size < 2 ^ 64
 line_fits r line gpa access agrees same permitted =
-    let answer : walk_guest r line.hgatp gpa access ≡ Some (line.host + gpa % 4096) =
-    line_answers r line gpa access agrees same ∙ ap (λ (b : Bool). if b then Some (line.host + gpa % 4096) else None) permitted in
-    (walk_guest_fits r line.hgatp gpa (line.host + gpa % 4096) access answer).1
+    let answer : walk_guest r line.hgatp gpa access ≡ Some (line.host + gpa % page_size) =
+    line_answers r line gpa access agrees same ∙ ap (λ (b : Bool). if b then Some (line.host + gpa % page_size) else None) permitted in
+    (walk_guest_fits r line.hgatp gpa (line.host + gpa % page_size) access answer).1
 
 -- ---- how a line is filled
 
 lead_of : (d : Destination) (permits : Bool) (hpa place : ℕ) → IsReadable d → address_at d ≡ (if permits then Some hpa else None)
-    → destination_at place d ≡ (if permits then At (hpa - hpa % 4096 + place) else PageFault)
+    → destination_at place d ≡ (if permits then At (hpa - hpa % page_size + place) else PageFault)
 lead_of (At x) true hpa place readable e = let same : x ≡ hpa = cc in rw same refl
 lead_of (At x) false hpa place readable e = absurd (cc)
 lead_of PageFault true hpa place readable e = absurd (cc)
@@ -65,20 +66,20 @@ pub fill_agrees : (r : Region) (hgatp gpa : ℕ) (access : Access) (mapping : Ma
     → LineAgrees r.tables (line_of_mapping hgatp gpa mapping)
 fill_agrees r hgatp gpa access mapping apart answers permitted =
     let found : walk_guest r hgatp gpa access ≡ Some mapping.hpa = answers access ∙ ap (λ (b : Bool). if b then Some mapping.hpa else None) permitted in
-    let near : gpa < 2 ^ 41 = answer_near r hgatp gpa mapping.hpa access found in
+    let near : gpa < 2 ^ guest_address_bits = answer_near r hgatp gpa mapping.hpa access found in
     record {
       reach = omega arith;
       leads = λ place other below.
-          let at : ℕ = 4096 * (gpa / 4096) + place in
-          let same : gpa / 4096 ≡ at / 4096 = omega arith in
-          let inside : at % 4096 ≡ place = omega arith in
+          let at : ℕ = page_size * (gpa / page_size) + place in
+          let same : gpa / page_size ≡ at / page_size = omega arith in
+          let inside : at % page_size ≡ place = omega arith in
           let answer : address_at (guest_destination (entry_in_region r) hgatp gpa other) ≡ (if permits_guest other mapping.leaf.0 then Some mapping.hpa else None) =
           sym (answer_is r hgatp gpa other near) ∙ answers other in
           apart.reads at other (omega arith)
           ∙ page_moves (entry_in_region r) hgatp gpa at other same
           ∙ ap (λ (p : ℕ). destination_at p (guest_destination (entry_in_region r) hgatp gpa other)) inside
           ∙ lead_of (guest_destination (entry_in_region r) hgatp gpa other) (permits_guest other mapping.leaf.0) mapping.hpa place (region_readable r hgatp gpa other) answer
-          ∙ ap (λ (b : Bool). if b then At (mapping.hpa - mapping.hpa % 4096 + place) else PageFault) (permits_as hgatp gpa mapping other);
+          ∙ ap (λ (b : Bool). if b then At (mapping.hpa - mapping.hpa % page_size + place) else PageFault) (permits_as hgatp gpa mapping other);
     }
 
 -- line j behind a change of line i

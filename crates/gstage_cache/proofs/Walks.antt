@@ -2,10 +2,10 @@
 use Rattle.std.proofs.Common.{◌≡◌, ℕ, zero, suc, ◌+◌, ◌-◌, ◌*◌, ◌/◌, ◌%◌, ◌^◌, ◌<◌, ◌≤◌, List, [], ◌∷◌, length, refl, ◌∙◌, ap, arith, lit≤, Bool, true, false, ◌&&◌}
 use Rattle.std.specs.Prelude.{Option, Some, None, if◌then◌else◌, ◌==◌, nat_le, nat_lt}
 use Rattle.std.proofs.lemmas.Bool.Decides.{nat_tests}
-use Rattle.processor.specs.Bytes.{word}
+use Rattle.processor.specs.Bytes.{word, page_size}
 use Rattle.processor.specs.Regions.{Region, host_word}
 use Rattle.processor.specs.Translation.{walk, is_pointer, is_leaf, entry_page, leaf_address, at_leaf, at_entry, root_of, Destination, At, PageFault, Unreadable}
-use Rattle.processor.specs.SecondStage.{walk_guest, address_at, entry_in_region, entry_in_tables, host_entry, permits_guest, sv39x4_indices, guest_destination}
+use Rattle.processor.specs.SecondStage.{walk_guest, address_at, entry_in_region, entry_in_tables, host_entry, permits_guest, sv39x4_indices, guest_destination, guest_address_bits}
 use Rattle.processor.specs.declared.access.Access.{Access}
 
 -- ---- a reader that reads more
@@ -79,12 +79,12 @@ region_readable r hgatp gpa access = walk_readable r (permits_guest access) (sv3
 
 -- where the walk of another address of the page leads, at this place in the page
 abbrev pub destination_at : ℕ → Destination → Destination
-destination_at place (At found) = At (found - found % 4096 + place)
+destination_at place (At found) = At (found - found % page_size + place)
 destination_at place PageFault = PageFault
 destination_at place (Unreadable entry) = Unreadable entry
 
-leaf_moves : (below e a b : ℕ) → below < 3 → a / 4096 ≡ b / 4096
-    → leaf_address below e b ≡ leaf_address below e a - leaf_address below e a % 4096 + b % 4096
+leaf_moves : (below e a b : ℕ) → below < 3 → a / page_size ≡ b / page_size
+    → leaf_address below e b ≡ leaf_address below e a - leaf_address below e a % page_size + b % page_size
 leaf_moves zero e a b few same = omega arith
 leaf_moves (suc zero) e a b few same = omega arith
 leaf_moves (suc (suc zero)) e a b few same = omega arith
@@ -94,32 +94,32 @@ pub choose_moves : (c : Bool) (place : ℕ) (x y v w : Destination) → v ≡ de
 choose_moves true place x y v w h k = h
 choose_moves false place x y v w h k = k
 
-entry_moves : (grants : ℕ → Bool) (below at a b : ℕ) (deeper other : ℕ → Destination) (entry : Option ℕ) → below < 3 → a / 4096 ≡ b / 4096
-    → ((e : ℕ) → other (entry_page e) ≡ destination_at (b % 4096) (deeper (entry_page e)))
-    → at_entry grants below at other b entry ≡ destination_at (b % 4096) (at_entry grants below at deeper a entry)
+entry_moves : (grants : ℕ → Bool) (below at a b : ℕ) (deeper other : ℕ → Destination) (entry : Option ℕ) → below < 3 → a / page_size ≡ b / page_size
+    → ((e : ℕ) → other (entry_page e) ≡ destination_at (b % page_size) (deeper (entry_page e)))
+    → at_entry grants below at other b entry ≡ destination_at (b % page_size) (at_entry grants below at deeper a entry)
 entry_moves grants below at a b deeper other None few same deep = refl
 entry_moves grants below at a b deeper other (Some e) few same deep =
-    choose_moves (is_pointer e) (b % 4096) (deeper (entry_page e)) (at_leaf grants below e a) (other (entry_page e)) (at_leaf grants below e b) (deep e)
-    (choose_moves (is_leaf below e && grants e) (b % 4096) (At (leaf_address below e a)) PageFault (At (leaf_address below e b)) PageFault
+    choose_moves (is_pointer e) (b % page_size) (deeper (entry_page e)) (at_leaf grants below e a) (other (entry_page e)) (at_leaf grants below e b) (deep e)
+    (choose_moves (is_leaf below e && grants e) (b % page_size) (At (leaf_address below e a)) PageFault (At (leaf_address below e b)) PageFault
     (ap At (leaf_moves below e a b few same)) refl)
 
-pub walk_moves : (read : ℕ → Option ℕ) (grants : ℕ → Bool) (indices : List ℕ) (table a b : ℕ) → length indices ≤ 3 → a / 4096 ≡ b / 4096
-    → walk read grants indices table b ≡ destination_at (b % 4096) (walk read grants indices table a)
+pub walk_moves : (read : ℕ → Option ℕ) (grants : ℕ → Bool) (indices : List ℕ) (table a b : ℕ) → length indices ≤ 3 → a / page_size ≡ b / page_size
+    → walk read grants indices table b ≡ destination_at (b % page_size) (walk read grants indices table a)
 unfolding walk
 walk_moves read grants [] table a b few same = refl
 walk_moves read grants (index ∷ indices) table a b few same =
     entry_moves grants (length indices) (table + 8 * index) a b (λ next. walk read grants indices next a) (λ next. walk read grants indices next b)
     (read (table + 8 * index)) (omega arith) same (λ e. walk_moves read grants indices (entry_page e) a b (omega arith) same)
 
-same_indices : (a b : ℕ) → a / 4096 ≡ b / 4096 → sv39x4_indices b ≡ sv39x4_indices a
+same_indices : (a b : ℕ) → a / page_size ≡ b / page_size → sv39x4_indices b ≡ sv39x4_indices a
 same_indices a b same =
     let high : b / 2 ^ 30 ≡ a / 2 ^ 30 = omega arith in
     let middle : b / 2 ^ 21 ≡ a / 2 ^ 21 = omega arith in
     let low : b / 2 ^ 12 ≡ a / 2 ^ 12 = omega arith in
     rw (high, middle, low) refl
 
-pub page_moves : (read : ℕ → Option ℕ) (hgatp a b : ℕ) (access : Access) → a / 4096 ≡ b / 4096
-    → guest_destination read hgatp b access ≡ destination_at (b % 4096) (guest_destination read hgatp a access)
+pub page_moves : (read : ℕ → Option ℕ) (hgatp a b : ℕ) (access : Access) → a / page_size ≡ b / page_size
+    → guest_destination read hgatp b access ≡ destination_at (b % page_size) (guest_destination read hgatp a access)
 page_moves read hgatp a b access same =
     ap (λ (indices : List ℕ). walk read (permits_guest access) indices (root_of hgatp) b) (same_indices a b same)
     ∙ walk_moves read (permits_guest access) (sv39x4_indices a) (root_of hgatp) a b (lit≤ tt) same
@@ -131,13 +131,13 @@ within true d x e = refl
 within false d x e = absurd (cc)
 
 -- an address that leads somewhere is within reach
-pub answer_near : (r : Region) (hgatp gpa x : ℕ) (access : Access) → walk_guest r hgatp gpa access ≡ Some x → gpa < 2 ^ 41
+pub answer_near : (r : Region) (hgatp gpa x : ℕ) (access : Access) → walk_guest r hgatp gpa access ≡ Some x → gpa < 2 ^ guest_address_bits
 unfolding walk_guest
 answer_near r hgatp gpa x access e =
-    let test : (gpa / 2 ^ 41 == 0) ≡ true = within (gpa / 2 ^ 41 == 0) (guest_destination (entry_in_region r) hgatp gpa access) x e in grind (arith, nat_tests)
+    let test : (gpa / 2 ^ guest_address_bits == 0) ≡ true = within (gpa / 2 ^ guest_address_bits == 0) (guest_destination (entry_in_region r) hgatp gpa access) x e in grind (arith, nat_tests)
 
 -- there the answer is where the walk leads
-pub answer_is : (r : Region) (hgatp gpa : ℕ) (access : Access) → gpa < 2 ^ 41
+pub answer_is : (r : Region) (hgatp gpa : ℕ) (access : Access) → gpa < 2 ^ guest_address_bits
     → walk_guest r hgatp gpa access ≡ address_at (guest_destination (entry_in_region r) hgatp gpa access)
 unfolding walk_guest
-answer_is r hgatp gpa access near = let test : (gpa / 2 ^ 41 == 0) ≡ true = grind (arith, nat_tests) in rw test refl
+answer_is r hgatp gpa access near = let test : (gpa / 2 ^ guest_address_bits == 0) ≡ true = grind (arith, nat_tests) in rw test refl

@@ -1,5 +1,6 @@
 -- What the entries of the trees give, bit by bit.
 use Rattle.std.proofs.Common.{◌≡◌, ℕ, ◌+◌, ◌*◌, ◌/◌, ◌%◌, ◌^◌, ◌<◌, Bool, true, false, refl, ap, ◌∙◌, arith, lit<}
+use Rattle.processor.specs.Bytes.{page_size}
 use Rattle.std.specs.Prelude.{◌&&◌, ◌||◌, not, Some, if◌then◌else◌}
 use Rattle.processor.specs.Bits.{bit}
 use Rattle.processor.specs.Translation.{well_formed, is_pointer, is_leaf, at_entry, Destination, At, PageFault}
@@ -46,8 +47,8 @@ pointer_is p l =
     rw (bit_0 p 1 (lit< tt), bit_1 p 1 (lit< tt), bit_2 p 1 (lit< tt), bit_3 p 1 (lit< tt), bit_4 p 1 (lit< tt), bit_6 p 1 (lit< tt), bit_7 p 1 (lit< tt), reserved p 1 (lit< tt) l) refl
 
 pub pointer_gives : (grants : ℕ → Bool) (below at a p : ℕ) (deeper : ℕ → Destination) → p < 2 ^ 44
-    → at_entry grants below at deeper a (Some (pointer p)) ≡ deeper (4096 * p)
-pointer_gives grants below at a p deeper l = rw (pointer_is p l) (ap (λ (n : ℕ). deeper (4096 * n)) (named p 1 (lit< tt) l))
+    → at_entry grants below at deeper a (Some (pointer p)) ≡ deeper (page_size * p)
+pointer_gives grants below at a p deeper l = rw (pointer_is p l) (ap (λ (n : ℕ). deeper (page_size * n)) (named p 1 (lit< tt) l))
 
 zero_is : is_pointer 0 ≡ false
 unfolding is_pointer well_formed
@@ -132,13 +133,13 @@ says sight page protection Store = store_said (view_permits sight page protectio
 -- a leaf with so many levels below it maps as large a block
 pub leaf_gives : (below : ℕ) (sight : Sight) (page : ℕ) (protection : Protection) (host at a : ℕ) (access : Access) (deeper : ℕ → Destination) → host < 2 ^ 44 → host % 512 ^ below ≡ 0
     → at_entry (permits_guest access) below at deeper a (Some (leaf sight page protection host))
-    ≡ (if view_permits sight page protection access then At (4096 * host + a % (4096 * 512 ^ below)) else PageFault)
+    ≡ (if view_permits sight page protection access then At (page_size * host + a % (page_size * 512 ^ below)) else PageFault)
 leaf_gives below sight page protection host at a access deeper l whole =
     let store : Bool = view_permits sight page protection Store in
     let fetch : Bool = view_permits sight page protection Fetch in
     let f : ℕ = flags store fetch in
     let few : f < 1024 = few_flags store fetch in
-    let address : 4096 * ((1024 * host + f) / 2 ^ 10 % 2 ^ 44) + a % (4096 * 512 ^ below) ≡ 4096 * host + a % (4096 * 512 ^ below) = ap (λ (n : ℕ). 4096 * n + a % (4096 * 512 ^ below)) (named host f few l) in
+    let address : page_size * ((1024 * host + f) / 2 ^ 10 % 2 ^ 44) + a % (page_size * 512 ^ below) ≡ page_size * host + a % (page_size * 512 ^ below) = ap (λ (n : ℕ). page_size * n + a % (page_size * 512 ^ below)) (named host f few l) in
     rw (leaf_pointer host f few l, never_points store fetch, leaf_is below host f few l whole, leaf_permits host f access few, says sight page protection access, address) refl
 
 -- ---- whether an entry of level 1 is a leaf

@@ -5,12 +5,12 @@ use borrow.Author.Tests.{le-leb, lt-ltb, le-ltb, ne_eqb}
 use Rattle.std.proofs.lemmas.Bool.{lt-leb, leb-true, eqb-true, and_parts}
 use Rattle.std.proofs.lemmas.Bool.Decides.{nat_tests}
 use Rattle.std.proofs.lemmas.Option.{same_Some}
-use Rattle.processor.specs.Bytes.{word, page_of, ram_place}
+use Rattle.processor.specs.Bytes.{word, page_of, ram_place, page_size, ram_base}
 use Rattle.processor.specs.Regions.{host_word}
 use Rattle.processor.specs.Instructions.{bits}
 use Rattle.processor.specs.Translation.{walk, root_of, Destination, At, PageFault}
 use Rattle.sv_types.specs.Views.{IsView, AreViews, Sight, OfKernel, OfUser, OfEntry, sight_of, view_hgatp, view_answer, view_permits, page_in_ram, with_ram}
-use Rattle.processor.specs.SecondStage.{walk_guest, address_at, guest_destination, entry_in_tables, entry_in_region, host_entry, permits_guest}
+use Rattle.processor.specs.SecondStage.{walk_guest, address_at, guest_destination, entry_in_tables, entry_in_region, host_entry, permits_guest, guest_address_bits}
 use Rattle.processor.specs.declared.access.Access.{Access}
 use Rattle.processor.specs.declared.access.Access.TheVariants.{Fetch, Load, Store}
 use Rattle.sv_types.specs.declared.protection.Protection.{Protection}
@@ -32,12 +32,12 @@ unfolding walk
 step_zero read grants i is table a e = rw e (zero_gives grants (length is) (table + 8 * i) a (λ next. walk read grants is next a))
 
 step_on : (read : ℕ → Option ℕ) (grants : ℕ → Bool) (i : ℕ) (is : List ℕ) (table a p : ℕ) → read (table + 8 * i) ≡ Some (pointer p) → p < 2 ^ 44
-    → walk read grants (i ∷ is) table a ≡ walk read grants is (4096 * p) a
+    → walk read grants (i ∷ is) table a ≡ walk read grants is (page_size * p) a
 unfolding walk
 step_on read grants i is table a p e l = rw e (pointer_gives grants (length is) (table + 8 * i) a p (λ next. walk read grants is next a) l)
 
 step_leaf : (read : ℕ → Option ℕ) (access : Access) (i table a host : ℕ) (sight : Sight) (page : ℕ) (protection : Protection) → read (table + 8 * i) ≡ Some (leaf sight page protection host) → host < 2 ^ 44
-    → walk read (permits_guest access) (i ∷ []) table a ≡ (if view_permits sight page protection access then At (4096 * host + a % 4096) else PageFault)
+    → walk read (permits_guest access) (i ∷ []) table a ≡ (if view_permits sight page protection access then At (page_size * host + a % page_size) else PageFault)
 unfolding walk
 step_leaf read access i table a host sight page protection e l =
     let whole : host % 1 ≡ 0 = omega arith in
@@ -45,7 +45,7 @@ step_leaf read access i table a host sight page protection e l =
 
 -- a leaf of level 1
 step_block : (read : ℕ → Option ℕ) (access : Access) (i j table a host : ℕ) (sight : Sight) (page : ℕ) (protection : Protection) → read (table + 8 * i) ≡ Some (leaf sight page protection host) → host < 2 ^ 44
-    → host % 512 ≡ 0 → walk read (permits_guest access) (i ∷ j ∷ []) table a ≡ (if view_permits sight page protection access then At (4096 * host + a % 2097152) else PageFault)
+    → host % 512 ≡ 0 → walk read (permits_guest access) (i ∷ j ∷ []) table a ≡ (if view_permits sight page protection access then At (page_size * host + a % 2097152) else PageFault)
 unfolding walk
 step_block read access i j table a host sight page protection e l whole =
     rw e (leaf_gives 1 sight page protection host (table + 8 * i) a access (λ next. walk read (permits_guest access) (j ∷ []) next a) l whole)
@@ -65,18 +65,18 @@ pub record Reads (read : ℕ → Option ℕ) (pages t n trees : ℕ) (sights : �
 
 -- ---- whether an address lies in RAM
 
-not_below : (pages gpa : ℕ) → gpa < 0x80000000 → page_in_ram pages gpa ≡ false
-not_below pages gpa l = let e : nat_le 0x80000000 gpa ≡ false = lt-leb 0x80000000 gpa l in rw e refl
+not_below : (pages gpa : ℕ) → gpa < ram_base → page_in_ram pages gpa ≡ false
+not_below pages gpa l = let e : nat_le ram_base gpa ≡ false = lt-leb ram_base gpa l in rw e refl
 
-not_past : (pages gpa : ℕ) → 0x80000000 ≤ gpa → pages ≤ (gpa - 0x80000000) / 4096 → page_in_ram pages gpa ≡ false
+not_past : (pages gpa : ℕ) → ram_base ≤ gpa → pages ≤ (gpa - ram_base) / page_size → page_in_ram pages gpa ≡ false
 not_past pages gpa above l =
-    let e : nat_le 0x80000000 gpa ≡ true = le-leb 0x80000000 gpa above in
-    let f : nat_lt ((gpa - 0x80000000) / 4096) pages ≡ false = le-ltb ((gpa - 0x80000000) / 4096) pages l in rw (e, f) refl
+    let e : nat_le ram_base gpa ≡ true = le-leb ram_base gpa above in
+    let f : nat_lt ((gpa - ram_base) / page_size) pages ≡ false = le-ltb ((gpa - ram_base) / page_size) pages l in rw (e, f) refl
 
-within : (pages gpa : ℕ) → 0x80000000 ≤ gpa → (gpa - 0x80000000) / 4096 < pages → page_in_ram pages gpa ≡ true
+within : (pages gpa : ℕ) → ram_base ≤ gpa → (gpa - ram_base) / page_size < pages → page_in_ram pages gpa ≡ true
 within pages gpa above l =
-    let e : nat_le 0x80000000 gpa ≡ true = le-leb 0x80000000 gpa above in
-    let f : nat_lt ((gpa - 0x80000000) / 4096) pages ≡ true = lt-ltb ((gpa - 0x80000000) / 4096) pages l in rw (e, f) refl
+    let e : nat_le ram_base gpa ≡ true = le-leb ram_base gpa above in
+    let f : nat_lt ((gpa - ram_base) / page_size) pages ≡ true = lt-ltb ((gpa - ram_base) / page_size) pages l in rw (e, f) refl
 
 -- ---- where a walk leads
 
@@ -88,10 +88,10 @@ outside : (table_bytes pages : ℕ) (sight : Sight) (ps : ℕ → Protection) (g
     → PageFault ≡ leads table_bytes pages sight ps gpa access
 outside table_bytes pages sight ps gpa access misses = rw misses refl
 
-inside : (pages n : ℕ) (sight : Sight) (ps : ℕ → Protection) (gpa p : ℕ) (access : Access) → page_in_ram pages gpa ≡ true → 0x80000000 ≤ gpa → p ≡ (gpa - 0x80000000) / 4096
-    → (if view_permits sight p (ps p) access then At (4096 * (n + p) + gpa % 4096) else PageFault) ≡ leads (4096 * n) pages sight ps gpa access
+inside : (pages n : ℕ) (sight : Sight) (ps : ℕ → Protection) (gpa p : ℕ) (access : Access) → page_in_ram pages gpa ≡ true → ram_base ≤ gpa → p ≡ (gpa - ram_base) / page_size
+    → (if view_permits sight p (ps p) access then At (page_size * (n + p) + gpa % page_size) else PageFault) ≡ leads (page_size * n) pages sight ps gpa access
 inside pages n sight ps gpa p access hits above is =
-    let place : 4096 * (n + p) + gpa % 4096 ≡ 4096 * n + (gpa - 0x80000000) = omega arith in
+    let place : page_size * (n + p) + gpa % page_size ≡ page_size * n + (gpa - ram_base) = omega arith in
     rw (hits, ← is, place) refl
 
 -- a free page of a block is seen as its first
@@ -106,11 +106,11 @@ free_alike (OfEntry bound) p q Fetch = refl
 free_alike (OfEntry bound) p q Load = refl
 free_alike (OfEntry bound) p q Store = refl
 
-in_block : (pages n : ℕ) (sight : Sight) (ps : ℕ → Protection) (gpa block p : ℕ) (access : Access) → page_in_ram pages gpa ≡ true → 0x80000000 ≤ gpa → gpa < 0xC0000000
-    → p ≡ (gpa - 0x80000000) / 4096 → block ≡ gpa / 2 ^ 21 % 512 → ps p ≡ Free
-    → (if view_permits sight (512 * block) Free access then At (4096 * (n + 512 * block) + gpa % 2097152) else PageFault) ≡ leads (4096 * n) pages sight ps gpa access
+in_block : (pages n : ℕ) (sight : Sight) (ps : ℕ → Protection) (gpa block p : ℕ) (access : Access) → page_in_ram pages gpa ≡ true → ram_base ≤ gpa → gpa < 0xC0000000
+    → p ≡ (gpa - ram_base) / page_size → block ≡ gpa / 2 ^ 21 % 512 → ps p ≡ Free
+    → (if view_permits sight (512 * block) Free access then At (page_size * (n + 512 * block) + gpa % 2097152) else PageFault) ≡ leads (page_size * n) pages sight ps gpa access
 in_block pages n sight ps gpa block p access hits above high is index free =
-    let place : 4096 * (n + 512 * block) + gpa % 2097152 ≡ 4096 * n + (gpa - 0x80000000) = omega arith in
+    let place : page_size * (n + 512 * block) + gpa % 2097152 ≡ page_size * n + (gpa - ram_base) = omega arith in
     let seen : view_permits sight (512 * block) Free access ≡ view_permits sight p (ps p) access =
     free_alike sight (512 * block) p access ∙ ap (λ (x : Protection). view_permits sight p x access) (sym free) in
     rw (hits, ← is, seen, place) refl
@@ -147,20 +147,20 @@ module _ (read : ℕ → Option ℕ) (pages t n trees : ℕ) (sights : ℕ → S
 
   -- the tree's tables
   abbrev middle : ℕ
-  middle = 4096 * (4 * trees + tree)
+  middle = page_size * (4 * trees + tree)
 
   abbrev last : ℕ
-  last = 4096 * (5 * trees + tree * t + i1)
+  last = page_size * (5 * trees + tree * t + i1)
 
-  first : gpa < 2 ^ 41 → read (root_of hgatp + 8 * i2) ≡ Some (root_word trees tree i2)
+  first : gpa < 2 ^ guest_address_bits → read (root_of hgatp + 8 * i2) ≡ Some (root_word trees tree i2)
   first l =
       let place : root_of hgatp + 8 * i2 ≡ 8 * (512 * (4 * tree) + i2) = ap (λ (k : ℕ). k + 8 * i2) rooted ∙ omega arith in
       ap read place ∙ h.roots tree i2 there (omega arith)
 
-  missed : gpa < 2 ^ 41 → i2 ≢ 2 → guest_destination read hgatp gpa access ≡ PageFault
+  missed : gpa < 2 ^ guest_address_bits → i2 ≢ 2 → guest_destination read hgatp gpa access ≡ PageFault
   missed l ne = step_zero read grants i2 (i1 ∷ i0 ∷ []) (root_of hgatp) gpa (first l ∙ ap Some (root_other trees tree i2 ne))
 
-  met : gpa < 2 ^ 41 → i2 ≡ 2 → guest_destination read hgatp gpa access ≡ walk read grants (i1 ∷ i0 ∷ []) middle gpa
+  met : gpa < 2 ^ guest_address_bits → i2 ≡ 2 → guest_destination read hgatp gpa access ≡ walk read grants (i1 ∷ i0 ∷ []) middle gpa
   met l same =
       let few = h.few_trees in
       step_on read grants i2 (i1 ∷ i0 ∷ []) (root_of hgatp) gpa (4 * trees + tree) (first l ∙ ap Some (root_two trees tree i2 same)) (omega arith)
@@ -182,13 +182,13 @@ module _ (read : ℕ → Option ℕ) (pages t n trees : ℕ) (sights : ℕ → S
       (low trees tree t i1 there h.few_trees h.few_tables some)
 
   -- a whole block: each of its pages lies in RAM and is free
-  one_leaf : i1 < t → 0x80000000 ≤ gpa → gpa < 0xC0000000 → whole ≡ true → walk read grants (i1 ∷ i0 ∷ []) middle gpa ≡ leads (4096 * n) pages (sights tree) ps gpa access
+  one_leaf : i1 < t → ram_base ≤ gpa → gpa < 0xC0000000 → whole ≡ true → walk read grants (i1 ∷ i0 ∷ []) middle gpa ≡ leads (page_size * n) pages (sights tree) ps gpa access
   one_leaf some above high is =
       let few = h.few_pages in
       let aligned = h.aligned in
       let parts = whole_parts pages ps i1 is in
       let fits : 512 * i1 + 512 ≤ pages = parts.0 in
-      let page : 512 * i1 + i0 ≡ (gpa - 0x80000000) / 4096 = omega arith in
+      let page : 512 * i1 + i0 ≡ (gpa - ram_base) / page_size = omega arith in
       let free : ps (512 * i1 + i0) ≡ Free = block_free ps i1 parts.1 i0 (omega arith) in
       step_block read access i1 i0 middle gpa (n + 512 * i1) (sights tree) (512 * i1) Free
       (second ∙ ap Some (middle_whole trees t n (sights tree) tree i1 whole some is)) (omega arith) (omega arith)
@@ -199,35 +199,35 @@ module _ (read : ℕ → Option ℕ) (pages t n trees : ℕ) (sights : ℕ → S
       let place : last + 8 * i0 ≡ 8 * (512 * (5 * trees + tree * t) + (512 * i1 + i0)) = leaf_place (5 * trees + tree * t) i1 i0 in
       ap read place ∙ h.leaves tree (512 * i1 + i0) there (omega arith)
     where
-      leaf_place : (at i j : ℕ) → 4096 * (at + i) + 8 * j ≡ 8 * (512 * at + (512 * i + j))
+      leaf_place : (at i j : ℕ) → page_size * (at + i) + 8 * j ≡ 8 * (512 * at + (512 * i + j))
       leaf_place at i j = omega arith
 
   past : i1 < t → pages ≤ 512 * i1 + i0 → walk read grants (i0 ∷ []) last gpa ≡ PageFault
   past some beyond = step_zero read grants i0 [] last gpa (third some ∙ ap Some (leaf_past pages n (sights tree) ps (512 * i1 + i0) beyond))
 
   mapped : i1 < t → 512 * i1 + i0 < pages → walk read grants (i0 ∷ []) last gpa
-      ≡ (if view_permits (sights tree) (512 * i1 + i0) (ps (512 * i1 + i0)) access then At (4096 * (n + (512 * i1 + i0)) + gpa % 4096) else PageFault)
+      ≡ (if view_permits (sights tree) (512 * i1 + i0) (ps (512 * i1 + i0)) access then At (page_size * (n + (512 * i1 + i0)) + gpa % page_size) else PageFault)
   mapped some below =
       let few = h.few_pages in
       step_leaf read access i0 last gpa (n + (512 * i1 + i0)) (sights tree) (512 * i1 + i0) (ps (512 * i1 + i0))
       (third some ∙ ap Some (leaf_there pages n (sights tree) ps (512 * i1 + i0) below)) (omega arith)
 
-  pub walk_leads : gpa < 2 ^ 41 → guest_destination read hgatp gpa access ≡ leads (4096 * n) pages (sights tree) ps gpa access
+  pub walk_leads : gpa < 2 ^ guest_address_bits → guest_destination read hgatp gpa access ≡ leads (page_size * n) pages (sights tree) ps gpa access
   walk_leads l =
       let covers = h.covers in
       let few = h.few_tables in
-      elim (lt_or_le gpa 0x80000000) [
-        | inl below ↦ missed l (omega arith) ∙ outside (4096 * n) pages (sights tree) ps gpa access (not_below pages gpa below)
+      elim (lt_or_le gpa ram_base) [
+        | inl below ↦ missed l (omega arith) ∙ outside (page_size * n) pages (sights tree) ps gpa access (not_below pages gpa below)
         | inr above ↦ elim (lt_or_le gpa 0xC0000000) [
-          | inr high ↦ missed l (omega arith) ∙ outside (4096 * n) pages (sights tree) ps gpa access (not_past pages gpa above (omega arith))
+          | inr high ↦ missed l (omega arith) ∙ outside (page_size * n) pages (sights tree) ps gpa access (not_past pages gpa above (omega arith))
           | inl near ↦
               met l (omega arith) ∙ elim (lt_or_le i1 t) [
-                | inr none ↦ no_table none ∙ outside (4096 * n) pages (sights tree) ps gpa access (not_past pages gpa above (omega arith))
+                | inr none ↦ no_table none ∙ outside (page_size * n) pages (sights tree) ps gpa access (not_past pages gpa above (omega arith))
                 | inl some ↦
-                    let is : 512 * i1 + i0 ≡ (gpa - 0x80000000) / 4096 = omega arith in
+                    let is : 512 * i1 + i0 ≡ (gpa - ram_base) / page_size = omega arith in
                     by_test (is_whole pages ps i1) refl (one_leaf some above near) (λ parted. one_table some parted ∙ elim (lt_or_le (512 * i1 + i0) pages) [
                       | inl below ↦ mapped some below ∙ inside pages n (sights tree) ps gpa (512 * i1 + i0) access (within pages gpa above (omega arith)) above is
-                      | inr beyond ↦ past some beyond ∙ outside (4096 * n) pages (sights tree) ps gpa access (not_past pages gpa above (omega arith))
+                      | inr beyond ↦ past some beyond ∙ outside (page_size * n) pages (sights tree) ps gpa access (not_past pages gpa above (omega arith))
                     ])
               ]
         ]
@@ -238,7 +238,7 @@ module _ (read : ℕ → Option ℕ) (pages t n trees : ℕ) (sights : ℕ → S
 -- every word of the trees lies in the tables
 module _ (trees t : ℕ) where
   abbrev size : ℕ
-  size = 4096 * (512 * ((5 * trees + trees * t + 511) / 512))
+  size = page_size * (512 * ((5 * trees + trees * t + 511) / 512))
 
   root_fits : (tree i : ℕ) → tree < trees → i < 2048 → 8 * (512 * (4 * tree) + i) + 8 ≤ size
   root_fits tree i l h = omega arith
@@ -302,33 +302,33 @@ module _ (tables : List ℕ) (pages : ℕ) (bound : List ℕ) (ps : ℕ → Prot
   abbrev sight : Sight
   sight = sight_in bound tree
 
-  by_tables : (gpa : ℕ) (access : Access) → gpa < 2 ^ 41 → guest_destination (entry_in_tables tables) hgatp gpa access ≡ leads (table_size pages (length bound)) pages sight ps gpa access
+  by_tables : (gpa : ℕ) (access : Access) → gpa < 2 ^ guest_address_bits → guest_destination (entry_in_tables tables) hgatp gpa access ≡ leads (table_size pages (length bound)) pages sight ps gpa access
   by_tables gpa access l =
       walk_leads (entry_in_tables tables) pages (leaf_tables pages) (table_pages pages (length bound)) (tree_count (length bound)) (sight_in bound) ps
       (holds_reads (entry_in_tables tables) tables pages bound ps h (reads_tables tables)) tree hgatp there rooted gpa access l
 
-  by_region : (ram : List ℕ) (gpa : ℕ) (access : Access) → gpa < 2 ^ 41 → guest_destination (entry_in_region (with_ram tables ram)) hgatp gpa access ≡ leads (table_size pages (length bound)) pages sight ps gpa access
+  by_region : (ram : List ℕ) (gpa : ℕ) (access : Access) → gpa < 2 ^ guest_address_bits → guest_destination (entry_in_region (with_ram tables ram)) hgatp gpa access ≡ leads (table_size pages (length bound)) pages sight ps gpa access
   by_region ram gpa access l =
       walk_leads (entry_in_region (with_ram tables ram)) pages (leaf_tables pages) (table_pages pages (length bound)) (tree_count (length bound)) (sight_in bound) ps
       (holds_reads (entry_in_region (with_ram tables ram)) tables pages bound ps h (reads_region tables ram)) tree hgatp there rooted gpa access l
 
-  near : (ram : List ℕ) (gpa : ℕ) (access : Access) → gpa < 2 ^ 41 → walk_guest (with_ram tables ram) hgatp gpa access ≡ view_answer (length tables) pages sight ps gpa access
+  near : (ram : List ℕ) (gpa : ℕ) (access : Access) → gpa < 2 ^ guest_address_bits → walk_guest (with_ram tables ram) hgatp gpa access ≡ view_answer (length tables) pages sight ps gpa access
   unfolding walk_guest view_answer
   near ram gpa access l =
-      let test : gpa / 2 ^ 41 ≡ 0 = omega arith in
+      let test : gpa / 2 ^ guest_address_bits ≡ 0 = omega arith in
       rw (test, h.size) (ap address_at (by_region ram gpa access l)
       ∙ address_chosen (page_in_ram pages gpa && view_permits sight (page_of gpa) (ps (page_of gpa)) access) (table_size pages (length bound) + ram_place gpa))
 
-  far : (ram : List ℕ) (gpa : ℕ) (access : Access) → 2 ^ 41 ≤ gpa → walk_guest (with_ram tables ram) hgatp gpa access ≡ view_answer (length tables) pages sight ps gpa access
+  far : (ram : List ℕ) (gpa : ℕ) (access : Access) → 2 ^ guest_address_bits ≤ gpa → walk_guest (with_ram tables ram) hgatp gpa access ≡ view_answer (length tables) pages sight ps gpa access
   unfolding walk_guest view_answer
   far ram gpa access over =
       let most = h.most in
-      let test : (gpa / 2 ^ 41 == 0) ≡ false = grind (arith, nat_tests) in
+      let test : (gpa / 2 ^ guest_address_bits == 0) ≡ false = grind (arith, nat_tests) in
       rw (test, not_past pages gpa (omega arith) (omega arith)) refl
 
   pub is_view : IsView tables pages ps sight hgatp
   is_view = record {
-    answers = λ ram gpa access size small. elim (lt_or_le gpa (2 ^ 41)) [ inl l ↦ near ram gpa access l | inr over ↦ far ram gpa access over ];
+    answers = λ ram gpa access size small. elim (lt_or_le gpa (2 ^ guest_address_bits)) [ inl l ↦ near ram gpa access l | inr over ↦ far ram gpa access over ];
     reads = λ ram gpa access size l. by_tables gpa access l ∙ sym (by_region ram gpa access l);
   }
 

@@ -2,7 +2,7 @@
 use Rattle.std.proofs.Common.{◌≡◌, ◌≢◌, ℕ, ◌+◌, ◌*◌, ◌/◌, ◌%◌, ◌^◌, ◌<◌, ◌≤◌, inl, inr, true, false, List, length, refl, sym, ap, subst, ◌∙◌, arith}
 use Rattle.std.specs.Prelude.{Bool, ◌==◌, ◌&&◌}
 use borrow.Author.Tests.{ne_eqb, eq-eqb}
-use Rattle.processor.specs.Bytes.{word, write_word}
+use Rattle.processor.specs.Bytes.{word, write_word, page_size}
 use Rattle.processor.specs.Regions.{Region}
 use Rattle.sv_types.specs.Views.{Sight, protect, all_free}
 use Rattle.sv_types.specs.declared.protection.Protection.{Protection}
@@ -62,12 +62,12 @@ pub wrote_all : {before after : List ℕ} {n count : ℕ} {place value : ℕ →
 wrote_all {before} {after} {n} {count} {place} {value} so e = subst (λ (m : ℕ). Wrote before after m place value) e so
 
 -- a tree's level-0 word lies in the tables
-pub leaf_inside : (trees t tree p first size now : ℕ) → now ≡ size → size ≡ 4096 * (512 * ((5 * trees + trees * t + 511) / 512)) → first ≡ 5 * trees + tree * t → tree < trees → p < 512 * t
+pub leaf_inside : (trees t tree p first size now : ℕ) → now ≡ size → size ≡ page_size * (512 * ((5 * trees + trees * t + 511) / 512)) → first ≡ 5 * trees + tree * t → tree < trees → p < 512 * t
     → 8 * (512 * first + p) + 8 ≤ now
 leaf_inside trees t tree p first size now same is at l h = let front = in_front tree trees t l in omega arith
 
 -- a level-1 word lies in the tables
-pub row_inside : (trees t k first size now : ℕ) → now ≡ size → size ≡ 4096 * (512 * ((5 * trees + trees * t + 511) / 512)) → first ≡ 2048 * trees → k < 512 * trees
+pub row_inside : (trees t k first size now : ℕ) → now ≡ size → size ≡ page_size * (512 * ((5 * trees + trees * t + 511) / 512)) → first ≡ 2048 * trees → k < 512 * trees
     → 8 * (first + k) + 8 ≤ now
 row_inside trees t k first size now same is at l = omega arith
 

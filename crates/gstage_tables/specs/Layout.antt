@@ -1,6 +1,6 @@
 -- How the trees of second-stage tables lie in the table part: the roots of all trees, of four pages each, then a level-1
--- table of each tree, then the level-0 tables of one tree after the other. Tree 0 shows kernel mode's memory, tree 1 user
--- mode's, and tree 2 + i what is seen in entry i. A block of 2 MiB whose pages are all free is one leaf of level 1; its
+-- table of each tree, then the level-0 tables of one tree after the other. The first tree shows kernel mode's memory, the
+-- second user mode's, and each behind them what is seen in an entry. A block of 2 MiB whose pages are all free is one leaf of level 1; its
 -- level-0 table is kept right while it isn't used.
 -- RISC-V Privileged manual, H extension, "Guest Physical Address Translation"; the places are this project's own.
 use Rattle.std.specs.Prelude.{◌≡◌, ℕ, ◌+◌, ◌-◌, ◌*◌, ◌/◌, ◌^◌, ◌<◌, ◌≤◌, ◌==◌, Bool, if◌then◌else◌, nat_lt, List, length, slice_index_or}
@@ -28,19 +28,29 @@ pub record Shape : Type 0 where
   pub bound : List ℕ
   pub counts : List ℕ
 
+-- the trees of the two modes, and the first of those of entries
+abbrev pub kernel_tree : ℕ
+kernel_tree = 0
+
+abbrev pub user_tree : ℕ
+user_tree = 1
+
+abbrev pub first_entry_tree : ℕ
+first_entry_tree = 2
+
 -- the most trees
 abbrev pub most_trees : ℕ
-most_trees = 2 + most_bound
+most_trees = first_entry_tree + most_bound
 
 -- the trees for so many entries
 abbrev pub tree_count : ℕ → ℕ
-tree_count bound = 2 + bound
+tree_count bound = first_entry_tree + bound
 
 abbrev pub sight_in : (bound : List ℕ) → (tree : ℕ) → Sight
 sight_in bound tree =
-    if tree == 0 then OfKernel
-    else if tree == 1 then OfUser
-    else OfEntry (slice_index_or bound (tree - 2) 0)
+    if tree == kernel_tree then OfKernel
+    else if tree == user_tree then OfUser
+    else OfEntry (slice_index_or bound (tree - first_entry_tree) 0)
 
 -- ---- where the tables lie, in pages of the table part
 

@@ -33,6 +33,13 @@ use sv_types::{MOST_ENTRIES, Protection, View};
 /// The blocks of a gigabyte: one for each word of a level-1 table.
 const MOST_BLOCKS: usize = TABLE_WORDS as usize;
 
+/// The trees of the two modes, and the first of those of entries.
+const KERNEL_TREE: u64 = 0;
+
+const USER_TREE: u64 = 1;
+
+const FIRST_ENTRY_TREE: u64 = 2;
+
 /// The mode of `hgatp`, whose VMID begins behind the number of the root's page.
 const GUEST_MODE: u64 = SV39X4 << ROOT_MODE_PLACE;
 
@@ -78,7 +85,7 @@ impl Trees {
         requires bound { bound ≤ most_bound }
         ensures { result ≡ table_size ram_pages bound }
     {
-        let trees = 2 + bound as u64;
+        let trees = FIRST_ENTRY_TREE + bound as u64;
         let tables = leaf_table(trees, leaf_tables(ram_pages as u64), trees);
         PAGE_SIZE * up_to_blocks(tables) as usize
     }
@@ -186,7 +193,7 @@ impl Trees {
         ensures value { result ≡ tree_count (length self.now.bound) }
         ensures few { result ≤ most_trees }
     {
-        2 + self.bound.len() as u64
+        FIRST_ENTRY_TREE + self.bound.len() as u64
     }
 
     // The level-0 tables of one tree.
@@ -267,12 +274,12 @@ impl Trees {
         ensures { result ≡ view_permits (sight_in self.now.bound tree) page protection Fetch }
     {
         let approved = matches!(protection, Protection::Approved);
-        if tree == 0 {
+        if tree == KERNEL_TREE {
             approved
-        } else if tree == 1 {
+        } else if tree == USER_TREE {
             !approved
         } else {
-            approved && page == self.bound[(tree - 2) as usize] as u64
+            approved && page == self.bound[(tree - FIRST_ENTRY_TREE) as usize] as u64
         }
     }
 

@@ -7,7 +7,7 @@ ghost use Rattle.gstage_tables.specs.Layout.{leaf_tables, leaf_table, pointer, f
 ghost use Rattle.processor.specs.Roots.{root_page_bits};
 
 use bitflags::Flags;
-use processor::{PAGE_NUMBER_PLACE, PteBits, RAM_BASE, TABLE_ENTRIES};
+use processor::{INDEX_BITS, PAGE_BITS, PAGE_NUMBER_PLACE, PteBits, RAM_BASE, TABLE_ENTRIES};
 
 /// The words of a table.
 pub(crate) const TABLE_WORDS: u64 = TABLE_ENTRIES;
@@ -26,8 +26,10 @@ const UPPER_PAGES: u64 = ROOT_PAGES + 1;
 /// What the number of a page counts in an entry.
 const PAGE_NUMBER_UNIT: u64 = 1 << PAGE_NUMBER_PLACE;
 
-/// The gigabyte in which RAM lies.
-const RAM_GIGABYTE: u64 = RAM_BASE >> 30;
+/// The place of a gigabyte's number in an address, and the gigabyte in which RAM lies.
+const GIGABYTE_PLACE: u32 = PAGE_BITS + 2 * INDEX_BITS;
+
+const RAM_GIGABYTE: u64 = RAM_BASE >> GIGABYTE_PLACE;
 
 /// The level-0 tables of one tree.
 pub(crate) fn leaf_tables(ram_pages: u64) -> u64

@@ -1,5 +1,6 @@
 -- What a turn of a hart does: to protected bytes, to the hart, to other harts, and to the verdict.
 use Rattle.std.proofs.Common.{◌≡◌, ℕ, zero, suc, List, [], ◌∷◌, map, length, refl, sym, ◌∙◌, ap, subst, Bool, true, false, ◌||◌, slice_get, slice_set}
+use Rattle.run_laws.proofs.OthersRest.{same_one}
 use Rattle.std.specs.Prelude.{Option, Some, None, option_map, if◌then◌else◌}
 use Rattle.std.proofs.lemmas.List.{set-set}
 use Rattle.std.proofs.lemmas.Option.{slice_get-map}
@@ -69,9 +70,6 @@ pub record Does (writes : ℕ → Type 0) (returns : Type 0) (q : State) (h : �
   pub ends : Ends writes q h hart next
 
 -- ---- lists of harts
-
-pub same_one : (x : Option Hart) (a b : Hart) → x ≡ Some a → x ≡ Some b → a ≡ b
-same_one x a b e f = cc
 
 no_stop : (v : Verdict) → v ≡ Running → IsNoStop v
 no_stop v e = subst IsNoStop (sym e) tt

@@ -1,5 +1,6 @@
 -- The laws of the guarantee.
 use Rattle.std.proofs.Common.{◌≡◌, ℕ, ◌+◌, ◌⊎◌, inl, inr, List, [], ◌∷◌, map, length, refl, sym, ◌∙◌, ap, subst, Bool, true, false, ◌&&◌, not, slice_get}
+use Rattle.run_laws.proofs.OthersRest.{same_one}
 use Rattle.std.specs.Prelude.{Option, Some, None, option_map, if◌then◌else◌, is_some, ◌==◌}
 use Rattle.std.proofs.lemmas.Bool.{eqb-true, eq-eqb, cases_Bool}
 use Rattle.std.proofs.lemmas.Option.{none-some, slice_get-map}
@@ -46,7 +47,7 @@ use Rattle.run_laws.proofs.BeatsSound.{FreeMove, beat_page, beat_sound}
 use Rattle.run_laws.proofs.StepsSound.{counted_sound}
 use Rattle.run_laws.proofs.EntriesHold.{runs_on}
 use Rattle.guarantee.specs.Guarantee.{move_gpa, first_gpa, request_gpa, disk_gpa, IsMeasuredWord, KernelTurn, Loads, Traps, Demotes, Executes, KernelWordsLaw, Enters, ByTrap, ByStart, EntriesLaw, Leaves, ByReturn, ByDemotion, ByStop, ExitsLaw, ProtectedBytesLaw, WritesGuarded, Stops, AtEntry, AtWrite, StopsRight, StopsLaw}
-use Rattle.guarantee.proofs.Does.{IsMoving, Own, Same, Entered, Returned, Demoted, Halted, Other, Rests, Begins, IsNoStop, Ends, GoesOn, StopsAtEntry, StopsAtWrite, same_one, page_kept, demote_left}
+use Rattle.guarantee.proofs.Does.{IsMoving, Own, Same, Entered, Returned, Demoted, Halted, Other, Rests, Begins, IsNoStop, Ends, GoesOn, StopsAtEntry, StopsAtWrite, page_kept, demote_left}
 use Rattle.guarantee.proofs.Turns.{FetchedWrites, FetchedReturns, turn_does}
 use Rattle.processor_laws.proofs.GuestViews.{and_false}
 use Rattle.attempt_laws.proofs.AttemptsAgree.{turn_none, turn_stopped}

@@ -42,12 +42,12 @@ use Rattle.attempt_laws.proofs.EffectsAgree.{IsTold}
 use Rattle.attempt_laws.proofs.AttemptsAgree.{get_back}
 use Rattle.run_laws.proofs.AnswersMay.{MayBeside, decision_may, answer_may}
 use Rattle.run_laws.proofs.Lookups.{both}
-use Rattle.run_laws.proofs.OthersRest.{with_software_if, get_sent, was_stopped}
+use Rattle.run_laws.proofs.OthersRest.{with_software_if, get_sent, was_stopped, same_one}
 use Rattle.run_laws.proofs.RequestsSound.{FreeTarget, IsFreePlace, target_free, free_page}
 use Rattle.run_laws.proofs.Sounds.{InFreePage}
 use Rattle.run_laws.proofs.StepsSound.{leave_goes}
 use Rattle.guarantee.specs.Guarantee.{WritesGuarded}
-use Rattle.guarantee.proofs.Does.{IsMoving, Own, Same, Entered, Returned, Demoted, Halted, Other, Rests, Begins, IsNoStop, GoesOn, StopsAtEntry, StopsAtWrite, Does, same_one, rests_other, does_nothing, does_set, does_write, choose_does, decide_does, does_for, does_left}
+use Rattle.guarantee.proofs.Does.{IsMoving, Own, Same, Entered, Returned, Demoted, Halted, Other, Rests, Begins, IsNoStop, GoesOn, StopsAtEntry, StopsAtWrite, Does, rests_other, does_nothing, does_set, does_write, choose_does, decide_does, does_for, does_left}
 use Rattle.sv_types.proofs.SetElements.{set_other}
 
 -- ---- traps

@@ -15,15 +15,15 @@ unfoldable pub generated_image : ℕ → List ℕ
 generated_image n = laid_out (generated_text n) (code_bytes user_loop)
 
 -- the pages of RAM
-abbrev pub guest_pages : ℕ
-guest_pages = 64
+abbrev pub generated_pages : ℕ
+generated_pages = 64
 
 -- one hart; the kernel may be entered at its begin and at its trap vector
 unfoldable pub policy_of_text : List ℕ → Rules
 policy_of_text text = record {
   format = plain_format;
   harts = 1;
-  ram_pages = guest_pages;
+  ram_pages = generated_pages;
   entries = text_address ∷ (text_address + trap_place) ∷ [];
   bound = [];
   exports = [];

@@ -18,6 +18,7 @@ use Rattle.processor.specs.declared.instruction.CsrOp.TheVariants.{Csrrw}
 use Rattle.sv_types.specs.BlockNumbers.{address_offset, count_offset, command_offset, command_number}
 use Rattle.sv_types.specs.DevicePlaces.{disk_base}
 use Rattle.sv_types.specs.declared.block.BlockCommand.TheVariants.{DiskToMemory}
+use Rattle.sv_types.specs.SbiExtensions.{put_char_extension, shut_down_extension}
 
 -- the most calls of the user
 abbrev pub most_calls : ℕ
@@ -63,13 +64,7 @@ lower n = pos n -ℤ upper n
 abbrev pub trap_place : ℕ
 trap_place = 0x100
 
--- the numbers of the calls that print a byte and that shut down, and the byte
-abbrev pub print_call : ℕ
-print_call = 1
-
-abbrev pub shutdown_call : ℕ
-shutdown_call = 8
-
+-- the byte that is printed
 abbrev pub letter_k : ℕ
 letter_k = 75
 
@@ -93,8 +88,8 @@ trap_handler =
     Instr.Lui t1 (pos page_size) ∷ Instr.Op Add t1 t1 s1 ∷ sd s0 (pos 0) t1
     ∷ addi s0 s0 (minus 1) ∷ Instr.Branch Beq s0 x0 (pos 12)
     ∷ csrw Sepc s1 ∷ Instr.Sret
-    ∷ addi a0 x0 (pos letter_k) ∷ addi a7 x0 (pos print_call) ∷ Instr.Ecall
-    ∷ addi a7 x0 (pos shutdown_call) ∷ Instr.Ecall ∷ []
+    ∷ addi a0 x0 (pos letter_k) ∷ addi a7 x0 (pos put_char_extension) ∷ Instr.Ecall
+    ∷ addi a7 x0 (pos shut_down_extension) ∷ Instr.Ecall ∷ []
 
 -- ---- the user: it calls the kernel over and over
 

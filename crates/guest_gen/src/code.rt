@@ -10,15 +10,18 @@ use processor::{
     T2, T3, T4, X0,
 };
 use rv64_encode::Instr;
-use sv_types::{BLOCK_ADDRESS, BLOCK_COMMAND, BLOCK_COUNT, BlockCommand, DISK_BASE, LOW_VALUES};
+use sv_types::{
+    BLOCK_ADDRESS, BLOCK_COMMAND, BLOCK_COUNT, BlockCommand, DISK_BASE, LOW_VALUES,
+    PUT_CHAR_EXTENSION, SHUT_DOWN_EXTENSION,
+};
 
 /// A page, as an immediate.
 const PAGE: i64 = PAGE_BYTES as i64;
 
-/// The call that prints a byte.
-const PRINT_CALL: i64 = 1;
+/// The calls that print a byte and that shut down, as immediates.
+const PRINT_CALL: i64 = PUT_CHAR_EXTENSION as i64;
 
-const SHUTDOWN_CALL: i64 = 8;
+const SHUTDOWN_CALL: i64 = SHUT_DOWN_EXTENSION as i64;
 
 const LETTER_K: i64 = 75;
 

@@ -1,5 +1,6 @@
 -- Where both stages lead, a word of a width that divides the virtual address may be read and written.
 use Rattle.std.proofs.Common.{◌≡◌, ◌∙◌, ℕ, ◌+◌, ◌%◌, ◌^◌, ◌<◌, ◌≤◌, length, refl}
+use Rattle.processor.specs.Bytes.{page_size}
 use Rattle.std.specs.Prelude.{Option, Some, None, IfSome, Ok}
 use Rattle.processor.specs.declared.translation.Place.{Place}
 use Rattle.processor.specs.declared.access.Access.{Access}
@@ -19,7 +20,7 @@ second_leads gpa (Some hpa) place e = let same : record { gpa = gpa; hpa = hpa }
 
 -- a walk of an address in the same place of its page leads to a place for the width
 pub walk_places : (r : Region) (hgatp gpa va hpa n : ℕ) (access : Access) → IsRegion r → WalksInside r hgatp → IsWidth n → va % n ≡ 0
-    → gpa % 4096 ≡ va % 4096 → walk_guest r hgatp gpa access ≡ Some hpa → IsHostPlace r hpa n
+    → gpa % page_size ≡ va % page_size → walk_guest r hgatp gpa access ≡ Some hpa → IsHostPlace r hpa n
 walk_places r hgatp gpa va hpa n access region inside width aligned same walked =
     let fits = walk_guest_fits r hgatp gpa hpa access walked in
     let at : hpa % n ≡ 0 = keeps_width n va hpa width (fits.0 ∙ same) aligned in

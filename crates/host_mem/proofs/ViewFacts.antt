@@ -12,7 +12,7 @@ use Rattle.host_mem.proofs.WordFacts.{part_put}
 pub record Seen (tables : ℕ) (bytes : List ℕ) (r : Region) : Type 0 where
   pub same : region_of tables bytes ≡ r
   pub within : tables ≤ length bytes
-  pub whole : tables % 4096 ≡ 0
+  pub whole : tables % page_size ≡ 0
 
 bytes_seen : (tables : ℕ) (bytes : List ℕ) (r : Region) → Seen tables bytes r → host_bytes r ≡ bytes
 bytes_seen tables bytes r seen = ap host_bytes (sym seen.same) ∙ bytes_of_region tables bytes
@@ -22,8 +22,8 @@ tables_seen tables bytes r seen =
     let short : length (take tables bytes) ≡ tables = simp length-take (let within = seen.within in omega arith) in
     ap (λ (q : Region). length q.tables) (sym seen.same) ∙ short
 
-whole_seen : (tables : ℕ) (bytes : List ℕ) (r : Region) → Seen tables bytes r → length r.tables % 4096 ≡ 0
-whole_seen tables bytes r seen = ap (λ (n : ℕ). n % 4096) (tables_seen tables bytes r seen) ∙ seen.whole
+whole_seen : (tables : ℕ) (bytes : List ℕ) (r : Region) → Seen tables bytes r → length r.tables % page_size ≡ 0
+whole_seen tables bytes r seen = ap (λ (n : ℕ). n % page_size) (tables_seen tables bytes r seen) ∙ seen.whole
 
 pub word_seen : (tables : ℕ) (bytes : List ℕ) (r : Region) (at n : ℕ) → Seen tables bytes r → IsHostPlace r at n
     → word bytes at n ≡ host_word r at n

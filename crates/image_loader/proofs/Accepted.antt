@@ -7,7 +7,8 @@ use Rattle.std.proofs.lemmas.List.Elements.{All-nil, All-cons}
 use Rattle.processor.specs.Bytes.{page_size, ram_place, ram_base}
 use Rattle.sv_types.specs.Kernel.{LoadedSegment, first_refusal, kernel_refusal, kernel_segments, segment_checks, loaded_headers, loaded_segment}
 use Rattle.sv_types.specs.declared.kernel.ProgramHeader.{ProgramHeader}
-use Rattle.image_loader.specs.Placed.{IsPlaced, ArePlaced}
+use Rattle.image_loader.specs.Placed.{ArePlaced}
+use Rattle.elf64_load.specs.Images.{IsPlaced}
 use Rattle.sv_types.proofs.FileChecks.{first_passed, rest_passed, accepted_headers, Passed, segment_passed}
 
 placed : (file : List ℕ) (ram_pages : ℕ) (h : ProgramHeader) → Passed (length file) ram_pages h → IsPlaced (page_size * ram_pages) (loaded_segment file h)

@@ -6,9 +6,8 @@ use Rattle.std.proofs.lemmas.Bool.Decides.{nat_tests}
 use Rattle.std.proofs.lemmas.List.Elements.{All-head, All-tail}
 use Rattle.sv_types.specs.Kernel.{LoadedSegment}
 use Rattle.processor_laws.proofs.ByteLemmas.{lt_or_le}
-use Rattle.elf64_load.specs.Images.{segment_of}
+use Rattle.elf64_load.specs.Images.{segment_of, IsPlaced}
 use Rattle.elf64_load.specs.declared.image.Segment.{Segment}
-use Rattle.image_loader.specs.Placed.{IsPlaced}
 use Rattle.image_loader.specs.Whole.{covers, segment_at}
 
 -- the last segment from place i on that covers a page

@@ -11,9 +11,10 @@ use Rattle.processor.specs.Bytes.{with_padding, page_size, ram_place}
 use Rattle.sv_types.specs.Kernel.{LoadedSegment, with_segment}
 use Rattle.processor_laws.proofs.ByteLemmas.{lt_or_le, length_padded}
 use Rattle.elf64_load.proofs.LoadedBytes.{at_before, at_written, at_behind, at_padded, zero_at}
-use Rattle.image_loader.specs.Placed.{IsPlaced}
+use Rattle.elf64_load.specs.Images.{IsPlaced}
 use Rattle.image_loader.specs.Whole.{byte_of, covers, has_byte, loaded_byte, nothing, segment_at, IsLastWhole}
-use Rattle.image_loader.proofs.Written.{segment_fits}
+use Rattle.elf64_load.proofs.LoadedBytes.{length_with_segment}
+use Rattle.processor_laws.proofs.GuestViews.{and_false}
 
 -- ---- one segment
 
@@ -40,7 +41,7 @@ pub all_fit : (size : ℕ) (ss : List LoadedSegment) (ram : List ℕ) → All (I
 all_fit size [] ram placed whole = whole
 all_fit size (s ∷ ss) ram placed whole =
     let here : IsPlaced (length ram) s = subst (λ (n : ℕ). IsPlaced n s) (sym whole) (All-head (IsPlaced size) s ss placed) in
-    all_fit size ss (with_segment ram s) (All-tail (IsPlaced size) s ss placed) (segment_fits ram s here ∙ whole)
+    all_fit size ss (with_segment ram s) (All-tail (IsPlaced size) s ss placed) (length_with_segment ram s here ∙ whole)
 
 pub next_byte : (size : ℕ) (ss : List LoadedSegment) (k at : ℕ) → k < length ss → All (IsPlaced size) ss
     → loaded_byte size ss (k + 1) at ≡ (if has_byte (segment_at ss k) at then byte_of (segment_at ss k) at else loaded_byte size ss k at)
@@ -130,12 +131,8 @@ edges_byte due df dl first last false byte old ef el between = none due df dl fi
     not_has true false = refl
     not_has false b = refl
 
-    not_due : (a : Bool) → (a && false) ≡ false
-    not_due true = refl
-    not_due false = refl
-
     none : (due df dl first last : Bool) (byte old : ℕ) → (if dl && (last && false) then byte else if df && (first && false) then byte else old) ≡ (if due && false then byte else old)
-    none due df dl first last byte old = rw (not_has dl last, not_has df first, not_due due) refl
+    none due df dl first last byte old = rw (not_has dl last, not_has df first, and_false due) refl
 edges_byte true df true first true true byte old ef el between = refl
 edges_byte false df false true true true byte old ef el between = let e = ef refl in rw e refl
 edges_byte false df false false true true byte old ef el between = not_first df byte old

@@ -9,8 +9,8 @@ use Rattle.processor.specs.Bytes.{page_size, page_of, ram_place}
 use Rattle.sv_types.specs.Kernel.{LoadedSegment, text_pages, is_text_of}
 use Rattle.processor.specs.Regions.{most_ram_pages}
 use Rattle.processor_laws.proofs.ByteLemmas.{lt_or_le}
-use Rattle.elf64_load.specs.Images.{text_owner}
-use Rattle.image_loader.specs.Placed.{IsPlaced, ArePlaced}
+use Rattle.elf64_load.specs.Images.{text_owner, IsPlaced}
+use Rattle.image_loader.specs.Placed.{ArePlaced}
 
 -- ---- an owner's number tells
 

@@ -4,12 +4,10 @@ use Rattle.std.proofs.Math.Seq.{drop-append-add}
 use Rattle.std.proofs.lemmas.List.{drop-drop, take-append-drop, length-replicate, take_at}
 use Rattle.std.specs.Prelude.{max, min, ◌*◌, ◌/◌, ◌==◌, nat_le, nat_lt, ◌&&◌, if◌then◌else◌}
 use Rattle.std.proofs.lemmas.Bool.Decides.{nat_tests}
-use Rattle.processor.specs.Bytes.{overwrite, with_padding, part}
-use Rattle.sv_types.specs.Kernel.{LoadedSegment, with_segment}
+use Rattle.processor.specs.Bytes.{overwrite, with_padding, part, page_size}
 use Rattle.processor.specs.Regions.{Region}
 use Rattle.processor_laws.proofs.ByteLemmas.{lt_or_le, length_before, length_overwrite, length_padded}
-use Rattle.elf64_load.proofs.LoadedBytes.{length_with_segment, at_before, at_written, at_behind, at_padded, at_part}
-use Rattle.image_loader.specs.Placed.{IsPlaced}
+use Rattle.elf64_load.proofs.LoadedBytes.{at_before, at_written, at_behind, at_padded, at_part}
 
 -- what is written behind bytes that were written is written with them
 pub overwrite_joined : (list front rest : List ℕ) (at : ℕ) → at + (length front + length rest) ≤ length list
@@ -69,9 +67,6 @@ zeros_put old m new place done next at bytes fits at_is bytes_is m_is copied =
     rw (e, r, bytes_is) (more_zeros old.ram place done next fits) in
     copied (omega arith) ∙ rw (made, t) refl
 
-pub segment_fits : (ram : List ℕ) (s : LoadedSegment) → IsPlaced (length ram) s → length (with_segment ram s) ≡ length ram
-segment_fits ram s placed = length_with_segment ram s (record { inside = placed.inside; short = placed.short })
-
 -- ---- a part of a segment
 
 pub part_put : (old m new : Region) (place at from count filled : ℕ) (bytes piece : List ℕ) → length piece ≡ filled → place + count ≤ length old.ram → at ≡ length old.tables + place
@@ -129,18 +124,18 @@ part_byte ram bytes place start count at order fits b is =
       ]
     ]
 
-pub in_piece : (place memory page start end at : ℕ) → start ≡ max place (4096 * page) → end ≡ min (place + memory) (4096 * page + 4096) → start < end
-    → (at / 4096 == page && (nat_le place at && nat_lt at (place + memory))) ≡ (nat_le start at && nat_lt at (start + (end - start)))
+pub in_piece : (place memory page start end at : ℕ) → start ≡ max place (page_size * page) → end ≡ min (place + memory) (page_size * page + page_size) → start < end
+    → (at / page_size == page && (nat_le place at && nat_lt at (place + memory))) ≡ (nat_le start at && nat_lt at (start + (end - start)))
 in_piece place memory page start end at start_is end_is some = elim (lt_or_le at start) [
   | inl before ↦
       let right : (nat_le start at && nat_lt at (start + (end - start))) ≡ false = grind (arith, nat_tests) in
-      let left : (at / 4096 == page && (nat_le place at && nat_lt at (place + memory))) ≡ false = grind (arith, nat_tests) in left ∙ sym right
+      let left : (at / page_size == page && (nat_le place at && nat_lt at (place + memory))) ≡ false = grind (arith, nat_tests) in left ∙ sym right
   | inr from ↦ elim (lt_or_le at end) [
     | inl inside ↦
         let right : (nat_le start at && nat_lt at (start + (end - start))) ≡ true = grind (arith, nat_tests) in
-        let left : (at / 4096 == page && (nat_le place at && nat_lt at (place + memory))) ≡ true = grind (arith, nat_tests) in left ∙ sym right
+        let left : (at / page_size == page && (nat_le place at && nat_lt at (place + memory))) ≡ true = grind (arith, nat_tests) in left ∙ sym right
     | inr behind ↦
         let right : (nat_le start at && nat_lt at (start + (end - start))) ≡ false = grind (arith, nat_tests) in
-        let left : (at / 4096 == page && (nat_le place at && nat_lt at (place + memory))) ≡ false = grind (arith, nat_tests) in left ∙ sym right
+        let left : (at / page_size == page && (nat_le place at && nat_lt at (place + memory))) ≡ false = grind (arith, nat_tests) in left ∙ sym right
   ]
 ]

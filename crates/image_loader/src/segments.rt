@@ -6,8 +6,8 @@ ghost use Rattle.std.specs.Prelude.{◌≡◌, ℕ, ◌+◌, ◌-◌, ◌*◌, �
 ghost use Rattle.processor.specs.Bytes.{page_size, overwrite, with_padding, part, ram_place};
 ghost use Rattle.sv_types.specs.Kernel.{segments_ram};
 ghost use Rattle.processor.specs.Regions.{most_ram_pages};
-ghost use Rattle.elf64_load.specs.Images.{segment_of, segments_of};
-ghost use Rattle.image_loader.specs.Placed.{IsPlaced, ArePlaced, KeepsShape};
+ghost use Rattle.elf64_load.specs.Images.{segment_of, segments_of, IsPlaced};
+ghost use Rattle.image_loader.specs.Placed.{ArePlaced, KeepsShape};
 ghost use Rattle.image_loader.specs.Whole.{byte_of, covers, has_byte, loaded_byte, segment_at, IsLastWhole};
 
 use crate::owners::last_owners;

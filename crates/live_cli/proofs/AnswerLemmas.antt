@@ -6,7 +6,7 @@ use Rattle.sv_types.specs.declared.status.Status.{Status}
 use Rattle.reference.specs.States.{State}
 use Rattle.machine_model.specs.Machine.{Machine}
 use Rattle.machine_model.specs.Reaches.{IsNew}
-use Rattle.outside.specs.Outside.{FilesState, SinkState}
+use Rattle.outside.specs.Outside.{FilesState, SinkState, MaySaveUnder}
 use Rattle.live_keys.specs.Keys.{KeysState}
 use Rattle.secvisor_cli.specs.declared.refusal.Refusal.{Refusal}
 use Rattle.secvisor_cli.specs.declared.ready.Stop.TheVariants.{Refused}
@@ -20,7 +20,7 @@ use Rattle.secvisor_cli.proofs.TopLemmas.{refused_answers}
 use Rattle.secvisor_cli.specs.Reading.{MayFollow}
 use Rattle.secvisor_cli.proofs.PlanLemmas.{may_follow}
 use Rattle.live_cli.specs.LiveWords.{LiveWords, live_plan, live_judged}
-use Rattle.live_cli.specs.LiveReady.{IsLiveFresh, IsLiveReadyWhere, PreparesLive, out_of, MaySaveUnder}
+use Rattle.live_cli.specs.LiveReady.{IsLiveFresh, IsLiveReadyWhere, PreparesLive, out_of}
 use Rattle.live_cli.specs.LiveAnswers.{LiveOutside, live_outside, AnswersLiveReached, RunsLive, PerformsLive}
 use Rattle.live_cli.specs.declared.ready.LiveReady.{LiveReady}
 

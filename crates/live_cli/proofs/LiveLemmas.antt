@@ -25,7 +25,7 @@ use Rattle.console_run.specs.Standing.{machine_output}
 use Rattle.console_run.proofs.Standing.{stands_new, stands_printed, stands_verdict, cleared_none}
 use Rattle.live_keys.specs.Journal.{events_of}
 use Rattle.live_keys.specs.Keys.{KeysState}
-use Rattle.live_keys.specs.Placed.{events_between, keys_among, others_among}
+use Rattle.live_keys.specs.Placed.{autos_between, events_between, keys_among, others_among}
 use Rattle.live_keys.specs.declared.live_key.LiveKey.{LiveKey}
 use Rattle.live_keys.proofs.Events.{numbers_join}
 use Rattle.live_drive.specs.Drives.{GoesOn, Breaks, HasBroken}
@@ -73,22 +73,18 @@ broken_prefix first start events m old new b =
 
 -- ---- the events that are drawn
 
--- those that are left behind the first ones
-abbrev pub drawn_behind : (harts made all : ℕ) → List Event
-drawn_behind harts made all = map (auto_event harts 0) (numbers_from made (all - made))
-
-pub drawn_split : (harts made all : ℕ) → made ≤ all → first_events made (Schedule.Auto harts 0) ++ drawn_behind harts made all ≡ first_events all (Schedule.Auto harts 0)
+pub drawn_split : (harts made all : ℕ) → made ≤ all → first_events made (Schedule.Auto harts 0) ++ autos_between harts made all ≡ first_events all (Schedule.Auto harts 0)
 drawn_split harts made all le =
     let whole : made + (all - made) ≡ all = omega arith in
     let here : made ≡ 0 + made = omega arith in
-    ap (λ (es : List Event). es ++ drawn_behind harts made all) (first_drawn harts 0 made)
+    ap (λ (es : List Event). es ++ autos_between harts made all) (first_drawn harts 0 made)
     ∙ ap (λ (n : ℕ). map (auto_event harts 0) (numbers_from 0 made) ++ map (auto_event harts 0) (numbers_from n (all - made))) here
     ∙ sym (map-append (auto_event harts 0) (numbers_from 0 made) (numbers_from (0 + made) (all - made)))
     ∙ ap (λ (ns : List ℕ). map (auto_event harts 0) ns) (sym (numbers_join 0 made (all - made)))
     ∙ ap (λ (n : ℕ). map (auto_event harts 0) (numbers_from 0 n)) whole
     ∙ sym (first_drawn harts 0 all)
 
-pub drawn_none : (harts made all : ℕ) → made ≡ all → drawn_behind harts made all ≡ []
+pub drawn_none : (harts made all : ℕ) → made ≡ all → autos_between harts made all ≡ []
 drawn_none harts made all same =
     let none : all - made ≡ 0 = omega arith in
     ap (λ (n : ℕ). map (auto_event harts 0) (numbers_from made n)) none
@@ -178,9 +174,9 @@ runs_live ready last ended start f0 f1 old mid new k0 k1 b0 result fresh is_new 
       journal = events_made last;
       ended = ended;
       keys = keys;
-      left = drawn_behind harts last.journal.autos live.events;
+      left = autos_between harts last.journal.autos live.events;
       others =
-          ap (λ (es : List Event). es ++ drawn_behind harts last.journal.autos live.events) others
+          ap (λ (es : List Event). es ++ autos_between harts last.journal.autos live.events) others
           ∙ drawn_split harts last.journal.autos live.events most
           ∙ ap (λ (s : Schedule). first_events live.events s) (sym (script_is live fresh.way fresh.autos));
       all = λ done. enough harts last.journal.autos live.events last.machine.journal.verdict (run start (events_made last)).journal.verdict ends.verdict (all done);
@@ -195,6 +191,6 @@ runs_live ready last ended start f0 f1 old mid new k0 k1 b0 result fresh is_new 
       bench = (last.machine, refl, ends.bench);
     }
   where
-    enough : (harts made asked : ℕ) (v w : Verdict) → v ≡ w → (made ≡ asked) ⊎ (v ≢ Running) → (drawn_behind harts made asked ≡ []) ⊎ (w ≢ Running)
+    enough : (harts made asked : ℕ) (v w : Verdict) → v ≡ w → (made ≡ asked) ⊎ (v ≢ Running) → (autos_between harts made asked ≡ []) ⊎ (w ≢ Running)
     enough harts made asked v w is (inl whole) = inl (drawn_none harts made asked whole)
     enough harts made asked v w is (inr over) = inr (λ running. over (is ∙ running))

@@ -1,5 +1,5 @@
 -- What is made ready of `live`, before anything is written.
-use Rattle.std.specs.Prelude.{◌≡◌, ◌≤◌, ℕ, List, [], ◌∷◌, IsTrue, Option, Some, None, Result, Ok, Err, IsErrOf}
+use Rattle.std.specs.Prelude.{◌≡◌, ◌≤◌, ℕ, List, [], Option, Some, None, Result, Ok, Err, IsErrOf}
 use Rattle.sv_types.specs.Limits.{most_events}
 use Rattle.sv_types.specs.Schedule.{first_events}
 use Rattle.machine_model.specs.Reaches.{IsNew}
@@ -49,7 +49,3 @@ pub record PreparesLive (plan : Plan) (old new : FilesState) (result : Result Li
 abbrev pub out_of : Result LiveWords Refusal → List ℕ
 out_of (Ok words) = words.out
 out_of (Err refusal) = []
-
--- any text may be saved under the name, once
-abbrev pub MaySaveUnder : (name : List ℕ) → FilesState → Type 0
-MaySaveUnder name files = (text : List ℕ) → IsTrue (files.permits_save ((name, text) ∷ []))

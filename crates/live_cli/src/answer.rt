@@ -14,10 +14,10 @@ ghost use Rattle.secvisor_cli.specs.Reading.{MayFollow, IsNamed};
 ghost use Rattle.outside.specs.declared.trouble.Trouble.{Trouble as Ending};
 ghost use Rattle.sv_types.specs.declared.status.Status.{Status as Answer};
 ghost use Rattle.live_cli.specs.LiveWords.{live_judged, live_plan};
-ghost use Rattle.live_cli.specs.LiveReady.{IsLiveFresh, out_of, MaySaveUnder};
+ghost use Rattle.live_cli.specs.LiveReady.{IsLiveFresh, out_of};
 ghost use Rattle.live_cli.specs.LiveAnswers.{live_outside, SavesScript, after_reading, is_refusal, Reports, RunsLive, PerformsLive, LiveHeadline};
 ghost use Rattle.live_cli.specs.Replays.{LiveLine, live_line, HasEnded, Replays};
-ghost use Rattle.outside.specs.Outside.{MayWrite};
+ghost use Rattle.outside.specs.Outside.{MayWrite, MaySaveUnder};
 ghost use Rattle.processor.specs.Counters.{CanCount};
 
 use crate::ready::{LiveReady, prepare_live};

@@ -2,7 +2,7 @@
 use Rattle.std.specs.Prelude.{ℕ, ◌-◌, Bool, ◌&&◌, nat_le, List, [], ◌∷◌, ◌++◌, map}
 use Rattle.std.specs.List.{list_all}
 use Rattle.sv_types.specs.ApprovedPages.{numbers_from}
-use Rattle.sv_types.specs.Schedule.{auto_event}
+use Rattle.sv_types.specs.Schedule.{auto_event, highest_byte}
 use Rattle.sv_types.specs.declared.event.Event.{Event}
 use Rattle.sv_types.specs.declared.event.Event.TheVariants.{Turn, Beat, Key, Tick}
 use Rattle.live_keys.specs.declared.live_key.LiveKey.{LiveKey}
@@ -24,7 +24,7 @@ events_between harts first (key ∷ keys) last =
 
 -- each key is a byte
 abbrev pub are_bytes : List LiveKey → Bool
-are_bytes keys = list_all (λ (key : LiveKey). nat_le key.byte 255) keys
+are_bytes keys = list_all (λ (key : LiveKey). nat_le key.byte highest_byte) keys
 
 abbrev pub bytes_of : List LiveKey → List ℕ
 bytes_of keys = map (λ (key : LiveKey). key.byte) keys

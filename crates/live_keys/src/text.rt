@@ -39,7 +39,7 @@ pub fn journal_text(alloc: Global, journal: &Journal) -> Result<String, AllocErr
     ensures text { IfOk result (λ t. string_bytes t ≡ spec.journal_text journal.now.keys.items journal.now.autos) }
     ensures reads { IfOk result (λ t. (harts : ℕ) → events_of_text harts (string_bytes t) ≡ events_of harts journal.now) }
     ensures accepted { IfOk result (λ t. first_refused (string_bytes t) ≡ None) }
-    ensures size { IfOk result (λ t. length (string_bytes t) ≤ 24 * length journal.now.keys.items + 16) }
+    ensures size { IfOk result (λ t. length (string_bytes t) ≤ spec.most_key_bytes * length journal.now.keys.items + spec.most_run_bytes) }
 {
     let mut text = String::new(alloc);
     let mut made = 0;

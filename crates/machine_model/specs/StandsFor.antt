@@ -31,11 +31,19 @@ abbrev pub kernel_view : (entry : Option ℕ) → Root
 kernel_view None = View.Kernel
 kernel_view (Some i) = View.Entry i
 
--- the exceptions that kernel mode takes itself, a bit for each cause: 0 to 8, 12, 13 and 15, so all but its own calls and what
--- SecVisor answers; in an entry all of these but 12, the page fault of a fetch
+-- the exceptions that kernel mode takes itself, a bit for each cause: 0 to 7 (misaligned addresses, refused accesses, illegal
+-- instructions, breakpoints), 8 (calls of user mode), and 12, 13 and 15 (page faults of fetches, loads and stores); so all but
+-- its own calls and what SecVisor answers
+abbrev pub delegated_exceptions : ℕ
+delegated_exceptions = 0xB1FF
+
+-- in an entry all of these but 12, which may mean that the hart is to leave the entry
+abbrev pub entry_exceptions : ℕ
+entry_exceptions = 0xA1FF
+
 abbrev pub kernel_hedeleg : (entry : Option ℕ) → ℕ
-kernel_hedeleg None = 0xB1FF
-kernel_hedeleg (Some i) = 0xA1FF
+kernel_hedeleg None = delegated_exceptions
+kernel_hedeleg (Some i) = entry_exceptions
 
 -- kernel mode runs under the kernel's view or an entry's with what it takes itself delegated; user mode under the user's, with
 -- nothing delegated; and no SRET is carried out in either

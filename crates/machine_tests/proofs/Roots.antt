@@ -1,5 +1,6 @@
 -- Under the roots of both views every walk reads the tables alone and leads to RAM.
 use Rattle.std.proofs.Common.{◌≡◌, ℕ, ◌*◌, ◌⊎◌, inl, inr, [], length, refl}
+use Rattle.processor.specs.Bytes.{page_size}
 use Rattle.processor.specs.Regions.{Region}
 use Rattle.sv_types.specs.Views.{AreViews, OfKernel, OfUser, view_hgatp}
 use Rattle.processor.specs.SecondStage.{WalksApart}
@@ -8,7 +9,7 @@ use Rattle.sv_types.specs.declared.view.View.TheVariants.{Kernel, User}
 use Rattle.view_laws.proofs.Views.{view_walks_apart}
 
 pub roots_walk_apart : (r : Region) (ram_pages hgatp : ℕ) (protections : ℕ → Protection) → AreViews r.tables ram_pages [] protections
-    → length r.ram ≡ 4096 * ram_pages → (hgatp ≡ view_hgatp Kernel) ⊎ (hgatp ≡ view_hgatp User) → WalksApart r hgatp
+    → length r.ram ≡ page_size * ram_pages → (hgatp ≡ view_hgatp Kernel) ⊎ (hgatp ≡ view_hgatp User) → WalksApart r hgatp
 roots_walk_apart r ram_pages hgatp protections views size (inl kernel) =
     rw kernel (view_walks_apart r.tables r.ram ram_pages (view_hgatp Kernel) protections OfKernel (views.each Kernel OfKernel refl) size)
 roots_walk_apart r ram_pages hgatp protections views size (inr user) =

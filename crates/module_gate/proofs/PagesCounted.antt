@@ -1,5 +1,6 @@
 -- A load with one page more, from its parts.
 use Rattle.std.proofs.Common.{◌≡◌, ℕ, ◌-◌, ◌*◌, List, [], ◌∷◌, ◌++◌, sym, ◌∙◌, ap, subst, Bool, ◌&&◌}
+use Rattle.processor.specs.Bytes.{page_size}
 use Rattle.std.specs.Prelude.{Option, Some}
 use Rattle.sv_types.specs.Measure.{page_digest}
 use Rattle.sv_types.specs.Policies.{Rules, ModuleRule}
@@ -13,20 +14,20 @@ use Rattle.module_gate.specs.Gates.{next_counted}
 use Rattle.module_gate.proofs.PagePieces.{piece_is_page}
 
 pub counted_where : (rules : Rules) (rule : ModuleRule) (load : HostLoad) (found : Option ModuleRule) (bytes : List ℕ) (n size : ℕ) (digest : List ℕ) (right : Bool) (digests : List (List ℕ))
-    → found ≡ Some rule → n ≡ rule.pages - load.left → size ≡ 4096
-    → digest ≡ page_digest (masked_text bytes (piece_sites (4096 * n) 4096 rule.sites))
-    → right ≡ fields_right rules.exports (module_bases load.about) (piece_sites (4096 * n) size rule.sites) bytes
+    → found ≡ Some rule → n ≡ rule.pages - load.left → size ≡ page_size
+    → digest ≡ page_digest (masked_text bytes (piece_sites (page_size * n) page_size rule.sites))
+    → right ≡ fields_right rules.exports (module_bases load.about) (piece_sites (page_size * n) size rule.sites) bytes
     → digests ≡ load.digests ++ digest ∷ []
     → record { hart = load.hart; about = load.about; left = load.left - 1; digests = digests; right = load.right && right } ≡ next_counted rules bytes load found
 unfolding next_counted page_counted
 counted_where rules rule load found bytes n size digest right digests there number whole digested judged pushed =
     let here : List Site = page_sites (rule.pages - load.left) rule.sites in
-    let sites : piece_sites (4096 * n) 4096 rule.sites ≡ here = piece_is_page n rule.sites ∙ ap (λ (k : ℕ). page_sites k rule.sites) number in
+    let sites : piece_sites (page_size * n) page_size rule.sites ≡ here = piece_is_page n rule.sites ∙ ap (λ (k : ℕ). page_sites k rule.sites) number in
     let of_page : digest ≡ page_digest (masked_text bytes here) = digested ∙ ap (λ (ss : List Site). page_digest (masked_text bytes ss)) sites in
     let all : digests ≡ load.digests ++ page_digest (masked_text bytes here) ∷ [] = pushed ∙ ap (λ (d : List ℕ). load.digests ++ d ∷ []) of_page in
     let good : right ≡ fields_right rules.exports (module_bases load.about) here bytes =
     judged
-    ∙ ap (λ (k : ℕ). fields_right rules.exports (module_bases load.about) (piece_sites (4096 * n) k rule.sites) bytes) whole
+    ∙ ap (λ (k : ℕ). fields_right rules.exports (module_bases load.about) (piece_sites (page_size * n) k rule.sites) bytes) whole
     ∙ ap (λ (ss : List Site). fields_right rules.exports (module_bases load.about) ss bytes) sites in
     let made : List (List ℕ) → Bool → HostLoad = λ ds r. record { hart = load.hart; about = load.about; left = load.left - 1; digests = ds; right = load.right && r } in
     subst (λ (o : Option ModuleRule). made digests right ≡ next_counted rules bytes load o) (sym there)

@@ -8,8 +8,7 @@ use Rattle.sv_types.specs.declared.module.Span.{Span}
 use Rattle.sv_types.specs.declared.saved.SavedModule.{SavedModule}
 use Rattle.sv_types.specs.declared.protection.Protection.{Protection}
 use Rattle.sv_types.specs.declared.protection.Protection.TheVariants.{Approved}
-use Rattle.sv_types.specs.Protections.{is_free}
-use Rattle.reference.specs.Protections.{protection_at}
+use Rattle.reference.specs.Protections.{is_taken}
 use Rattle.reference.specs.States.{pages_in_rule, find_module}
 use Rattle.machine_model.specs.HostExits.{page_counted}
 use Rattle.machine_model.specs.Machine.{HostLoad}
@@ -51,10 +50,6 @@ no_modules = record { loaded = []; loading = false; retired = false }
 -- the addresses are multiples of a page's bytes, and the pages are in RAM
 abbrev pub is_place : List ℕ → (gpa va pages : ℕ) → Bool
 is_place ram gpa va pages = gpa % page_size == 0 && va % page_size == 0 && in_ram ram gpa (page_size * pages)
-
--- a page is approved or held
-abbrev pub is_taken : List Protection → ℕ → Bool
-is_taken guard page = not (is_free (protection_at guard page))
 
 -- and all of them are free
 unfoldable pub is_good_place : List ℕ → List Protection → SavedModule → ℕ → Bool

@@ -4,7 +4,8 @@ ghost use Rattle.std.specs.Prelude.{◌≡◌};
 ghost use Rattle.std.specs.List.{list_any};
 ghost use Rattle.sv_types.specs.ApprovedPages.{numbers_from};
 ghost use Rattle.page_guard.specs.Guarded.{IsTheirs};
-ghost use Rattle.module_gate.specs.Gates.{is_place, is_good_place, is_taken};
+ghost use Rattle.module_gate.specs.Gates.{is_place, is_good_place};
+ghost use Rattle.reference.specs.Protections.{is_taken};
 
 use crate::rules::pages_at;
 use host_mem::HostMem;

@@ -29,6 +29,10 @@ after_asking name limit files = record files { permits = λ asked. files.permits
 abbrev pub after_saving : (name bytes : List ℕ) → FilesState → FilesState
 after_saving name bytes files = record files { permits_save = λ saves. files.permits_save ((name, bytes) ∷ saves) }
 
+-- any bytes may be saved under the name, once
+abbrev pub MaySaveUnder : (name : List ℕ) → FilesState → Type 0
+MaySaveUnder name files = (bytes : List ℕ) → IsTrue (files.permits_save ((name, bytes) ∷ []))
+
 -- the files after an answer to a read: a failure raises the count of reads alone
 abbrev pub ReadLeaves : FilesState → FilesState → List ℕ → ℕ → Result (Vec ℕ Global) FileRefusal → Type 0
 ReadLeaves old new name limit (Ok bytes) = new ≡ after_asking name limit old

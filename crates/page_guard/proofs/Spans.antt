@@ -13,7 +13,7 @@ use Rattle.sv_types.specs.Views.{AreViews, all_free}
 use Rattle.gstage_tables.specs.Layout.{HoldsTrees}
 use Rattle.sv_types.specs.declared.protection.Protection.{Protection}
 use Rattle.sv_types.specs.declared.protection.Protection.TheVariants.{Free}
-use Rattle.reference.specs.Protections.{protection_at, or_free, with_pages}
+use Rattle.reference.specs.Protections.{protection_at, or_free, with_pages, is_taken}
 use Rattle.sv_types.specs.Protections.{is_free}
 use Rattle.page_guard.specs.Guarded.{IsTheirs}
 use Rattle.page_guard.proofs.Sets.{get_same}
@@ -84,10 +84,6 @@ pub none_more : (test : ℕ → Bool) (first count : ℕ) → find test (numbers
     → find test (numbers_from first (count + 1)) ≡ None
 none_more test first count none here =
     let one : find test ((first + count) ∷ []) ≡ None = rw here refl in found_more test first count none ∙ one
-
--- whether a page of the list is taken
-abbrev pub is_taken : List Protection → ℕ → Bool
-is_taken guard page = not (is_free (protection_at guard page))
 
 pub taken_by : (guard : List Protection) (page : ℕ) (p : Protection) → page < length guard → p ≡ get_or guard page p → is_taken guard page ≡ not (is_free p)
 taken_by guard page p below read = ap (λ (o : Option Protection). not (is_free (or_free o))) (slice_get_read guard (length guard) page p refl below read)

@@ -41,6 +41,11 @@ pub record IsTheirs (r : Region) (guard : Guarded) : Type 0 where
   pub views : AreViews r.tables (length guard.pages) guard.bound (protection_at guard.pages)
   pub trees : HoldsTrees r.tables (length guard.pages) guard.bound (protection_at guard.pages)
 
+-- entries are bound to these pages, and the tables follow
+pub record Guards (r : Region) (places : List ℕ) (guard : Guarded) : Type 0 where
+  pub bound : guard.bound ≡ places
+  pub theirs : IsTheirs r guard
+
 -- after changes there are as many pages, entries are bound to the pages that they were, and the tables follow again; RAM is as
 -- it was
 pub record StaysTheirs (before after : Region) (old new : Guarded) : Type 0 where

@@ -6,7 +6,7 @@ ghost use Rattle.sv_types.specs.Views.{view_hgatp};
 ghost use Rattle.sv_types.specs.declared.protection.Protection.TheVariants.{Free, Held, Approved};
 ghost use Rattle.gstage_tables.specs.Layout.{most_bound, table_size};
 ghost use Rattle.sv_types.specs.Protections.{is_free};
-ghost use Rattle.page_guard.specs.Guarded.{with_span, IsInRam, AllAre, first_taken, IsTheirs, StaysTheirs};
+ghost use Rattle.page_guard.specs.Guarded.{with_span, IsInRam, AllAre, first_taken, IsTheirs, StaysTheirs, Guards};
 
 use dma_guard::DmaGuard;
 use gstage_tables::Trees;
@@ -66,8 +66,7 @@ impl Guard {
         requires few { length bound.now ≤ most_bound }
         requires size { length mem.old.tables ≡ table_size (length mem.old.ram / page_size) (length bound.now) }
         ensures guard { IfOk result (λ g. g.pages ≡ replicate (length mem.old.ram / page_size) Free) }
-        ensures bound { IfOk result (λ g. g.bound ≡ bound.now) }
-        ensures theirs { IfOk result (λ g. IsTheirs mem.new g) }
+        ensures guards { IfOk result (λ g. Guards mem.new bound.now g) }
         ensures ram { mem.new.ram ≡ mem.old.ram }
     {
         let pages = mem.ram_pages();

@@ -15,8 +15,9 @@ use processor::{HRegs, Mode};
 use std::marker::Model;
 use sv_types::View;
 
-/// The exceptions that go straight to the kernel, a bit for each cause: 0 to 8, 12, 13 and 15, so all but ECALL from VS mode
-/// and what the hypervisor handles.
+/// The exceptions that go straight to the kernel, a bit for each cause: 0 to 7 (misaligned addresses, refused accesses, illegal
+/// instructions, breakpoints), 8 (calls of user mode), and 12, 13 and 15 (page faults of fetches, loads and stores); so all but
+/// ECALL from VS mode and what the hypervisor handles.
 const DELEGATED_EXCEPTIONS: u64 = 0xB1FF;
 
 /// Those of a hart in an entry: its fetch page faults, cause 12, don't, since they may mean that it is to leave the entry.

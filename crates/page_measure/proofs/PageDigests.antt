@@ -30,25 +30,25 @@ more_pages (suc n) m pages more whole =
     ∙ ap (λ (bytes : List ℕ). page_digest (take page_size pages) ∷ page_digests (n + m) bytes) rest
     ∙ ap (λ (ds : List (List ℕ)). page_digest (take page_size pages) ∷ ds) (more_pages n m (drop page_size pages) more left)
 
-whole_pages : (n bytes : ℕ) → bytes ≡ 4096 * n → bytes / 4096 ≡ n
+whole_pages : (n bytes : ℕ) → bytes ≡ page_size * n → bytes / page_size ≡ n
 whole_pages n bytes whole = omega arith
 
-pages_added : (n front chunk all : ℕ) → front ≡ 4096 * n → all ≡ front + chunk → all / 4096 ≡ n + chunk / 4096
+pages_added : (n front chunk all : ℕ) → front ≡ page_size * n → all ≡ front + chunk → all / page_size ≡ n + chunk / page_size
 pages_added n front chunk all whole sum = omega arith
 
-pub joined : (n : ℕ) (front chunk : List ℕ) → length front ≡ 4096 * n → digests_of front ++ digests_of chunk ≡ digests_of (front ++ chunk)
+pub joined : (n : ℕ) (front chunk : List ℕ) → length front ≡ page_size * n → digests_of front ++ digests_of chunk ≡ digests_of (front ++ chunk)
 joined n front chunk whole =
     let front_pages = whole_pages n (length front) whole in
     let all_pages = pages_added n (length front) (length chunk) (length (front ++ chunk)) whole (length-append front chunk) in
     ap (λ (k : ℕ). page_digests k front ++ digests_of chunk) front_pages
-    ∙ sym (more_pages n (length chunk / 4096) front chunk whole)
+    ∙ sym (more_pages n (length chunk / page_size) front chunk whole)
     ∙ ap (λ (k : ℕ). page_digests k (front ++ chunk)) (sym all_pages)
 
 -- a chunk more: 64 pages, or those that are left
 pub chunk_more : (i : ℕ) (pages : List ℕ) → i * 262144 < length pages →
     digests_of (take (i * 262144) pages) ++ digests_of (take 262144 (drop (i * 262144) pages)) ≡ digests_of (take ((i + 1) * 262144) pages)
 chunk_more i pages there =
-    let front_bytes : length (take (i * 262144) pages) ≡ 4096 * (64 * i) = omega (arith, there, length-take (i * 262144) pages) in
+    let front_bytes : length (take (i * 262144) pages) ≡ page_size * (64 * i) = omega (arith, there, length-take (i * 262144) pages) in
     let bytes : i * 262144 + 262144 ≡ (i + 1) * 262144 = omega arith in
     joined (64 * i) (take (i * 262144) pages) (take 262144 (drop (i * 262144) pages)) front_bytes
     ∙ ap digests_of (sym (take-add (i * 262144) 262144 pages))

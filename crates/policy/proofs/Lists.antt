@@ -1,9 +1,5 @@
 -- Lists whose items are judged one after another.
-use Rattle.std.proofs.Common.{◌≡◌, ℕ, suc, ◌+◌, ◌<◌, List, [], ◌∷◌, ◌++◌, length, drop, get_or, map, refl, sym, ◌∙◌, ap, Ok, Err}
-use Rattle.std.specs.List.{sum}
-use Rattle.std.proofs.lemmas.List.{map-append}
-use Rattle.std.proofs.lemmas.List.Sums.{sum_by_push}
-use Rattle.sv_types.specs.Policies.{ModuleRule, sites_of}
+use Rattle.std.proofs.Common.{◌≡◌, ℕ, suc, ◌+◌, ◌<◌, List, [], ◌∷◌, ◌++◌, length, drop, get_or, refl, sym, ◌∙◌, ap, Ok, Err}
 use Rattle.toml.proofs.Views.{items_view-drop}
 use Rattle.toml.specs.Data.{Data}
 use Rattle.toml.specs.View.{view, items_view}
@@ -16,11 +12,6 @@ use Rattle.policy.specs.Values.{each_item, items_length}
 pub items_length_view : (vs : List Value) → items_length (items_view vs) ≡ length vs
 items_length_view [] = refl
 items_length_view (v ∷ vs) = ap suc (items_length_view vs)
-
-pub sites_of_more : (modules : List ModuleRule) (m : ModuleRule) → sites_of (modules ++ m ∷ []) ≡ sites_of modules + length m.sites
-sites_of_more modules m =
-    let count : ModuleRule → ℕ = λ x. length x.sites in
-    ap sum (map-append count modules (m ∷ [])) ∙ sum_by_push (λ n. n) (map count modules) (count m)
 
 module _ {A : Type 0} (judged : List A → Data → Judged A) where
   -- the item at i is judged first

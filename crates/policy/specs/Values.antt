@@ -1,16 +1,16 @@
 -- Values of a policy's table, each by its kind.
 -- TOML 1.0; the limits are this project's own.
-use Rattle.std.specs.Prelude.{ℕ, suc, ℤ, pos, negsuc, Bool, true, false, ◌&&◌, ◌||◌, not, nat_le, List, [], ◌∷◌, ◌++◌, length, if◌then◌else◌, ok_or, Ok, Err}
+use Rattle.std.specs.Prelude.{ℕ, suc, ℤ, pos, negsuc, Bool, true, false, ◌||◌, not, List, [], ◌∷◌, ◌++◌, if◌then◌else◌, ok_or, Ok, Err}
 use Rattle.std.specs.List.{list_any}
 use Rattle.std.specs.Str.{bytes_eq}
 use Rattle.toml.specs.Data.{Data, Items, no_items, item, Members, no_members, member, get_member, as_integer, as_str, as_array, as_table}
-use Rattle.sv_types.specs.Limits.{most_name_bytes}
 use Rattle.sv_types.specs.Numbers.{digest_of}
 use Rattle.sv_types.specs.Policies.{entry_within}
 use Rattle.text_numbers.specs.Addresses as addresses
 use Rattle.sv_types.specs.Steps.{◌>>=◌}
 use Rattle.policy.specs.Refusals.{Judged}
 use Rattle.policy_limits.specs.declared.policy_fault.PolicyFault.{PolicyFault}
+use Rattle.sv_types.specs.Names.{name_within}
 
 abbrev pub required_member : List ℕ → Members → Judged Data
 required_member key members = ok_or (get_member key members) PolicyFault.MissingKey
@@ -41,10 +41,6 @@ natural_of d = integer_of d >>= whole
 
 abbrev pub number_of : (ℕ → Bool) → Data → Judged ℕ
 number_of fits d = natural_of d >>= λ n. if_within_limit (fits n) n
-
--- 1 to 64 bytes
-abbrev pub name_within : List ℕ → Bool
-name_within name = nat_le 1 (length name) && nat_le (length name) most_name_bytes
 
 abbrev pub name_of : Data → Judged (List ℕ)
 name_of d = text_of d >>= λ text. if_within_limit (name_within text) text

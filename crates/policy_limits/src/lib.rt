@@ -11,6 +11,8 @@ pub use limits::{
     MOST_RAM_PAGES, MOST_SITES, within,
 };
 pub use names::is_module;
-pub use places::{bound_fits, is_aligned, is_anchor, is_behind, is_low_part, is_place, site_size};
+pub use places::{
+    bound_fits, field_end, is_aligned, is_anchor, is_behind, is_low_part, is_place, site_size,
+};
 pub use policy_fault::PolicyFault;
 pub use sv_types::{BOUND_FORMAT, MOST_ENTRIES, MOST_HARTS, PLAIN_FORMAT};

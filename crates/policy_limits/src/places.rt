@@ -13,7 +13,7 @@ pub fn site_size(kind: RelocationKind) -> u64
 {
     match kind {
         RelocationKind::Word64 => 8,
-        _ => 4,
+        _ => INSTRUCTION_BYTES,
     }
 }
 
@@ -48,8 +48,9 @@ pub fn is_anchor(pages: u32, kind: RelocationKind, offset: u32, anchor: u64) -> 
     is_place(pages, anchor) && (is_low_part(kind) || anchor == u64::from(offset))
 }
 
-fn site_end(site: Site) -> u64
-    ensures { result ≡ limits.site_end (Some site) }
+/// The byte behind a site's field.
+pub fn field_end(site: &Site) -> u64
+    ensures { result ≡ limits.field_end site.now }
 {
     u64::from(site.offset) + site_size(site.kind)
 }
@@ -58,7 +59,7 @@ fn end(sites: &[Site]) -> u64
     ensures { result ≡ limits.sites_end sites.now }
 {
     match sites.last() {
-        Some(site) => site_end(*site),
+        Some(site) => field_end(site),
         None => 0,
     }
 }

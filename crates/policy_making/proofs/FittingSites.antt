@@ -1,5 +1,6 @@
 -- The fields of a module that is within its limits are aligned, and lie in its text.
 use Rattle.std.proofs.Common.{◌≡◌, ℕ, ◌-◌, ◌*◌, ◌%◌, ◌<◌, Bool, true, ◌&&◌, List, [], ◌∷◌, ◌++◌, length, refl, ap, ◌∙◌, arith, All}
+use Rattle.processor.specs.Bytes.{page_size}
 use Rattle.std.specs.Prelude.{nat_lt, ◌==◌, if◌then◌else◌}
 use Rattle.std.proofs.lemmas.Bool.{and_parts}
 use Rattle.std.proofs.lemmas.Bool.Decides.{nat_tests}
@@ -17,7 +18,7 @@ inside pages exports before site within =
 
 lies : (text : List ℕ) (site : Site) → place_within (pages_of text) site.offset ≡ true → lies_in 0 (length text) site ≡ true
 lies text site at =
-    let below = (and_parts (site.offset % 4 == 0) (nat_lt site.offset (4096 * pages_of text)) at).1 in
+    let below = (and_parts (site.offset % 4 == 0) (nat_lt site.offset (page_size * pages_of text)) at).1 in
     let before : site.offset < length text = grind (arith, nat_tests) in
     grind (arith, nat_tests)
 

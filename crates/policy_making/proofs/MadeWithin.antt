@@ -19,13 +19,14 @@ use Rattle.elf64_reloc.proofs.ModuleLimits.{module_within}
 use Rattle.policy_making.specs.Making.{ModuleFile, Terms, exports_wanted, file_names, file_of, few_sites, if_few_sites, module_made, modules_made, policy_behind, rule_of, rules_with}
 use Rattle.policy_making.specs.Ranges.{IsShort, terms_within}
 use Rattle.policy_making.specs.Refusals.{Judged, in_module}
-use Rattle.policy_making.specs.WordRanges.{all_new_names, are_module_names, is_among, is_name, is_new_name}
+use Rattle.policy_making.specs.WordRanges.{all_new_names, are_module_names, is_among, is_new_name}
 use Rattle.policy_making.specs.declared.object_file.ObjectFile.{ObjectFile}
 use Rattle.policy_making.specs.declared.refusal.MakingFault.TheVariants.{TooManySites}
 use Rattle.policy_making.specs.declared.refusal.MakingRefusal.{MakingRefusal}
 use Rattle.policy_making.proofs.ExportsWithin.{limits_of_modules}
 use Rattle.policy_making.proofs.ModulesWithin.{is_new, is_within, modules_are_within}
 use Rattle.policy_making.proofs.WordLemmas.{list_any_map}
+use Rattle.sv_types.specs.Names.{name_within}
 
 abbrev rule_names : List ModuleRule → List (List ℕ)
 rule_names modules = map (λ (m : ModuleRule). m.name) modules
@@ -92,7 +93,7 @@ new_from : (before rules : List ModuleRule) → each_within is_new_name (rule_na
 new_from before [] new = refl
 new_from before (m ∷ ms) new =
     let parts = and_parts (is_new_name (rule_names before) m.name) (each_within is_new_name (rule_names before ++ m.name ∷ []) (rule_names ms)) new in
-    let other = (and_parts (is_name m.name) (not (is_among (rule_names before) m.name)) parts.0).1 in
+    let other = (and_parts (name_within m.name) (not (is_among (rule_names before) m.name)) parts.0).1 in
     let among : is_among (rule_names before) m.name ≡ is_module m.name before = list_any_map (λ (word : List ℕ). bytes_eq word m.name) (λ (x : ModuleRule). x.name) before in
     let one : is_new before m ≡ true = subst (λ (b : Bool). not b ≡ true) among other in
     let more : rule_names before ++ m.name ∷ [] ≡ rule_names (before ++ m ∷ []) = sym (map-append (λ (x : ModuleRule). x.name) before (m ∷ [])) in

@@ -1,12 +1,12 @@
 -- Modules that are within their limits each, whose names are new and whose fields are few.
-use Rattle.std.proofs.Common.{◌≡◌, ℕ, ◌+◌, ◌≤◌, Bool, true, not, ◌&&◌, List, [], ◌∷◌, ◌++◌, length, map, refl, ap, sym, ◌∙◌, subst, arith}
-use Rattle.std.specs.Prelude.{nat_le, sum}
+use Rattle.std.proofs.Common.{◌≡◌, ℕ, ◌+◌, ◌≤◌, Bool, true, not, ◌&&◌, List, [], ◌∷◌, ◌++◌, length, map, refl, sym, subst, arith}
+use Rattle.std.specs.Prelude.{nat_le}
 use Rattle.std.specs.List.{list_all}
 use Rattle.std.proofs.lemmas.Bool.{and_parts, and_from}
 use Rattle.std.proofs.lemmas.Bool.Decides.{nat_tests}
-use Rattle.std.proofs.lemmas.List.{map-append}
-use Rattle.std.proofs.lemmas.List.Sums.{sum_by-append, sum_by-cons}
+use Rattle.std.proofs.lemmas.List.Sums.{sum_by-cons}
 use Rattle.sv_types.specs.Policies.{ModuleRule, modules_within, module_within, module_pages_within, sites_count_within, sites_within, sites_of, is_module, each_within}
+use Rattle.sv_types.proofs.PolicyLimits.{sites_of_more}
 
 -- a module's own values, beside so many exports
 abbrev pub is_within : ℕ → ModuleRule → Bool
@@ -21,13 +21,6 @@ counts ms = map (λ (m : ModuleRule). length m.sites) ms
 
 first_sites : (m : ModuleRule) (ms : List ModuleRule) → sites_of (m ∷ ms) ≡ length m.sites + sites_of ms
 first_sites m ms = sum_by-cons (λ (n : ℕ). n) (length m.sites) (counts ms)
-
-more_sites : (before : List ModuleRule) (m : ModuleRule) → sites_of (before ++ m ∷ []) ≡ sites_of before + length m.sites
-more_sites before m =
-    let one : sum (length m.sites ∷ []) ≡ length m.sites + sum [] = sum_by-cons (λ (n : ℕ). n) (length m.sites) [] in
-    let none : length m.sites + sum [] ≡ length m.sites = omega arith in
-    ap sum (map-append (λ (x : ModuleRule). length x.sites) before (m ∷ [])) ∙ sum_by-append (λ (n : ℕ). n) (counts before) (length m.sites ∷ [])
-    ∙ ap (λ (n : ℕ). sites_of before + n) (one ∙ none)
 
 one_within : (exports : ℕ) (before : List ModuleRule) (m : ModuleRule) → is_new before m ≡ true → is_within exports m ≡ true → sites_of before + length m.sites ≤ 131072
     → module_within exports before m ≡ true
@@ -47,7 +40,7 @@ all_within exports before [] new own few = refl
 all_within exports before (m ∷ ms) new own few =
     let name = and_parts (is_new before m) (each_within is_new (before ++ m ∷ []) ms) new in
     let values = and_parts (is_within exports m) (list_all (is_within exports) ms) own in
-    let sites = more_sites before m in
+    let sites = sites_of_more before m in
     let all : sites_of before + (length m.sites + sites_of ms) ≤ 131072 = subst (λ (n : ℕ). sites_of before + n ≤ 131072) (first_sites m ms) few in
     let here : sites_of before + length m.sites ≤ 131072 = omega (arith, all) in
     let rest : sites_of (before ++ m ∷ []) + sites_of ms ≤ 131072 = subst (λ (n : ℕ). n + sites_of ms ≤ 131072) (sym sites) (omega (arith, all)) in

@@ -1,5 +1,6 @@
 -- Names that are put into an order, each once.
 use Rattle.std.proofs.Common.{◌≡◌, ℕ, Bool, true, false, ◌||◌, List, [], ◌∷◌, refl, ap, sym, ◌∙◌, Less, Equal, Greater, subst}
+use Rattle.sv_types.proofs.TruthValues.{or_assoc}
 use Rattle.std.specs.BTreeSet.{replace_key}
 use Rattle.std.specs.Cmp.Lexicographic.{slice_cmp}
 use Rattle.std.specs.List.{list_any, AllByRecursion}
@@ -71,17 +72,13 @@ same_first true c = refl
 same_first false true = refl
 same_first false false = refl
 
-behind_first : (a b c : Bool) → (a || (b || c)) ≡ ((a || b) || c)
-behind_first true b c = refl
-behind_first false b c = refl
-
 some_by : (p : Name → Bool) (x : Name) (xs : List Name) (k : Name) (o : Ordering) → order k x ≡ o → list_any p (replace_key order xs k) ≡ (list_any p xs || p k)
     → list_any p (replace_key order (x ∷ xs) k) ≡ (list_any p (x ∷ xs) || p k)
 some_by p x xs k Less e rest = rw e (first_last (p k) (p x) (list_any p xs))
 some_by p x xs k Equal e rest =
     let same : k ≡ x = exact_bytes k x e in
     rw e (subst (λ (y : Name). (p k || list_any p xs) ≡ ((p y || list_any p xs) || p k)) same (same_first (p k) (list_any p xs)))
-some_by p x xs k Greater e rest = rw e (ap (λ (b : Bool). p x || b) rest ∙ behind_first (p x) (list_any p xs) (p k))
+some_by p x xs k Greater e rest = rw e (ap (λ (b : Bool). p x || b) rest ∙ or_assoc (p x) (list_any p xs) (p k))
 
 some_put : (p : Name → Bool) (xs : List Name) (k : Name) → list_any p (replace_key order xs k) ≡ (list_any p xs || p k)
 some_put p [] k = first_last (p k) false false
@@ -95,7 +92,7 @@ some_from : (p : Name → Bool) (once names : List Name) → list_any p (once_fr
 some_from p once [] = or_none (list_any p once)
 some_from p once (name ∷ names) =
     some_from p (replace_key order once name) names ∙ ap (λ (b : Bool). b || list_any p names) (some_put p once name)
-    ∙ sym (behind_first (list_any p once) (p name) (list_any p names))
+    ∙ sym (or_assoc (list_any p once) (p name) (list_any p names))
 
 pub some_once : (names : List (List ℕ)) (p : List ℕ → Bool) → list_any p (each_once names) ≡ list_any p names
 some_once names p = some_from p [] names

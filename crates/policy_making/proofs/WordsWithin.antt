@@ -5,7 +5,7 @@ use Rattle.std.specs.List.{list_all, before_first, after_first}
 use Rattle.std.specs.Option.{option_map_or}
 use Rattle.std.proofs.lemmas.Bool.{and_parts}
 use Rattle.std.proofs.lemmas.List.{length-map}
-use Rattle.processor.specs.Bytes.{ram_base}
+use Rattle.processor.specs.Bytes.{ram_base, page_size}
 use Rattle.sv_types.specs.Numbers.{number_within}
 use Rattle.sv_types.specs.Policies.{each_within, entry_within, entries_count_within, entries_within, span_within}
 use Rattle.sv_types.specs.declared.module.Span.{Span}
@@ -45,7 +45,7 @@ span_good : (ram_pages : ℕ) (address count : Option ℕ) (span : Span) → spa
 span_good ram_pages None count span is = absurd (cc is)
 span_good ram_pages (Some address) None span is = absurd (cc is)
 span_good ram_pages (Some address) (Some count) span is =
-    span_by ram_pages address count (nat_le ram_base address && address % 4096 == 0) (span_within ram_pages (span_from address count)) span refl is
+    span_by ram_pages address count (nat_le ram_base address && address % page_size == 0) (span_within ram_pages (span_from address count)) span refl is
 
 two_good : (ram_pages : ℕ) (address count : List ℕ) (span : Span) → span_of_two ram_pages address count ≡ Some span → span_within ram_pages span ≡ true
 unfolding span_of_two

@@ -3,12 +3,12 @@ use Rattle.std.specs.Prelude.{ℕ, ◌%◌, Bool, false, ◌&&◌, not, List, []
 use Rattle.std.specs.List.{list_all, list_any, slice_split, before_first, after_first}
 use Rattle.std.specs.Option.{option_map_or}
 use Rattle.std.specs.Str.{bytes_eq}
-use Rattle.sv_types.specs.Limits.{most_name_bytes}
 use Rattle.sv_types.specs.Numbers.{number_within}
 use Rattle.processor.specs.Bytes.{page_size, ram_base, page_of}
 use Rattle.sv_types.specs.Policies.{each_within, entries_count_within, entry_within, modules_count_within, span_within}
 use Rattle.sv_types.specs.declared.module.Span.{Span}
 use Rattle.text_numbers.specs.Addresses.{address_of}
+use Rattle.sv_types.specs.Names.{name_within}
 
 -- ---- permitted entries
 
@@ -61,16 +61,12 @@ span_of ram_pages word = span_of_two ram_pages (before_first (λ c. c == colon) 
 
 -- ---- modules
 
--- 1 to 64 bytes
-abbrev pub is_name : List ℕ → Bool
-is_name word = nat_le 1 (length word) && nat_le (length word) most_name_bytes
-
 abbrev pub is_among : List (List ℕ) → List ℕ → Bool
 is_among words name = list_any (λ word. bytes_eq word name) words
 
 -- a name that none of the words before it is
 abbrev pub is_new_name : List (List ℕ) → List ℕ → Bool
-is_new_name before word = is_name word && not (is_among before word)
+is_new_name before word = name_within word && not (is_among before word)
 
 abbrev pub all_new_names : List (List ℕ) → Bool
 all_new_names = each_within is_new_name []

@@ -4,12 +4,13 @@ ghost use Rattle.std.specs.Prelude.{◌≡◌, map, string_bytes};
 ghost use Rattle.std.specs.List.{list_any};
 ghost use Rattle.std.specs.Str.{bytes_eq};
 ghost use Rattle.policy_making.specs.WordRanges as spec;
+ghost use Rattle.sv_types.specs.Names.{name_within};
 
 use policy_limits::MOST_MODULES;
 use sv_types::MOST_NAME_BYTES;
 
 fn is_name(word: &str) -> bool
-    ensures { result ≡ spec.is_name word.now }
+    ensures { result ≡ name_within word.now }
 {
     1 <= word.len() && word.len() <= MOST_NAME_BYTES
 }

@@ -6,7 +6,7 @@ use Rattle.std.proofs.lemmas.Bool.Decides.{nat_tests}
 use Rattle.std.specs.List.{All}
 use Rattle.toml.specs.Data.{Items, Members, get_member}
 use Rattle.toml.specs.View.{items_of}
-use Rattle.processor.specs.Bytes.{ram_base}
+use Rattle.processor.specs.Bytes.{ram_base, page_size}
 use Rattle.sv_types.specs.Policies.{Rules, ModuleRule, each_within, entry_within, entries_count_within, exports_count_within, export_within, is_exported, span_within, init_within, next_site_within, site_within, place_within, is_aligned, base_within, anchor_within, is_behind, sites_within, sites_count_within, sites_of, module_within, modules_within, modules_count_within, is_module, module_pages_within, format_within, harts_within, ram_pages_within, entries_within, exports_within, all_bound, bound_within, numbers_within, lists_within, rules_within}
 use Rattle.sv_types.specs.RelocationKinds as kinds
 use Rattle.processor.specs.Regions.{most_ram_pages}
@@ -79,16 +79,16 @@ exports_back exports ranges count within =
 first_below : (ram_pages : ℕ) (span : Span) → span_within ram_pages span ≡ true → ram_pages ≤ most_ram_pages → span.first < most_ram_pages
 first_below ram_pages span within few = grind (arith, nat_tests)
 
-page_address : (first : ℕ) → (ram_base + 4096 * first) % 4096 ≡ 0
+page_address : (first : ℕ) → (ram_base + page_size * first) % page_size ≡ 0
 page_address first = omega arith
 
-page_of_address : (first : ℕ) → ((ram_base + 4096 * first) - ram_base) / 4096 ≡ first
+page_of_address : (first : ℕ) → ((ram_base + page_size * first) - ram_base) / page_size ≡ first
 page_of_address first = omega arith
 
 span_at_back : (ram_pages : ℕ) (span : Span) → span_within ram_pages span ≡ true →
-    span_at ram_pages (ram_base + 4096 * span.first) span.count ≡ Ok span
+    span_at ram_pages (ram_base + page_size * span.first) span.count ≡ Ok span
 span_at_back ram_pages span within =
-    let below : nat_le ram_base (ram_base + 4096 * span.first) ≡ true = le-leb _ _ (omega arith) in
+    let below : nat_le ram_base (ram_base + page_size * span.first) ≡ true = le-leb _ _ (omega arith) in
     rw (below, page_of_address span.first, within) refl
 
 span_back : (ram_pages : ℕ) (span : Span) → span_within ram_pages span ≡ true → ram_pages ≤ most_ram_pages →
@@ -97,7 +97,7 @@ unfolding init_of init_of_two span_data
 span_back ram_pages span within few =
     let below : span.first < most_ram_pages = first_below ram_pages span within few in
     let some : nat_le 1 span.count ≡ true = (and_parts (nat_le 1 span.count) _ within).0 in
-    rw (address_back (ram_base + 4096 * span.first) (omega arith), page_address span.first, some, span_at_back ram_pages span within) refl
+    rw (address_back (ram_base + page_size * span.first) (omega arith), page_address span.first, some, span_at_back ram_pages span within) refl
 
 init_back : (ram_pages : ℕ) (kernel : List ℕ) (init : Option Span) (ms : Members) → get_member (codes "kernel") ms ≡ Some (kernel_data kernel init) →
     IsDigest kernel → init_within ram_pages init ≡ true → ram_pages ≤ most_ram_pages → kernel_rule ram_pages ms ≡ Ok (kernel, init)

@@ -5,7 +5,7 @@ use Rattle.hex.specs.Hex.{IsBytes}
 use Rattle.sv_types.specs.Measure.{digest_size}
 use Rattle.sv_types.specs.Policies.{Rules, ModuleRule}
 use Rattle.sv_types.specs.declared.policy.Export.{Export}
-use Rattle.policy.specs.Values.{name_within}
+use Rattle.sv_types.specs.Names.{name_within}
 
 abbrev pub IsAddress : ℕ → Type 0
 IsAddress address = address < 2 ^ 64

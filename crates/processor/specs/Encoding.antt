@@ -25,6 +25,7 @@ use Rattle.processor.specs.declared.instruction.AmoOp.TheVariants.{Amoswap, Amoa
 use Rattle.processor.specs.declared.instruction.HyperOp.{HyperOp}
 use Rattle.processor.specs.declared.instruction.HyperOp.TheVariants.{HlvB, HlvBu, HlvH, HlvHu, HlvxHu, HlvW, HlvWu, HlvxWu, HlvD, HsvB, HsvH, HsvW, HsvD, HfenceVvma, HfenceGvma}
 use Rattle.processor.specs.IntegerRegisters.{register_count}
+use Rattle.processor.specs.Opcodes.{amo_opcode, auipc_opcode, branch_opcode, jal_opcode, jalr_opcode, load_opcode, lui_opcode, op_32_opcode, op_imm_32_opcode, op_imm_opcode, op_opcode, store_opcode, system_opcode}
 use Rattle.processor.specs.Instructions.{bits, ecall_word, ebreak_word, sret_word, wfi_word}
 
 -- ---- fields in range
@@ -341,27 +342,27 @@ amo_funct7 funct5 aq rl = 2 ^ 2 * funct5 + 2 * from_bool aq + from_bool rl
 -- ---- the word of an instruction. Bits that it doesn't keep are 0
 
 unfoldable pub word_of : Instr → ℕ
-word_of (Instr.Lui rd imm) = u_word 0x37 rd imm
-word_of (Instr.Auipc rd imm) = u_word 0x17 rd imm
-word_of (Instr.Jal rd imm) = j_word 0x6F rd imm
-word_of (Instr.Jalr rd rs1 imm) = i_word 0x67 0 rd rs1 (imm_bits imm 0 12)
-word_of (Instr.Branch op rs1 rs2 imm) = b_word 0x63 (branch_funct3 op) rs1 rs2 imm
-word_of (Instr.Load op rd rs1 imm) = i_word 0x03 (load_funct3 op) rd rs1 (imm_bits imm 0 12)
-word_of (Instr.Store op rs1 rs2 imm) = s_word 0x23 (store_funct3 op) rs1 rs2 imm
-word_of (Instr.OpImm op rd rs1 imm shamt) = i_word 0x13 (op_imm_funct3 op) rd rs1 (imm_bits imm 0 12 + shamt + arithmetic_bit op)
+word_of (Instr.Lui rd imm) = u_word lui_opcode rd imm
+word_of (Instr.Auipc rd imm) = u_word auipc_opcode rd imm
+word_of (Instr.Jal rd imm) = j_word jal_opcode rd imm
+word_of (Instr.Jalr rd rs1 imm) = i_word jalr_opcode 0 rd rs1 (imm_bits imm 0 12)
+word_of (Instr.Branch op rs1 rs2 imm) = b_word branch_opcode (branch_funct3 op) rs1 rs2 imm
+word_of (Instr.Load op rd rs1 imm) = i_word load_opcode (load_funct3 op) rd rs1 (imm_bits imm 0 12)
+word_of (Instr.Store op rs1 rs2 imm) = s_word store_opcode (store_funct3 op) rs1 rs2 imm
+word_of (Instr.OpImm op rd rs1 imm shamt) = i_word op_imm_opcode (op_imm_funct3 op) rd rs1 (imm_bits imm 0 12 + shamt + arithmetic_bit op)
 word_of (Instr.OpImm32 op rd rs1 imm shamt) =
-    i_word 0x1B (op_imm_32_funct3 op) rd rs1 (imm_bits imm 0 12 + shamt + arithmetic_bit_32 op)
-word_of (Instr.Op op rd rs1 rs2) = r_word 0x33 (op_funct7 op) (op_funct3 op) rd rs1 rs2
-word_of (Instr.Op32 op rd rs1 rs2) = r_word 0x3B (op_32_funct7 op) (op_32_funct3 op) rd rs1 rs2
+    i_word op_imm_32_opcode (op_imm_32_funct3 op) rd rs1 (imm_bits imm 0 12 + shamt + arithmetic_bit_32 op)
+word_of (Instr.Op op rd rs1 rs2) = r_word op_opcode (op_funct7 op) (op_funct3 op) rd rs1 rs2
+word_of (Instr.Op32 op rd rs1 rs2) = r_word op_32_opcode (op_32_funct7 op) (op_32_funct3 op) rd rs1 rs2
 word_of Instr.Fence = 0x0000000F
 word_of Instr.FenceI = 0x0000100F
 word_of Instr.Ecall = ecall_word
 word_of Instr.Ebreak = ebreak_word
 word_of Instr.Sret = sret_word
 word_of Instr.Wfi = wfi_word
-word_of (Instr.SfenceVma rs1 rs2) = r_word 0x73 0x09 0 0 rs1 rs2
-word_of (Instr.Csr op rd rs1 csr) = i_word 0x73 (csr_funct3 op) rd rs1 csr
-word_of (Instr.Lr rd rs1 width aq rl) = r_word 0x2F (amo_funct7 0x02 aq rl) (width_funct3 width) rd rs1 0
-word_of (Instr.Sc rd rs1 rs2 width aq rl) = r_word 0x2F (amo_funct7 0x03 aq rl) (width_funct3 width) rd rs1 rs2
-word_of (Instr.Amo op rd rs1 rs2 width aq rl) = r_word 0x2F (amo_funct7 (amo_funct5 op) aq rl) (width_funct3 width) rd rs1 rs2
-word_of (Instr.Hyper op rd rs1 rs2) = r_word 0x73 (hyper_funct7 op) (hyper_funct3 op) rd rs1 (rs2 + hyper_number op)
+word_of (Instr.SfenceVma rs1 rs2) = r_word system_opcode 0x09 0 0 rs1 rs2
+word_of (Instr.Csr op rd rs1 csr) = i_word system_opcode (csr_funct3 op) rd rs1 csr
+word_of (Instr.Lr rd rs1 width aq rl) = r_word amo_opcode (amo_funct7 0x02 aq rl) (width_funct3 width) rd rs1 0
+word_of (Instr.Sc rd rs1 rs2 width aq rl) = r_word amo_opcode (amo_funct7 0x03 aq rl) (width_funct3 width) rd rs1 rs2
+word_of (Instr.Amo op rd rs1 rs2 width aq rl) = r_word amo_opcode (amo_funct7 (amo_funct5 op) aq rl) (width_funct3 width) rd rs1 rs2
+word_of (Instr.Hyper op rd rs1 rs2) = r_word system_opcode (hyper_funct7 op) (hyper_funct3 op) rd rs1 (rs2 + hyper_number op)

@@ -4,6 +4,7 @@
 use Rattle.std.specs.Prelude.{ℕ, ◌+◌, ◌/◌, ◌%◌, Bool, true, ◌==◌, if◌then◌else◌, bit_and, Option, Some, None, Result, Ok, Err}
 use Rattle.processor.specs.Bits.{bit}
 use Rattle.processor.specs.Regions.{Region, host_word, write_host}
+use Rattle.processor.specs.Instructions.{opcode_field, rd_field, funct3_field, rs2_field, funct7_field}
 use Rattle.processor.specs.Registers.{sum_place, mxr_place}
 use Rattle.processor.specs.Translation.{Settings}
 use Rattle.processor.specs.SecondStage.{two_stages, htval_unit}
@@ -36,22 +37,6 @@ abbrev pub guest_page_fault : Access → Cause
 guest_page_fault Fetch = Cause.GuestFetch
 guest_page_fault Load = Cause.GuestLoad
 guest_page_fault Store = Cause.GuestStore
-
--- the fields of an instruction's word, each by its bits; funct7 of an atomic one has its aq and rl
-abbrev pub opcode_field : ℕ
-opcode_field = 0x0000007F
-
-abbrev pub rd_field : ℕ
-rd_field = 0x00000F80
-
-abbrev pub funct3_field : ℕ
-funct3_field = 0x00007000
-
-abbrev pub rs2_field : ℕ
-rs2_field = 0x01F00000
-
-abbrev pub funct7_field : ℕ
-funct7_field = 0xFE000000
 
 -- a transformed instruction keeps these fields of the word, and its others are 0: rs1 and the immediate
 abbrev pub load_htinst : ℕ → ℕ

@@ -6,7 +6,7 @@ use Rattle.std.specs.Prelude.{◌≡◌, ℕ, ◌+◌, ◌*◌, ◌/◌, ◌^◌
 use Rattle.std.specs.List.{list_any}
 use Rattle.processor.specs.Bits.{bit, flag, without}
 use Rattle.processor.specs.Causes.{cause_number}
-use Rattle.processor.specs.Registers.{csr_named, software_bit, timer_bit, external_bit, legal_status, uxl, legal_interrupts, legal_tvec, time_place, legal_counteren, legal_epc, legal_satp}
+use Rattle.processor.specs.Registers.{csr_of_number, software_bit, timer_bit, external_bit, legal_status, uxl, legal_interrupts, legal_tvec, time_place, legal_counteren, legal_epc, legal_satp}
 use Rattle.processor.specs.Traps.{trap_cause, status_at_trap, status_at_return, takes_interrupts, interrupt_number, is_interrupt, first_interrupt}
 use Rattle.processor.specs.declared.csr.Csr.{Csr}
 use Rattle.processor.specs.declared.csr.CsrFault.{CsrFault}
@@ -115,8 +115,8 @@ pub record IsLegal (c : HypervisorRegisters) : Type 0 where
 
 -- ---- which register an access with V = 1 reaches, or its fault
 
--- the numbers of the VS registers (vsstatus, vsie, vstvec, vsscratch, vsepc, vscause, vstval, vsip, vsatp) and of the
--- hypervisor's (hstatus, hedeleg, hideleg, hie, hcounteren, htval, hip, hvip, htinst, hgatp)
+-- the numbers of vsstatus, vsie, vstvec, vsscratch, vsepc, vscause, vstval, vsip and vsatp; and of hstatus, hedeleg,
+-- hideleg, hie, hcounteren, htval, hip, hvip, htinst and hgatp
 abbrev pub hypervisor_numbers : List ℕ
 hypervisor_numbers = 0x200 ∷ 0x204 ∷ 0x205 ∷ 0x240 ∷ 0x241 ∷ 0x242 ∷ 0x243 ∷ 0x244 ∷ 0x280
     ∷ 0x600 ∷ 0x602 ∷ 0x603 ∷ 0x604 ∷ 0x606 ∷ 0x643 ∷ 0x644 ∷ 0x645 ∷ 0x64A ∷ 0x680 ∷ []
@@ -145,7 +145,7 @@ reached_csr mode scounteren writes number None = Err (nameless_fault number)
 reached_csr mode scounteren writes number (Some csr) = unless_refused csr (refusal mode scounteren writes csr)
 
 unfoldable pub csr_access : Mode → HypervisorRegisters → ℕ → Bool → Result Csr CsrFault
-csr_access mode c number writes = reached_csr mode c.scounteren writes number (csr_named number)
+csr_access mode c number writes = reached_csr mode c.scounteren writes number (csr_of_number number)
 
 -- ---- values
 

@@ -4,6 +4,7 @@
 -- RISC-V Unprivileged manual, "RV32/64G Instruction Set Listings" and "Immediate Encoding Variants"; Privileged
 -- manual, "RISC-V Privileged Instruction Set Listings".
 use Rattle.std.specs.Prelude.{ℕ, ◌+◌, ◌-◌, ◌*◌, ◌/◌, ◌%◌, ◌^◌, ℤ, pos, ◌-ℤ◌, List, [], ◌∷◌, ◌==◌, if◌then◌else◌, nat_lt, bit_and, Bool, Option, find, option_map}
+use Rattle.processor.specs.Opcodes.{amo_opcode, auipc_opcode, branch_opcode, jal_opcode, jalr_opcode, load_opcode, lui_opcode, misc_mem_opcode, op_32_opcode, op_imm_32_opcode, op_imm_opcode, op_opcode, store_opcode, system_opcode}
 use Rattle.processor.specs.declared.instruction.Instr.{Instr}
 use Rattle.processor.specs.declared.instruction.BranchOp.{BranchOp}
 use Rattle.processor.specs.declared.instruction.BranchOp.TheVariants as Branch
@@ -32,6 +33,29 @@ pub record Row : Type 0 where
   pub form : ℕ → Instr
 
 -- ---- fields
+
+-- the fields of a word, each by its bits. funct6 and funct5 are the upper bits of funct7; beneath funct5 an atomic
+-- instruction has its aq and rl
+abbrev pub opcode_field : ℕ
+opcode_field = 0x0000007F
+
+abbrev pub rd_field : ℕ
+rd_field = 0x00000F80
+
+abbrev pub funct3_field : ℕ
+funct3_field = 0x00007000
+
+abbrev pub rs2_field : ℕ
+rs2_field = 0x01F00000
+
+abbrev pub funct7_field : ℕ
+funct7_field = 0xFE000000
+
+abbrev pub funct6_field : ℕ
+funct6_field = 0xFC000000
+
+abbrev pub funct5_field : ℕ
+funct5_field = 0xF8000000
 
 -- the bits from low up to below high of a word
 abbrev pub bits : ℕ → ℕ → ℕ → ℕ
@@ -146,34 +170,34 @@ plain instr word = instr
 -- of one word alone
 
 abbrev pub by_opcode : ℕ → (ℕ → Instr) → Row
-by_opcode opcode form = record { mask = 0x7F; match = opcode; form = form }
+by_opcode opcode form = record { mask = opcode_field; match = opcode; form = form }
 
 abbrev pub by_funct3 : ℕ → ℕ → (ℕ → Instr) → Row
-by_funct3 opcode funct3 form = record { mask = 0x707F; match = opcode + 2 ^ 12 * funct3; form = form }
+by_funct3 opcode funct3 form = record { mask = opcode_field + funct3_field; match = opcode + 2 ^ 12 * funct3; form = form }
 
 abbrev pub by_funct7 : ℕ → ℕ → ℕ → (ℕ → Instr) → Row
 by_funct7 opcode funct7 funct3 form =
-    record { mask = 0xFE00707F; match = opcode + 2 ^ 12 * funct3 + 2 ^ 25 * funct7; form = form }
+    record { mask = opcode_field + funct3_field + funct7_field; match = opcode + 2 ^ 12 * funct3 + 2 ^ 25 * funct7; form = form }
 
 abbrev pub by_funct6 : ℕ → ℕ → ℕ → (ℕ → Instr) → Row
 by_funct6 opcode funct6 funct3 form =
-    record { mask = 0xFC00707F; match = opcode + 2 ^ 12 * funct3 + 2 ^ 26 * funct6; form = form }
+    record { mask = opcode_field + funct3_field + funct6_field; match = opcode + 2 ^ 12 * funct3 + 2 ^ 26 * funct6; form = form }
 
 abbrev pub by_funct5 : ℕ → ℕ → ℕ → (ℕ → Instr) → Row
 by_funct5 opcode funct5 funct3 form =
-    record { mask = 0xF800707F; match = opcode + 2 ^ 12 * funct3 + 2 ^ 27 * funct5; form = form }
+    record { mask = opcode_field + funct3_field + funct5_field; match = opcode + 2 ^ 12 * funct3 + 2 ^ 27 * funct5; form = form }
 
 abbrev pub by_funct5_no_rs2 : ℕ → ℕ → ℕ → (ℕ → Instr) → Row
 by_funct5_no_rs2 opcode funct5 funct3 form =
-    record { mask = 0xF9F0707F; match = opcode + 2 ^ 12 * funct3 + 2 ^ 27 * funct5; form = form }
+    record { mask = opcode_field + funct3_field + rs2_field + funct5_field; match = opcode + 2 ^ 12 * funct3 + 2 ^ 27 * funct5; form = form }
 
 abbrev pub by_funct7_rs2 : ℕ → ℕ → ℕ → ℕ → (ℕ → Instr) → Row
 by_funct7_rs2 opcode funct7 number funct3 form =
-    record { mask = 0xFFF0707F; match = opcode + 2 ^ 12 * funct3 + 2 ^ 20 * number + 2 ^ 25 * funct7; form = form }
+    record { mask = opcode_field + funct3_field + rs2_field + funct7_field; match = opcode + 2 ^ 12 * funct3 + 2 ^ 20 * number + 2 ^ 25 * funct7; form = form }
 
 abbrev pub by_funct7_no_rd : ℕ → ℕ → ℕ → (ℕ → Instr) → Row
 by_funct7_no_rd opcode funct7 funct3 form =
-    record { mask = 0xFE007FFF; match = opcode + 2 ^ 12 * funct3 + 2 ^ 25 * funct7; form = form }
+    record { mask = opcode_field + rd_field + funct3_field + funct7_field; match = opcode + 2 ^ 12 * funct3 + 2 ^ 25 * funct7; form = form }
 
 abbrev pub whole_word : ℕ → (ℕ → Instr) → Row
 whole_word word form = record { mask = 0xFFFFFFFF; match = word; form = form }
@@ -193,57 +217,57 @@ wfi_word = 0x10500073
 
 unfoldable pub rows : List Row
 rows =
-    by_opcode 0x37 lui ∷ by_opcode 0x17 auipc ∷ by_opcode 0x6F jal ∷ by_funct3 0x67 0 jalr ∷
-    by_funct3 0x63 0 (branch Branch.Beq) ∷ by_funct3 0x63 1 (branch Branch.Bne) ∷
-    by_funct3 0x63 4 (branch Branch.Blt) ∷ by_funct3 0x63 5 (branch Branch.Bge) ∷
-    by_funct3 0x63 6 (branch Branch.Bltu) ∷ by_funct3 0x63 7 (branch Branch.Bgeu) ∷
-    by_funct3 0x03 0 (load Load.Lb) ∷ by_funct3 0x03 1 (load Load.Lh) ∷ by_funct3 0x03 2 (load Load.Lw) ∷
-    by_funct3 0x03 3 (load Load.Ld) ∷ by_funct3 0x03 4 (load Load.Lbu) ∷ by_funct3 0x03 5 (load Load.Lhu) ∷
-    by_funct3 0x03 6 (load Load.Lwu) ∷
-    by_funct3 0x23 0 (store Store.Sb) ∷ by_funct3 0x23 1 (store Store.Sh) ∷ by_funct3 0x23 2 (store Store.Sw) ∷
-    by_funct3 0x23 3 (store Store.Sd) ∷
-    by_funct3 0x13 0 (op_imm OpImm.Addi) ∷ by_funct3 0x13 2 (op_imm OpImm.Slti) ∷ by_funct3 0x13 3 (op_imm OpImm.Sltiu) ∷
-    by_funct3 0x13 4 (op_imm OpImm.Xori) ∷ by_funct3 0x13 6 (op_imm OpImm.Ori) ∷ by_funct3 0x13 7 (op_imm OpImm.Andi) ∷
-    by_funct6 0x13 0x00 1 (shift OpImm.Slli) ∷ by_funct6 0x13 0x00 5 (shift OpImm.Srli) ∷
-    by_funct6 0x13 0x10 5 (shift OpImm.Srai) ∷
-    by_funct3 0x1B 0 (op_imm_32 OpImm32.Addiw) ∷ by_funct7 0x1B 0x00 1 (shift_32 OpImm32.Slliw) ∷
-    by_funct7 0x1B 0x00 5 (shift_32 OpImm32.Srliw) ∷ by_funct7 0x1B 0x20 5 (shift_32 OpImm32.Sraiw) ∷
-    by_funct7 0x33 0x00 0 (op_op Op.Add) ∷ by_funct7 0x33 0x00 1 (op_op Op.Sll) ∷ by_funct7 0x33 0x00 2 (op_op Op.Slt) ∷
-    by_funct7 0x33 0x00 3 (op_op Op.Sltu) ∷ by_funct7 0x33 0x00 4 (op_op Op.Xor) ∷ by_funct7 0x33 0x00 5 (op_op Op.Srl) ∷
-    by_funct7 0x33 0x00 6 (op_op Op.Or) ∷ by_funct7 0x33 0x00 7 (op_op Op.And) ∷
-    by_funct7 0x33 0x20 0 (op_op Op.Sub) ∷ by_funct7 0x33 0x20 5 (op_op Op.Sra) ∷
-    by_funct7 0x33 0x01 0 (op_op Op.Mul) ∷ by_funct7 0x33 0x01 1 (op_op Op.Mulh) ∷ by_funct7 0x33 0x01 2 (op_op Op.Mulhsu) ∷
-    by_funct7 0x33 0x01 3 (op_op Op.Mulhu) ∷ by_funct7 0x33 0x01 4 (op_op Op.Div) ∷ by_funct7 0x33 0x01 5 (op_op Op.Divu) ∷
-    by_funct7 0x33 0x01 6 (op_op Op.Rem) ∷ by_funct7 0x33 0x01 7 (op_op Op.Remu) ∷
-    by_funct7 0x3B 0x00 0 (op_32 Op32.Addw) ∷ by_funct7 0x3B 0x00 1 (op_32 Op32.Sllw) ∷ by_funct7 0x3B 0x00 5 (op_32 Op32.Srlw) ∷
-    by_funct7 0x3B 0x20 0 (op_32 Op32.Subw) ∷ by_funct7 0x3B 0x20 5 (op_32 Op32.Sraw) ∷
-    by_funct7 0x3B 0x01 0 (op_32 Op32.Mulw) ∷ by_funct7 0x3B 0x01 4 (op_32 Op32.Divw) ∷ by_funct7 0x3B 0x01 5 (op_32 Op32.Divuw) ∷
-    by_funct7 0x3B 0x01 6 (op_32 Op32.Remw) ∷ by_funct7 0x3B 0x01 7 (op_32 Op32.Remuw) ∷
-    by_funct3 0x0F 0 (plain Instr.Fence) ∷ by_funct3 0x0F 1 (plain Instr.FenceI) ∷
-    by_funct5_no_rs2 0x2F 0x02 2 (lr 4) ∷ by_funct5_no_rs2 0x2F 0x02 3 (lr 8) ∷
-    by_funct5 0x2F 0x03 2 (sc 4) ∷ by_funct5 0x2F 0x03 3 (sc 8) ∷
-    by_funct5 0x2F 0x01 2 (amo Amo.Amoswap 4) ∷ by_funct5 0x2F 0x01 3 (amo Amo.Amoswap 8) ∷
-    by_funct5 0x2F 0x00 2 (amo Amo.Amoadd 4) ∷ by_funct5 0x2F 0x00 3 (amo Amo.Amoadd 8) ∷
-    by_funct5 0x2F 0x04 2 (amo Amo.Amoxor 4) ∷ by_funct5 0x2F 0x04 3 (amo Amo.Amoxor 8) ∷
-    by_funct5 0x2F 0x0C 2 (amo Amo.Amoand 4) ∷ by_funct5 0x2F 0x0C 3 (amo Amo.Amoand 8) ∷
-    by_funct5 0x2F 0x08 2 (amo Amo.Amoor 4) ∷ by_funct5 0x2F 0x08 3 (amo Amo.Amoor 8) ∷
-    by_funct5 0x2F 0x10 2 (amo Amo.Amomin 4) ∷ by_funct5 0x2F 0x10 3 (amo Amo.Amomin 8) ∷
-    by_funct5 0x2F 0x14 2 (amo Amo.Amomax 4) ∷ by_funct5 0x2F 0x14 3 (amo Amo.Amomax 8) ∷
-    by_funct5 0x2F 0x18 2 (amo Amo.Amominu 4) ∷ by_funct5 0x2F 0x18 3 (amo Amo.Amominu 8) ∷
-    by_funct5 0x2F 0x1C 2 (amo Amo.Amomaxu 4) ∷ by_funct5 0x2F 0x1C 3 (amo Amo.Amomaxu 8) ∷
+    by_opcode lui_opcode lui ∷ by_opcode auipc_opcode auipc ∷ by_opcode jal_opcode jal ∷ by_funct3 jalr_opcode 0 jalr ∷
+    by_funct3 branch_opcode 0 (branch Branch.Beq) ∷ by_funct3 branch_opcode 1 (branch Branch.Bne) ∷
+    by_funct3 branch_opcode 4 (branch Branch.Blt) ∷ by_funct3 branch_opcode 5 (branch Branch.Bge) ∷
+    by_funct3 branch_opcode 6 (branch Branch.Bltu) ∷ by_funct3 branch_opcode 7 (branch Branch.Bgeu) ∷
+    by_funct3 load_opcode 0 (load Load.Lb) ∷ by_funct3 load_opcode 1 (load Load.Lh) ∷ by_funct3 load_opcode 2 (load Load.Lw) ∷
+    by_funct3 load_opcode 3 (load Load.Ld) ∷ by_funct3 load_opcode 4 (load Load.Lbu) ∷ by_funct3 load_opcode 5 (load Load.Lhu) ∷
+    by_funct3 load_opcode 6 (load Load.Lwu) ∷
+    by_funct3 store_opcode 0 (store Store.Sb) ∷ by_funct3 store_opcode 1 (store Store.Sh) ∷ by_funct3 store_opcode 2 (store Store.Sw) ∷
+    by_funct3 store_opcode 3 (store Store.Sd) ∷
+    by_funct3 op_imm_opcode 0 (op_imm OpImm.Addi) ∷ by_funct3 op_imm_opcode 2 (op_imm OpImm.Slti) ∷ by_funct3 op_imm_opcode 3 (op_imm OpImm.Sltiu) ∷
+    by_funct3 op_imm_opcode 4 (op_imm OpImm.Xori) ∷ by_funct3 op_imm_opcode 6 (op_imm OpImm.Ori) ∷ by_funct3 op_imm_opcode 7 (op_imm OpImm.Andi) ∷
+    by_funct6 op_imm_opcode 0x00 1 (shift OpImm.Slli) ∷ by_funct6 op_imm_opcode 0x00 5 (shift OpImm.Srli) ∷
+    by_funct6 op_imm_opcode 0x10 5 (shift OpImm.Srai) ∷
+    by_funct3 op_imm_32_opcode 0 (op_imm_32 OpImm32.Addiw) ∷ by_funct7 op_imm_32_opcode 0x00 1 (shift_32 OpImm32.Slliw) ∷
+    by_funct7 op_imm_32_opcode 0x00 5 (shift_32 OpImm32.Srliw) ∷ by_funct7 op_imm_32_opcode 0x20 5 (shift_32 OpImm32.Sraiw) ∷
+    by_funct7 op_opcode 0x00 0 (op_op Op.Add) ∷ by_funct7 op_opcode 0x00 1 (op_op Op.Sll) ∷ by_funct7 op_opcode 0x00 2 (op_op Op.Slt) ∷
+    by_funct7 op_opcode 0x00 3 (op_op Op.Sltu) ∷ by_funct7 op_opcode 0x00 4 (op_op Op.Xor) ∷ by_funct7 op_opcode 0x00 5 (op_op Op.Srl) ∷
+    by_funct7 op_opcode 0x00 6 (op_op Op.Or) ∷ by_funct7 op_opcode 0x00 7 (op_op Op.And) ∷
+    by_funct7 op_opcode 0x20 0 (op_op Op.Sub) ∷ by_funct7 op_opcode 0x20 5 (op_op Op.Sra) ∷
+    by_funct7 op_opcode 0x01 0 (op_op Op.Mul) ∷ by_funct7 op_opcode 0x01 1 (op_op Op.Mulh) ∷ by_funct7 op_opcode 0x01 2 (op_op Op.Mulhsu) ∷
+    by_funct7 op_opcode 0x01 3 (op_op Op.Mulhu) ∷ by_funct7 op_opcode 0x01 4 (op_op Op.Div) ∷ by_funct7 op_opcode 0x01 5 (op_op Op.Divu) ∷
+    by_funct7 op_opcode 0x01 6 (op_op Op.Rem) ∷ by_funct7 op_opcode 0x01 7 (op_op Op.Remu) ∷
+    by_funct7 op_32_opcode 0x00 0 (op_32 Op32.Addw) ∷ by_funct7 op_32_opcode 0x00 1 (op_32 Op32.Sllw) ∷ by_funct7 op_32_opcode 0x00 5 (op_32 Op32.Srlw) ∷
+    by_funct7 op_32_opcode 0x20 0 (op_32 Op32.Subw) ∷ by_funct7 op_32_opcode 0x20 5 (op_32 Op32.Sraw) ∷
+    by_funct7 op_32_opcode 0x01 0 (op_32 Op32.Mulw) ∷ by_funct7 op_32_opcode 0x01 4 (op_32 Op32.Divw) ∷ by_funct7 op_32_opcode 0x01 5 (op_32 Op32.Divuw) ∷
+    by_funct7 op_32_opcode 0x01 6 (op_32 Op32.Remw) ∷ by_funct7 op_32_opcode 0x01 7 (op_32 Op32.Remuw) ∷
+    by_funct3 misc_mem_opcode 0 (plain Instr.Fence) ∷ by_funct3 misc_mem_opcode 1 (plain Instr.FenceI) ∷
+    by_funct5_no_rs2 amo_opcode 0x02 2 (lr 4) ∷ by_funct5_no_rs2 amo_opcode 0x02 3 (lr 8) ∷
+    by_funct5 amo_opcode 0x03 2 (sc 4) ∷ by_funct5 amo_opcode 0x03 3 (sc 8) ∷
+    by_funct5 amo_opcode 0x01 2 (amo Amo.Amoswap 4) ∷ by_funct5 amo_opcode 0x01 3 (amo Amo.Amoswap 8) ∷
+    by_funct5 amo_opcode 0x00 2 (amo Amo.Amoadd 4) ∷ by_funct5 amo_opcode 0x00 3 (amo Amo.Amoadd 8) ∷
+    by_funct5 amo_opcode 0x04 2 (amo Amo.Amoxor 4) ∷ by_funct5 amo_opcode 0x04 3 (amo Amo.Amoxor 8) ∷
+    by_funct5 amo_opcode 0x0C 2 (amo Amo.Amoand 4) ∷ by_funct5 amo_opcode 0x0C 3 (amo Amo.Amoand 8) ∷
+    by_funct5 amo_opcode 0x08 2 (amo Amo.Amoor 4) ∷ by_funct5 amo_opcode 0x08 3 (amo Amo.Amoor 8) ∷
+    by_funct5 amo_opcode 0x10 2 (amo Amo.Amomin 4) ∷ by_funct5 amo_opcode 0x10 3 (amo Amo.Amomin 8) ∷
+    by_funct5 amo_opcode 0x14 2 (amo Amo.Amomax 4) ∷ by_funct5 amo_opcode 0x14 3 (amo Amo.Amomax 8) ∷
+    by_funct5 amo_opcode 0x18 2 (amo Amo.Amominu 4) ∷ by_funct5 amo_opcode 0x18 3 (amo Amo.Amominu 8) ∷
+    by_funct5 amo_opcode 0x1C 2 (amo Amo.Amomaxu 4) ∷ by_funct5 amo_opcode 0x1C 3 (amo Amo.Amomaxu 8) ∷
     whole_word ecall_word (plain Instr.Ecall) ∷ whole_word ebreak_word (plain Instr.Ebreak) ∷
     whole_word sret_word (plain Instr.Sret) ∷ whole_word wfi_word (plain Instr.Wfi) ∷
-    by_funct7_no_rd 0x73 0x09 0 sfence ∷ by_funct7_no_rd 0x73 0x11 0 (hyper_store Hyper.HfenceVvma) ∷
-    by_funct7_no_rd 0x73 0x31 0 (hyper_store Hyper.HfenceGvma) ∷
-    by_funct3 0x73 1 (csr Csr.Csrrw) ∷ by_funct3 0x73 2 (csr Csr.Csrrs) ∷ by_funct3 0x73 3 (csr Csr.Csrrc) ∷
-    by_funct3 0x73 5 (csr Csr.Csrrwi) ∷ by_funct3 0x73 6 (csr Csr.Csrrsi) ∷ by_funct3 0x73 7 (csr Csr.Csrrci) ∷
-    by_funct7_rs2 0x73 0x30 0 4 (hyper_load Hyper.HlvB) ∷ by_funct7_rs2 0x73 0x30 1 4 (hyper_load Hyper.HlvBu) ∷
-    by_funct7_rs2 0x73 0x32 0 4 (hyper_load Hyper.HlvH) ∷ by_funct7_rs2 0x73 0x32 1 4 (hyper_load Hyper.HlvHu) ∷
-    by_funct7_rs2 0x73 0x32 3 4 (hyper_load Hyper.HlvxHu) ∷
-    by_funct7_rs2 0x73 0x34 0 4 (hyper_load Hyper.HlvW) ∷ by_funct7_rs2 0x73 0x34 1 4 (hyper_load Hyper.HlvWu) ∷
-    by_funct7_rs2 0x73 0x34 3 4 (hyper_load Hyper.HlvxWu) ∷ by_funct7_rs2 0x73 0x36 0 4 (hyper_load Hyper.HlvD) ∷
-    by_funct7_no_rd 0x73 0x31 4 (hyper_store Hyper.HsvB) ∷ by_funct7_no_rd 0x73 0x33 4 (hyper_store Hyper.HsvH) ∷
-    by_funct7_no_rd 0x73 0x35 4 (hyper_store Hyper.HsvW) ∷ by_funct7_no_rd 0x73 0x37 4 (hyper_store Hyper.HsvD) ∷ []
+    by_funct7_no_rd system_opcode 0x09 0 sfence ∷ by_funct7_no_rd system_opcode 0x11 0 (hyper_store Hyper.HfenceVvma) ∷
+    by_funct7_no_rd system_opcode 0x31 0 (hyper_store Hyper.HfenceGvma) ∷
+    by_funct3 system_opcode 1 (csr Csr.Csrrw) ∷ by_funct3 system_opcode 2 (csr Csr.Csrrs) ∷ by_funct3 system_opcode 3 (csr Csr.Csrrc) ∷
+    by_funct3 system_opcode 5 (csr Csr.Csrrwi) ∷ by_funct3 system_opcode 6 (csr Csr.Csrrsi) ∷ by_funct3 system_opcode 7 (csr Csr.Csrrci) ∷
+    by_funct7_rs2 system_opcode 0x30 0 4 (hyper_load Hyper.HlvB) ∷ by_funct7_rs2 system_opcode 0x30 1 4 (hyper_load Hyper.HlvBu) ∷
+    by_funct7_rs2 system_opcode 0x32 0 4 (hyper_load Hyper.HlvH) ∷ by_funct7_rs2 system_opcode 0x32 1 4 (hyper_load Hyper.HlvHu) ∷
+    by_funct7_rs2 system_opcode 0x32 3 4 (hyper_load Hyper.HlvxHu) ∷
+    by_funct7_rs2 system_opcode 0x34 0 4 (hyper_load Hyper.HlvW) ∷ by_funct7_rs2 system_opcode 0x34 1 4 (hyper_load Hyper.HlvWu) ∷
+    by_funct7_rs2 system_opcode 0x34 3 4 (hyper_load Hyper.HlvxWu) ∷ by_funct7_rs2 system_opcode 0x36 0 4 (hyper_load Hyper.HlvD) ∷
+    by_funct7_no_rd system_opcode 0x31 4 (hyper_store Hyper.HsvB) ∷ by_funct7_no_rd system_opcode 0x33 4 (hyper_store Hyper.HsvH) ∷
+    by_funct7_no_rd system_opcode 0x35 4 (hyper_store Hyper.HsvW) ∷ by_funct7_no_rd system_opcode 0x37 4 (hyper_store Hyper.HsvD) ∷ []
 
 -- the word is one of the row's
 abbrev pub has_row : ℕ → Row → Bool

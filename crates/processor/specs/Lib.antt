@@ -1,6 +1,7 @@
 pub mod Causes
 pub mod Bytes
 pub mod Regions
+pub mod Opcodes
 pub mod Instructions
 pub mod Effects
 pub mod Encoding

@@ -37,8 +37,8 @@ csr_number Csr.Sip = 0x144
 csr_number Csr.Satp = 0x180
 csr_number Csr.Time = 0xC01
 
-unfoldable pub csr_named : ℕ → Option Csr
-csr_named number =
+unfoldable pub csr_of_number : ℕ → Option Csr
+csr_of_number number =
     if number == csr_number Csr.Sstatus then Some Csr.Sstatus
     else if number == csr_number Csr.Sie then Some Csr.Sie
     else if number == csr_number Csr.Stvec then Some Csr.Stvec
@@ -122,7 +122,7 @@ legal_epc value = bit_and value (2 ^ 64 - 2 ^ 2)
 
 -- the modes are Bare and Sv39, there are no ASIDs, and any other mode leaves the register
 abbrev pub satp_bits : ℕ
-satp_bits = 15 * 2 ^ root_mode_place + (2 ^ root_page_bits - 1)
+satp_bits = (2 ^ (64 - root_mode_place) - 1) * 2 ^ root_mode_place + (2 ^ root_page_bits - 1)
 
 abbrev pub is_satp_mode : ℕ → Bool
 is_satp_mode mode = mode == bare_mode || mode == sv39_mode
@@ -145,7 +145,7 @@ allowed_csr mode scounteren writes None = None
 allowed_csr mode scounteren writes (Some csr) = if is_allowed mode scounteren writes csr then Some csr else None
 
 unfoldable pub guest_access : Mode → Supervisor → ℕ → Bool → Option Csr
-guest_access mode s number writes = allowed_csr mode s.scounteren writes (csr_named number)
+guest_access mode s number writes = allowed_csr mode s.scounteren writes (csr_of_number number)
 
 -- ---- values
 

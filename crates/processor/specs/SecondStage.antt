@@ -1,11 +1,11 @@
 -- The second stage of translation, and both stages together.
 -- RISC-V Privileged manual, H extension: "Two-Stage Address Translation", "Guest Physical Address Translation",
 -- "Hypervisor Guest Address Translation and Protection (hgatp) Register"; Sv39x4.
-use Rattle.std.specs.Prelude.{◌≡◌, ℕ, ◌+◌, ◌/◌, ◌^◌, ◌<◌, ◌≤◌, Bool, true, false, ◌&&◌, List, [], ◌∷◌, length, ◌==◌, if◌then◌else◌, nat_le, Option, Some, None, Result, Ok, Err}
+use Rattle.std.specs.Prelude.{◌≡◌, ℕ, ◌+◌, ◌-◌, ◌*◌, ◌/◌, ◌^◌, ◌<◌, ◌≤◌, Bool, true, false, ◌&&◌, List, [], ◌∷◌, length, ◌==◌, if◌then◌else◌, nat_le, Option, Some, None, Result, Ok, Err}
 use Rattle.processor.specs.Bytes.{word}
 use Rattle.processor.specs.Regions.{Region, host_word}
 use Rattle.processor.specs.Instructions.{bits}
-use Rattle.processor.specs.Translation.{Destination, At, PageFault, Unreadable, Settings, walk, root_of, first_stage, entry_user, entry_accessed, entry_dirty, entry_readable, entry_writable, entry_executable, entry_size}
+use Rattle.processor.specs.Translation.{Destination, At, PageFault, Unreadable, Settings, walk, root_of, first_stage, entry_user, entry_accessed, entry_dirty, entry_readable, entry_writable, entry_executable, entry_size, page_bits, index_bits, index_of}
 use Rattle.processor.specs.declared.access.Access.{Access}
 use Rattle.processor.specs.declared.access.Access.TheVariants.{Fetch, Load, Store}
 use Rattle.processor.specs.declared.mode.Mode.{Mode}
@@ -24,11 +24,11 @@ htval_unit = 4
 
 -- the pages that such an address can name
 abbrev pub guest_pages : ℕ
-guest_pages = 2 ^ 29
+guest_pages = 2 ^ (guest_address_bits - page_bits)
 
 -- the indices of a guest-physical address: the root has four tables in one
 abbrev pub sv39x4_indices : ℕ → List ℕ
-sv39x4_indices gpa = bits gpa 30 41 ∷ bits gpa 21 30 ∷ bits gpa 12 21 ∷ []
+sv39x4_indices gpa = bits gpa (page_bits + index_bits * 2) guest_address_bits ∷ index_of gpa 1 ∷ index_of gpa 0 ∷ []
 
 abbrev pub guest_right : Access → ℕ → Bool
 guest_right Fetch e = entry_executable e

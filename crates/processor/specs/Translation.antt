@@ -131,13 +131,31 @@ walk read grants [] table address = PageFault
 walk read grants (index ∷ indices) table address =
     at_entry grants (length indices) (table + entry_size * index) (λ next. walk read grants indices next address) address (read (table + entry_size * index))
 
+-- the bits of a place in a page, and of an index
+abbrev pub page_bits : ℕ
+page_bits = 12
+
+abbrev pub index_bits : ℕ
+index_bits = 9
+
+-- the pages that an address of 64 bits can name
+abbrev pub address_pages : ℕ
+address_pages = 2 ^ (64 - page_bits)
+
+-- the index of an address into the table with so many levels below it
+abbrev pub index_of : (address below : ℕ) → ℕ
+index_of address below = bits address (page_bits + index_bits * below) (page_bits + index_bits + index_bits * below)
+
 -- the indices of a virtual address, of the root first
 abbrev pub sv39_indices : ℕ → List ℕ
-sv39_indices va = bits va 30 39 ∷ bits va 21 30 ∷ bits va 12 21 ∷ []
+sv39_indices va = index_of va 2 ∷ index_of va 1 ∷ index_of va 0 ∷ []
 
--- bits 63 to 39 are as bit 38
+-- the bits above this one are as it is
+abbrev pub sign_place : ℕ
+sign_place = 38
+
 abbrev pub is_canonical : ℕ → Bool
-is_canonical va = va / 2 ^ 38 == 0 || va / 2 ^ 38 == 2 ^ 26 - 1
+is_canonical va = va / 2 ^ sign_place == 0 || va / 2 ^ sign_place == 2 ^ (64 - sign_place) - 1
 
 -- user mode needs U; kernel mode never fetches from U pages, and reads and writes them only with SUM
 abbrev pub mode_may : Settings → Mode → Access → ℕ → Bool

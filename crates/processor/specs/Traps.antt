@@ -4,6 +4,7 @@
 -- Instructions".
 use Rattle.std.specs.Prelude.{ℕ, ◌+◌, ◌*◌, ◌%◌, ◌^◌, Bool, true, false, ◌&&◌, if◌then◌else◌, bit_or, Option, Some, None}
 use Rattle.processor.specs.Bits.{bit, with_bits}
+use Rattle.processor.specs.Bytes.{instruction_size}
 use Rattle.processor.specs.Causes.{cause_number}
 use Rattle.processor.specs.Registers.{Supervisor, sie_place, spie_place, spp_place, software_place, timer_place, external_place, legal_epc, sip_value}
 use Rattle.processor.specs.declared.exit.ExitCause.{ExitCause}
@@ -35,10 +36,10 @@ guest_number (ExitCause.Interrupt interrupt) = interrupt_number interrupt
 
 -- ---- a trap
 
--- stvec's base, or a place behind it for an interrupt where bit 0 is set
+-- stvec's base, or an interrupt's own instruction behind it where bit 0 is set
 unfoldable pub trap_target : ℕ → Bool → ℕ → ℕ
 trap_target stvec interrupt cause =
-    if interrupt && bit stvec 0 then (legal_epc stvec + 4 * cause) % 2 ^ 64 else legal_epc stvec
+    if interrupt && bit stvec 0 then (legal_epc stvec + instruction_size * cause) % 2 ^ 64 else legal_epc stvec
 
 -- bit 63 is set for an interrupt
 unfoldable pub trap_cause : Bool → ℕ → ℕ

@@ -1,7 +1,7 @@
 // The supervisor registers that a guest can name.
 
 ghost use Rattle.std.specs.Prelude.{◌≡◌};
-ghost use Rattle.processor.specs.Registers.{csr_named, csr_number};
+ghost use Rattle.processor.specs.Registers.{csr_of_number, csr_number};
 
 // The numbers of the registers. Privileged manual, "CSR Listing".
 const SSTATUS: u16 = 0x100;
@@ -64,9 +64,9 @@ impl Csr {
 
     /// The register of a number of 12 bits, by the Privileged manual's listing. None where no supervisor register of
     /// the table has that number.
-    #[tactic(auto, unfolding(crate::specs::Registers::csr_named))]
-    pub fn named(number: u16) -> Option<Csr>
-        ensures { result ≡ csr_named number }
+    #[tactic(auto, unfolding(crate::specs::Registers::csr_of_number))]
+    pub fn from_number(number: u16) -> Option<Csr>
+        ensures { result ≡ csr_of_number number }
     {
         match number {
             SSTATUS => Some(Csr::Sstatus),

@@ -15,6 +15,7 @@ mod interrupt;
 mod lines;
 mod memory;
 mod mode;
+mod opcode;
 mod outcome;
 mod pte_bits;
 mod registers;
@@ -39,10 +40,15 @@ pub use memory::{
     TABLE_LEVELS, is_in_ram, page_of, ram_place,
 };
 pub use mode::Mode;
+pub use opcode::{
+    AMO_OPCODE, AUIPC_OPCODE, BRANCH_OPCODE, JAL_OPCODE, JALR_OPCODE, LOAD_OPCODE, LUI_OPCODE,
+    MISC_MEM_OPCODE, OP_32_OPCODE, OP_IMM_32_OPCODE, OP_IMM_OPCODE, OP_OPCODE, STORE_OPCODE,
+    SYSTEM_OPCODE,
+};
 pub use outcome::{Exception, Outcome, Wrote};
 pub use pte_bits::PteBits;
 pub use registers::{A0, A1, A2, A3, A6, A7, REGISTERS, S0, S1, T0, T1, T2, T3, T4, X0};
 pub use translation::{
-    BARE, Fault, GUEST_ADDRESS_BITS, GuestFault, HTVAL_UNIT, PAGE_NUMBER_PLACE, Place,
-    ROOT_MODE_PLACE, ROOT_PAGE_BITS, SV39, SV39X4,
+    BARE, Fault, GUEST_ADDRESS_BITS, GuestFault, HTVAL_UNIT, INDEX_BITS, PAGE_BITS,
+    PAGE_NUMBER_PLACE, Place, ROOT_MODE_PLACE, ROOT_PAGE_BITS, SIGN_PLACE, SV39, SV39X4,
 };

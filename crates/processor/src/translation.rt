@@ -9,6 +9,14 @@ pub const ROOT_PAGE_BITS: u32 = 44;
 /// The place of the number of a page in an entry of a table. Privileged manual, "Sv39".
 pub const PAGE_NUMBER_PLACE: u32 = 10;
 
+/// The bits of an address that are a place in a page, and those that are an index into a table.
+pub const PAGE_BITS: u32 = 12;
+
+pub const INDEX_BITS: u32 = 9;
+
+/// The bits of a virtual address above this one are as it is.
+pub const SIGN_PLACE: u32 = 38;
+
 /// The mode of `satp` and `vsatp` in which an address is left as it is.
 pub const BARE: u64 = 0;
 

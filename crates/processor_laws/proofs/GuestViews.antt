@@ -8,7 +8,7 @@ use Rattle.std.proofs.lemmas.Nat.{and_assoc, and_block}
 use Rattle.std.proofs.lemmas.Nat.Bits.{and_pow, bit_at-lt}
 use Rattle.processor_laws.proofs.RegisterBits.{and_twice, boot_is_legal, write_is_legal, trap_is_legal, return_is_legal}
 use Rattle.processor.specs.Bits.{bit, flag, without}
-use Rattle.processor.specs.Registers.{Supervisor, IsLegalSupervisor, legal_interrupts, interrupt_bits, csr_named, guest_access, allowed_csr, sip_value, read_csr, write_csr}
+use Rattle.processor.specs.Registers.{Supervisor, IsLegalSupervisor, legal_interrupts, interrupt_bits, csr_of_number, guest_access, allowed_csr, sip_value, read_csr, write_csr}
 use Rattle.processor.specs.Traps.{supervisor_at_trap, supervisor_at_return, deliverable, is_pending, takes_interrupts, first_interrupt, interrupt_number}
 use Rattle.processor.specs.HypervisorRegisters.{HypervisorRegisters, IsLegal, registers_at_boot, csr_access, reached_csr, unless_refused, read_virtual, write_virtual, hip_value, guest_alias, with_alias, registers_at_trap, registers_at_return, is_taken, pending, virtual_interrupt_bits, virtual_software_bit, virtual_number}
 use Rattle.processor.specs.GuestView.{with_guest, hideleg_in}
@@ -198,7 +198,7 @@ allowed_agrees User scounteren false number (Some Csr.Time) = time_agrees (bit s
 pub guest_accesses : (mode : Mode) (c : HypervisorRegisters) (s : Supervisor) (number : ℕ) (writes : Bool)
     → guest_access mode s number writes ≡ result_ok (csr_access mode (with_guest c s) number writes)
 unfolding guest_access csr_access
-guest_accesses mode c s number writes = allowed_agrees mode s.scounteren writes number (csr_named number)
+guest_accesses mode c s number writes = allowed_agrees mode s.scounteren writes number (csr_of_number number)
 
 -- ---- by mode
 
@@ -245,7 +245,7 @@ pub reached_reads : (mode : Mode) (c : HypervisorRegisters) (s : Supervisor) (li
 unfolding guest_access
 reached_reads Kernel c s lines number writes csr legal e = guest_reads c s lines csr legal
 reached_reads User c s lines number writes csr legal e =
-    let only = user_reaches s.scounteren writes (csr_named number) csr e in
+    let only = user_reaches s.scounteren writes (csr_of_number number) csr e in
     subst (λ (k : Csr). read_virtual (hideleg_in User) (with_guest c s) lines k ≡ read_csr s lines k) only.0 (time_read c s lines)
 
 no_write : (P : Type 0) → true ≡ false → P
@@ -257,7 +257,7 @@ pub reached_writes : (mode : Mode) (c : HypervisorRegisters) (s : Supervisor) (n
 unfolding guest_access
 reached_writes Kernel c s number csr value legal e = guest_writes c s csr value legal
 reached_writes User c s number csr value legal e =
-    let only = user_reaches s.scounteren true (csr_named number) csr e in
+    let only = user_reaches s.scounteren true (csr_of_number number) csr e in
     no_write (write_virtual (hideleg_in User) (with_guest c s) csr value ≡ with_guest c (write_csr s csr value)) only.1
 
 -- ---- traps

@@ -1,5 +1,6 @@
 -- Walks that read the same entries lead to the same place, and a walk keeps an address's place in its page.
 use Rattle.std.proofs.Common.{◌≡◌, ℕ, zero, suc, ◌+◌, ◌*◌, ◌/◌, ◌%◌, ◌^◌, ◌<◌, ◌≤◌, List, [], ◌∷◌, length, refl, ap, arith, Bool, true, false, lit<, lit≤, ◌&&◌}
+use Rattle.processor.specs.Bytes.{page_size}
 use Rattle.std.specs.Prelude.{Option, Some, None, if◌then◌else◌, ◌==◌}
 use Rattle.std.proofs.Math.Nat.{mod-lt}
 use Rattle.std.specs.List.{AllByRecursion}
@@ -8,7 +9,7 @@ use Rattle.processor.specs.declared.mode.Mode.{Mode}
 use Rattle.processor.specs.Instructions.{bits}
 use Rattle.processor.specs.Regions.{Region}
 use Rattle.processor.specs.Translation.{walk, is_pointer, is_leaf, entry_page, leaf_address, at_leaf, at_entry, Destination, At, PageFault, Unreadable, Settings, first_stage, permits_access, sv39_indices, is_canonical, root_of}
-use Rattle.processor.specs.SecondStage.{walk_guest, address_at, entry_in_region, permits_guest, sv39x4_indices, WalksInside, WalksApart}
+use Rattle.processor.specs.SecondStage.{walk_guest, address_at, entry_in_region, permits_guest, sv39x4_indices, WalksInside, WalksApart, guest_address_bits}
 
 -- ---- two readers
 
@@ -23,8 +24,8 @@ IsPage table = (table % 8 ≡ 0) × (table < 2 ^ 56)
 aligned_entry : (table index : ℕ) → table % 8 ≡ 0 → (table + 8 * index) % 8 ≡ 0
 aligned_entry table index h = grind arith
 
-number_is_page : (n : ℕ) → n < 2 ^ 44 → IsPage (4096 * n)
-number_is_page n h = let m : 4096 * n ≡ 8 * (512 * n) = omega arith in (grind arith, omega arith)
+number_is_page : (n : ℕ) → n < 2 ^ 44 → IsPage (page_size * n)
+number_is_page n h = let m : page_size * n ≡ 8 * (512 * n) = omega arith in (grind arith, omega arith)
 
 is_page : (e : ℕ) → IsPage (entry_page e)
 is_page e = number_is_page (bits e 10 54) (mod-lt (e / 2 ^ 10) (lit< tt))
@@ -69,7 +70,7 @@ first_stage_agrees read other s mode va access same =
 
 -- the place in the page is kept, and the address is of 64 bits
 abbrev pub Fits : ℕ → Destination → Type 0
-Fits a (At found) = (found % 4096 ≡ a % 4096) × (found < 2 ^ 64)
+Fits a (At found) = (found % page_size ≡ a % page_size) × (found < 2 ^ 64)
 Fits a PageFault = Unit {0}
 Fits a (Unreadable entry) = Unit {0}
 
@@ -104,21 +105,21 @@ first_stage_fits read s mode va access h =
     (choose_fits va (is_canonical va) (walk read (permits_access s mode access) (sv39_indices va) (root_of s.satp) va) PageFault
     (walk_fits read (permits_access s mode access) (sv39_indices va) (root_of s.satp) va (lit≤ tt)) tt)
 
-found_fits : (a x : ℕ) (d : Destination) → Fits a d → address_at d ≡ Some x → (x % 4096 ≡ a % 4096) × (x < 2 ^ 64)
+found_fits : (a x : ℕ) (d : Destination) → Fits a d → address_at d ≡ Some x → (x % page_size ≡ a % page_size) × (x < 2 ^ 64)
 found_fits a x (At found) h e = let same : found ≡ x = cc in rw (← same) h
 found_fits a x PageFault h e = absurd (cc)
 found_fits a x (Unreadable entry) h e = absurd (cc)
 
-guest_fits_by : (b : Bool) (a x : ℕ) (d : Destination) → Fits a d → (if b then address_at d else None) ≡ Some x → (x % 4096 ≡ a % 4096) × (x < 2 ^ 64)
+guest_fits_by : (b : Bool) (a x : ℕ) (d : Destination) → Fits a d → (if b then address_at d else None) ≡ Some x → (x % page_size ≡ a % page_size) × (x < 2 ^ 64)
 guest_fits_by true a x d h e = found_fits a x d h e
 guest_fits_by false a x d h e = absurd (cc)
 
 -- a second-stage walk too
 pub walk_guest_fits : (r : Region) (hgatp gpa at : ℕ) (access : Access) → walk_guest r hgatp gpa access ≡ Some at
-    → (at % 4096 ≡ gpa % 4096) × (at < 2 ^ 64)
+    → (at % page_size ≡ gpa % page_size) × (at < 2 ^ 64)
 unfolding walk_guest
 walk_guest_fits r hgatp gpa at access e =
-    guest_fits_by (gpa / 2 ^ 41 == 0) gpa at (walk (entry_in_region r) (permits_guest access) (sv39x4_indices gpa) (root_of hgatp) gpa)
+    guest_fits_by (gpa / 2 ^ guest_address_bits == 0) gpa at (walk (entry_in_region r) (permits_guest access) (sv39x4_indices gpa) (root_of hgatp) gpa)
     (walk_fits (entry_in_region r) (permits_guest access) (sv39x4_indices gpa) (root_of hgatp) gpa (lit≤ tt)) e
 
 -- ---- an address, or none

@@ -1,5 +1,6 @@
 -- One turn, and a row of turns with one more.
 use Rattle.std.proofs.Common.{◌≡◌, ℕ, zero, ◌+◌, ◌/◌, ◌%◌, ◌^◌, ◌<◌, ◌≤◌, List, length, refl, sym, ◌∙◌, ap, subst, add-one, arith, inl, inr, true, false}
+use Rattle.processor.specs.Bytes.{page_size}
 use Rattle.std.specs.Prelude.{Option, None}
 use Rattle.std.proofs.lemmas.Bool.Decides.{eqb_tells}
 use Rattle.processor.specs.SecondStage.{WalksApart}
@@ -28,8 +29,8 @@ use Rattle.quick_turns.specs.declared.window.Window.{Window}
 use Rattle.quick_turns.specs.Rows.{Carries, RetiresThrough}
 
 -- where no interrupt is taken, and the pc lies in a window's page
-pub attempt_at : (r : Region) (core : Core) (lines : Lines) (page host : ℕ) → pending core.hregs core.csrs lines ≡ None → core.pc < 2 ^ 64 → core.pc / 4096 ≡ page
-    → Leads r core page host → attempt r core lines ≡ after_word r core lines (host_word r (host + core.pc % 4096) 4)
+pub attempt_at : (r : Region) (core : Core) (lines : Lines) (page host : ℕ) → pending core.hregs core.csrs lines ≡ None → core.pc < 2 ^ 64 → core.pc / page_size ≡ page
+    → Leads r core page host → attempt r core lines ≡ after_word r core lines (host_word r (host + core.pc % page_size) 4)
 unfolding attempt after_pending after_fetch
 attempt_at r core lines page host none small at leads = rw (none, leads.fetches core.pc small at) refl
 

@@ -4,17 +4,17 @@ use Rattle.std.specs.Prelude.{Option, None, if◌then◌else◌, ◌==◌, nat_l
 use Rattle.std.proofs.lemmas.Bool.Decides.{nat_tests}
 use Rattle.processor.specs.Regions.{Region, write_host, IsHostPlace}
 use Rattle.processor.specs.Translation.{Destination}
-use Rattle.processor.specs.SecondStage.{walk_guest, address_at, entry_in_region, entry_in_tables, guest_destination, ReadsTablesAlone, WalksApart}
+use Rattle.processor.specs.SecondStage.{walk_guest, address_at, entry_in_region, entry_in_tables, guest_destination, ReadsTablesAlone, WalksApart, guest_address_bits}
 use Rattle.processor.specs.declared.access.Access.{Access}
 use Rattle.processor_laws.proofs.ByteLemmas.{length_write_word}
 use Rattle.gstage_cache.proofs.Walks.{IsReadable, leads_in_region, region_readable}
 
-tables_lead : (r after : Region) (hgatp gpa : ℕ) (access : Access) → after.tables ≡ r.tables → WalksApart r hgatp → gpa < 2 ^ 41
+tables_lead : (r after : Region) (hgatp gpa : ℕ) (access : Access) → after.tables ≡ r.tables → WalksApart r hgatp → gpa < 2 ^ guest_address_bits
     → guest_destination (entry_in_tables after.tables) hgatp gpa access ≡ guest_destination (entry_in_region r) hgatp gpa access
 tables_lead r after hgatp gpa access same apart near =
     ap (λ (t : List ℕ). guest_destination (entry_in_tables t) hgatp gpa access) same ∙ apart.reads gpa access near
 
-reads_kept : (r after : Region) (hgatp gpa : ℕ) (access : Access) → after.tables ≡ r.tables → WalksApart r hgatp → gpa < 2 ^ 41
+reads_kept : (r after : Region) (hgatp gpa : ℕ) (access : Access) → after.tables ≡ r.tables → WalksApart r hgatp → gpa < 2 ^ guest_address_bits
     → ReadsTablesAlone after hgatp gpa access
 reads_kept r after hgatp gpa access same apart near =
     let readable : IsReadable (guest_destination (entry_in_tables after.tables) hgatp gpa access) =
@@ -25,7 +25,7 @@ choose_same : (b : Bool) (x y : Option ℕ) → (b ≡ true → x ≡ y) → (if
 choose_same true x y same = same refl
 choose_same false x y same = refl
 
-near_by : (gpa : ℕ) → (gpa / 2 ^ 41 == 0) ≡ true → gpa < 2 ^ 41
+near_by : (gpa : ℕ) → (gpa / 2 ^ guest_address_bits == 0) ≡ true → gpa < 2 ^ guest_address_bits
 near_by gpa test = grind (arith, nat_tests)
 
 -- where the tables stay, every walk leads where it led
@@ -33,7 +33,7 @@ pub walks_kept : (r after : Region) (hgatp gpa : ℕ) (access : Access) → afte
     → walk_guest after hgatp gpa access ≡ walk_guest r hgatp gpa access
 unfolding walk_guest
 walks_kept r after hgatp gpa access same apart =
-    choose_same (gpa / 2 ^ 41 == 0) (address_at (guest_destination (entry_in_region after) hgatp gpa access)) (address_at (guest_destination (entry_in_region r) hgatp gpa access))
+    choose_same (gpa / 2 ^ guest_address_bits == 0) (address_at (guest_destination (entry_in_region after) hgatp gpa access)) (address_at (guest_destination (entry_in_region r) hgatp gpa access))
     (λ test. ap address_at (sym (reads_kept r after hgatp gpa access same apart (near_by gpa test)) ∙ tables_lead r after hgatp gpa access same apart (near_by gpa test)))
 
 pub apart_kept : (r after : Region) (hgatp : ℕ) → after.tables ≡ r.tables → length after.ram ≡ length r.ram → WalksApart r hgatp → WalksApart after hgatp

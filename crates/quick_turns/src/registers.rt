@@ -141,7 +141,7 @@ pub(crate) fn csr(core: &mut Core, regs: &HRegs, access: CsrAccess) -> Tried
     if regs.mode != Mode::Kernel {
         return Tried::Stopped;
     }
-    match Csr::named(access.number) {
+    match Csr::from_number(access.number) {
         Some(Csr::Sstatus) => access_to(core, regs, access, Csr::Sstatus),
         Some(Csr::Sie) => access_to(core, regs, access, Csr::Sie),
         Some(Csr::Stvec) => access_to(core, regs, access, Csr::Stvec),

@@ -1,5 +1,6 @@
 -- Lines that are held, and one more.
 use Rattle.std.proofs.Common.{◌≡◌, ℕ, zero, suc, ◌+◌, ◌*◌, ◌/◌, ◌%◌, ◌<◌, inl, inr, List, length, get_or, set, replicate, refl, sym, ◌∙◌, ap, subst, arith}
+use Rattle.processor.specs.Bytes.{page_size}
 use Rattle.std.specs.Prelude.{Option, Some, None}
 use Rattle.std.proofs.lemmas.Option.{same_Some}
 use Rattle.processor.specs.Regions.{Region}
@@ -11,12 +12,12 @@ use Rattle.gstage_cache.proofs.Lines.{set_at}
 
 -- ---- what a line answers
 
-pub line_leads : (r : Region) (line : Line) (va : ℕ) → LineAgrees r.tables line → AreThere r line.entries → line.page ≡ va / 4096
-    → leads_under r line.regime line.access va ≡ Some (line.host + va % 4096)
+pub line_leads : (r : Region) (line : Line) (va : ℕ) → LineAgrees r.tables line → AreThere r line.entries → line.page ≡ va / page_size
+    → leads_under r line.regime line.access va ≡ Some (line.host + va % page_size)
 line_leads r line va agrees there same =
-    let place : 4096 * line.page + va % 4096 ≡ va = omega arith in
-    let small : va % 4096 < 4096 = omega arith in
-    ap (λ (a : ℕ). leads_under r line.regime line.access a) (sym place) ∙ agrees.leads r refl there (va % 4096) small
+    let place : page_size * line.page + va % page_size ≡ va = omega arith in
+    let small : va % page_size < page_size = omega arith in
+    ap (λ (a : ℕ). leads_under r line.regime line.access a) (sym place) ∙ agrees.leads r refl there (va % page_size) small
 
 -- ---- one line more
 

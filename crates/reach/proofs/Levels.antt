@@ -1,5 +1,6 @@
 -- The levels of a walk whose entries are kept.
 use Rattle.std.proofs.Common.{◌≡◌, ℕ, zero, suc, ◌+◌, ◌*◌, ◌/◌, ◌<◌, refl, ◌∙◌, sym, ap, subst, arith, Bool, true, false, List}
+use Rattle.processor.specs.Bytes.{page_size}
 use Rattle.std.specs.Prelude.{Some}
 use Rattle.processor.specs.Instructions.{bits}
 use Rattle.processor.specs.Regions.{Region, IsRegion, IsHostPlace}
@@ -52,7 +53,7 @@ with_few holds (suc (suc (suc n))) entries seen few all = absurd (omega arith)
 
 -- ---- one level
 
-same_index : (a b below : ℕ) → below < 3 → a / 4096 ≡ b / 4096 → bits a (12 + 9 * below) (21 + 9 * below) ≡ bits b (12 + 9 * below) (21 + 9 * below)
+same_index : (a b below : ℕ) → below < 3 → a / page_size ≡ b / page_size → bits a (12 + 9 * below) (21 + 9 * below) ≡ bits b (12 + 9 * below) (21 + 9 * below)
 same_index a b zero few same = omega arith
 same_index a b (suc zero) few same = omega arith
 same_index a b (suc (suc zero)) few same = omega arith
@@ -64,7 +65,7 @@ LeadsTo tables hgatp gpa seen = (r : Region) → r.tables ≡ tables → walk_gu
 
 -- with so many levels left, the walks of a page's addresses go on from one table, where the words that were read stand
 abbrev pub GoOn : List ℕ → (hgatp root va left table : ℕ) → Entries → Type 0
-GoOn tables hgatp root va left table entries = (r : Region) → r.tables ≡ tables → Above left (IsThere r) entries → (grants : ℕ → Bool) (other : ℕ) → other / 4096 ≡ va / 4096
+GoOn tables hgatp root va left table entries = (r : Region) → r.tables ≡ tables → Above left (IsThere r) entries → (grants : ℕ → Bool) (other : ℕ) → other / page_size ≡ va / page_size
     → walk (entry_through r hgatp) grants (indices_of 3 other) root other ≡ walk (entry_through r hgatp) grants (indices_of left other) table other
 
 reads : (r : Region) (hgatp gpa : ℕ) (seen : Entry) → walk_guest r hgatp gpa Load ≡ Some seen.at → IsThere r seen → entry_through r hgatp gpa ≡ Some seen.word

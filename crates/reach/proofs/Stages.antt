@@ -1,9 +1,10 @@
 -- Both stages of the addresses of a page.
 use Rattle.std.proofs.Common.{◌≡◌, ℕ, zero, suc, ◌+◌, ◌-◌, ◌*◌, ◌/◌, ◌%◌, ◌^◌, ◌<◌, List, refl, ◌∙◌, sym, ap, subst, arith, Bool, true, false, ◌&&◌, ◌||◌}
+use Rattle.processor.specs.Bytes.{page_size}
 use Rattle.std.specs.Prelude.{Option, Some, None, ◌==◌, if◌then◌else◌}
 use Rattle.processor.specs.Regions.{Region}
 use Rattle.processor.specs.Translation.{Destination, At, PageFault, Unreadable, Settings, walk, at_leaf, is_leaf, leaf_address, first_stage, permits_access, is_canonical, root_of}
-use Rattle.processor.specs.SecondStage.{walk_guest, address_at, entry_in_region, entry_in_tables, entry_through, guest_destination, after_first_stage, place_through, two_stages, WalksApart}
+use Rattle.processor.specs.SecondStage.{walk_guest, address_at, entry_in_region, entry_in_tables, entry_through, guest_destination, after_first_stage, place_through, two_stages, WalksApart, guest_address_bits}
 use Rattle.processor.specs.Roots.{IsBare}
 use Rattle.processor.specs.declared.access.Access.{Access}
 use Rattle.processor.specs.declared.mode.Mode.{Mode}
@@ -19,27 +20,27 @@ use Rattle.sv39_walk.proofs.Steps.{mapped_test}
 
 -- ---- the second stage
 
-pub moved_address : (place x : ℕ) (d : Destination) → address_at d ≡ Some x → address_at (destination_at place d) ≡ Some (x - x % 4096 + place)
+pub moved_address : (place x : ℕ) (d : Destination) → address_at d ≡ Some x → address_at (destination_at place d) ≡ Some (x - x % page_size + place)
 moved_address place x (At found) e = let same : found ≡ x = cc in rw same refl
 moved_address place x PageFault e = absurd (cc)
 moved_address place x (Unreadable entry) e = absurd (cc)
 
 -- regions of the same tables lead the addresses of a page to one host page
 pub second_moves : (r other : Region) (hgatp gpa b x : ℕ) (access : Access) → other.tables ≡ r.tables → WalksApart r hgatp → walk_guest r hgatp gpa access ≡ Some x
-    → b / 4096 ≡ gpa / 4096 → walk_guest other hgatp b access ≡ Some (x - x % 4096 + b % 4096)
+    → b / page_size ≡ gpa / page_size → walk_guest other hgatp b access ≡ Some (x - x % page_size + b % page_size)
 second_moves r other hgatp gpa b x access tables apart walked same =
-    let near : gpa < 2 ^ 41 = answer_near r hgatp gpa x access walked in
-    let near_too : b < 2 ^ 41 = omega arith in
+    let near : gpa < 2 ^ guest_address_bits = answer_near r hgatp gpa x access walked in
+    let near_too : b < 2 ^ guest_address_bits = omega arith in
     let answer : address_at (guest_destination (entry_in_region r) hgatp gpa access) ≡ Some x = sym (answer_is r hgatp gpa access near) ∙ walked in
     let leads : guest_destination (entry_in_tables other.tables) hgatp gpa access ≡ guest_destination (entry_in_region r) hgatp gpa access =
     ap (λ (t : List ℕ). guest_destination (entry_in_tables t) hgatp gpa access) tables ∙ apart.reads gpa access near in
     let readable : IsReadable (guest_destination (entry_in_tables other.tables) hgatp gpa access) =
     subst (λ (d : Destination). IsReadable d) (sym leads) (region_readable r hgatp gpa access) in
     answer_is other hgatp b access near_too
-    ∙ ap address_at (page_moves (entry_in_region other) hgatp gpa b access (sym same) ∙ ap (destination_at (b % 4096)) (leads_in_region other hgatp gpa access readable ∙ leads))
-    ∙ moved_address (b % 4096) x (guest_destination (entry_in_region r) hgatp gpa access) answer
+    ∙ ap address_at (page_moves (entry_in_region other) hgatp gpa b access (sym same) ∙ ap (destination_at (b % page_size)) (leads_in_region other hgatp gpa access readable ∙ leads))
+    ∙ moved_address (b % page_size) x (guest_destination (entry_in_region r) hgatp gpa access) answer
 
-back_together : (x gpa : ℕ) → x % 4096 ≡ gpa % 4096 → x - x % 4096 + gpa % 4096 ≡ x
+back_together : (x gpa : ℕ) → x % page_size ≡ gpa % page_size → x - x % page_size + gpa % page_size ≡ x
 back_together x gpa same = omega arith
 
 pub second_same : (r other : Region) (hgatp gpa x : ℕ) (access : Access) → other.tables ≡ r.tables → WalksApart r hgatp → walk_guest r hgatp gpa access ≡ Some x
@@ -58,18 +59,18 @@ first_ends : (read : ℕ → Option ℕ) (s : Settings) (mode : Mode) (va below 
 unfolding first_stage
 first_ends read s mode va below entry access paged ends = rw (mapped_test (s.satp / 2 ^ 60) paged, ends) refl
 
-pub same_canonical : (a b : ℕ) → a / 4096 ≡ b / 4096 → is_canonical a ≡ is_canonical b
+pub same_canonical : (a b : ℕ) → a / page_size ≡ b / page_size → is_canonical a ≡ is_canonical b
 same_canonical a b same =
     let high : a / 2 ^ 38 ≡ b / 2 ^ 38 = omega arith in
     ap (λ (n : ℕ). n == 0 || n == 2 ^ 26 - 1) high
 
-leaf_page : (below e a b : ℕ) → below < 3 → a / 4096 ≡ b / 4096 → leaf_address below e a / 4096 ≡ leaf_address below e b / 4096
+leaf_page : (below e a b : ℕ) → below < 3 → a / page_size ≡ b / page_size → leaf_address below e a / page_size ≡ leaf_address below e b / page_size
 leaf_page zero e a b few same = omega arith
 leaf_page (suc zero) e a b few same = omega arith
 leaf_page (suc (suc zero)) e a b few same = omega arith
 leaf_page (suc (suc (suc n))) e a b few same = absurd (omega arith)
 
-leaf_place : (below e a : ℕ) → below < 3 → leaf_address below e a % 4096 ≡ a % 4096
+leaf_place : (below e a : ℕ) → below < 3 → leaf_address below e a % page_size ≡ a % page_size
 leaf_place zero e a few = omega arith
 leaf_place (suc zero) e a few = omega arith
 leaf_place (suc (suc zero)) e a few = omega arith
@@ -103,7 +104,7 @@ two_of r hgatp s mode va access d e = ap (λ (x : Destination). host_of (after_f
 -- another address of the page, in another region of the same tables
 pub page_led : (r other : Region) (regime : Regime) (access : Access) (va b hpa : ℕ) (entries : Entries) → WalksApart r regime.hgatp → (IsBare regime.vsatp → ⊥)
     → leads_under r regime access va ≡ Some hpa → EndsAt r.tables regime.hgatp (root_of regime.vsatp) va entries → AreThere r entries → other.tables ≡ r.tables
-    → AreThere other entries → b / 4096 ≡ va / 4096 → leads_under other regime access b ≡ Some (hpa - hpa % 4096 + b % 4096)
+    → AreThere other entries → b / page_size ≡ va / page_size → leads_under other regime access b ≡ Some (hpa - hpa % page_size + b % page_size)
 page_led r other regime access va b hpa entries apart paged leads ends there tables there_too page =
     let s : Settings = settings_of regime in
     let grants : ℕ → Bool = permits_access s regime.mode access in
@@ -113,22 +114,22 @@ page_led r other regime access va b hpa entries apart paged leads ends there tab
     (sym (two_of r regime.hgatp s regime.mode va access _ first) ∙ leads) in
     let canonical : is_canonical b ≡ true = same_canonical b va page ∙ was.0 in
     two_of other regime.hgatp s regime.mode b access _ second
-    ∙ leads_there other regime.hgatp (leaf_address ends.below ends.entry b) (hpa - hpa % 4096 + b % 4096) access _ (rw (canonical, was.1.0) refl)
+    ∙ leads_there other regime.hgatp (leaf_address ends.below ends.entry b) (hpa - hpa % page_size + b % page_size) access _ (rw (canonical, was.1.0) refl)
     (second_moves r other regime.hgatp (leaf_address ends.below ends.entry va) (leaf_address ends.below ends.entry b) hpa access tables apart was.1.1
     (leaf_page ends.below ends.entry b va ends.few page)
-    ∙ ap (λ (n : ℕ). Some (hpa - hpa % 4096 + n)) (leaf_place ends.below ends.entry b ends.few))
+    ∙ ap (λ (n : ℕ). Some (hpa - hpa % page_size + n)) (leaf_place ends.below ends.entry b ends.few))
 
 pub line_agrees : (r : Region) (line : Line) (va hpa : ℕ) → WalksApart r line.regime.hgatp → (IsBare line.regime.vsatp → ⊥)
     → leads_under r line.regime line.access va ≡ Some hpa → EndsAt r.tables line.regime.hgatp (root_of line.regime.vsatp) va line.entries → AreThere r line.entries
-    → ArePlaces r.tables line.regime.hgatp line.entries → line.page ≡ va / 4096 → line.host ≡ hpa - hpa % 4096 → LineAgrees r.tables line
+    → ArePlaces r.tables line.regime.hgatp line.entries → line.page ≡ va / page_size → line.host ≡ hpa - hpa % page_size → LineAgrees r.tables line
 line_agrees r line va hpa apart paged leads ends there places number host = record {
   places = places;
   leads = λ other tables there_too place small.
-      let b : ℕ = 4096 * line.page + place in
-      let page : b / 4096 ≡ va / 4096 = omega arith in
-      let inside : b % 4096 ≡ place = omega arith in
+      let b : ℕ = page_size * line.page + place in
+      let page : b / page_size ≡ va / page_size = omega arith in
+      let inside : b % page_size ≡ place = omega arith in
       page_led r other line.regime line.access va b hpa line.entries apart paged leads ends there tables there_too page
-      ∙ ap (λ (n : ℕ). Some (hpa - hpa % 4096 + n)) inside
+      ∙ ap (λ (n : ℕ). Some (hpa - hpa % page_size + n)) inside
       ∙ ap (λ (n : ℕ). Some (n + place)) (sym host);
 }
 

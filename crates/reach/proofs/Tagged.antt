@@ -1,5 +1,6 @@
 -- The tag tells what it was made of.
 use Rattle.std.proofs.Common.{◌≡◌, ℕ, ◌+◌, ◌*◌, ◌<◌, refl, sym, ◌∙◌, ap, arith, Bool, true, false}
+use Rattle.processor.specs.Bytes.{page_size}
 use Rattle.processor.specs.declared.access.Access.{Access}
 use Rattle.processor.specs.declared.access.Access.TheVariants.{Fetch, Load, Store}
 use Rattle.processor.specs.declared.mode.Mode.{Mode}
@@ -50,7 +51,7 @@ bit_told true true e = refl
 -- ---- all parts
 
 parts_told : (p q a b m n x y s t : ℕ) → a < 3 → b < 3 → m < 2 → n < 2 → x < 2 → y < 2 → s < 2 → t < 2
-    → 4096 * p + (8 * a + (4 * m + (2 * x + s))) ≡ 4096 * q + (8 * b + (4 * n + (2 * y + t)))
+    → page_size * p + (8 * a + (4 * m + (2 * x + s))) ≡ page_size * q + (8 * b + (4 * n + (2 * y + t)))
     → (p ≡ q) × ((a ≡ b) × ((m ≡ n) × ((x ≡ y) × (s ≡ t))))
 parts_told p q a b m n x y s t fa fb fm fn fx fy fs ft e = (omega arith, (omega arith, (omega arith, (omega arith, omega arith))))
 

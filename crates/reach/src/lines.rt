@@ -1,6 +1,7 @@
 // All translations that are kept: 256 for fetches, 64 for loads and 64 for stores, by the number of the page.
 
-ghost use Rattle.std.specs.Prelude.{◌≡◌, ◌+◌, ◌/◌, ◌%◌, ◌^◌, ◌<◌, IfSome, Some, length};
+ghost use Rattle.std.specs.Prelude.{◌≡◌, ◌+◌, ◌/◌, ◌%◌, ◌<◌, IfSome, Some, length};
+ghost use Rattle.processor.specs.Translation.{address_pages};
 ghost use Rattle.processor.specs.Bytes.{page_size};
 ghost use Rattle.processor.specs.SecondStage.{WalksApart};
 ghost use Rattle.processor.specs.Roots.{IsFirstStageRoot};
@@ -96,7 +97,7 @@ impl Reach {
     // The line of such accesses to a page, if it is held.
     #[inline(always)]
     fn line(&self, regime: &Regime, access: Access, page: u64) -> Option<Line>
-        requires { page < 2 ^ 52 }
+        requires { page < address_pages }
         ensures held { IfSome result (λ line. line_at self.now (line_place access page) ≡ Some line) }
         ensures tags { IfSome result (λ line. IsFor regime.now access page line) }
         ensures kept { (line : Kept) → line_at self.now (line_place access page) ≡ Some line → IsFor regime.now access page line → result ≡ Some line }

@@ -1,6 +1,7 @@
 // What tells one translation from another.
 
-ghost use Rattle.std.specs.Prelude.{◌≡◌, ◌<◌, ◌^◌, true};
+ghost use Rattle.std.specs.Prelude.{◌≡◌, ◌<◌, true};
+ghost use Rattle.processor.specs.Translation.{address_pages};
 ghost use Rattle.reach.specs.Kept.{IsFor};
 ghost use Rattle.reach.specs.Tags.{tag_of};
 
@@ -11,7 +12,7 @@ use sv39_walk::Regime;
 /// One number for the page, the kind of access, the privilege, MXR and SUM.
 #[inline(always)]
 pub(crate) fn tag(regime: &Regime, access: Access, page: u64) -> u64
-    requires { page < 2 ^ 52 }
+    requires { page < address_pages }
     ensures { result ≡ tag_of regime.now access page }
 {
     let kind = match access {
@@ -32,7 +33,7 @@ pub(crate) fn tag(regime: &Regime, access: Access, page: u64) -> u64
 #[tactic(auto, using(crate::proofs::Tagged::found_by, crate::proofs::Tagged::tagged_alike))]
 #[inline(always)]
 pub(crate) fn is_for(line: &Line, regime: &Regime, access: Access, page: u64) -> bool
-    requires { page < 2 ^ 52 }
+    requires { page < address_pages }
     ensures yes { result ≡ true → IsFor regime.now access page line.now }
     ensures no { IsFor regime.now access page line.now → result ≡ true }
 {

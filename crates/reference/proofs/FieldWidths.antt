@@ -3,18 +3,6 @@ use Rattle.std.proofs.Common.{◌≡◌, ◌⊎◌, inl, inr, refl}
 use Rattle.sv_types.specs.Policies.{site_size}
 use Rattle.sv_types.specs.declared.relocation_kind.RelocationKind.{RelocationKind}
 use Rattle.sv_types.specs.declared.relocation_kind.RelocationKind.TheVariants.{Word64, Branch, Jal, PcrelHi20, PcrelLo12I, PcrelLo12S, Hi20, Lo12I, Lo12S}
-use Rattle.reference.specs.Relocations.{field_of, field_width}
-
-pub width_by : (kind : RelocationKind) → field_width (field_of kind) ≡ site_size kind
-width_by Word64 = refl
-width_by Branch = refl
-width_by Jal = refl
-width_by PcrelHi20 = refl
-width_by PcrelLo12I = refl
-width_by PcrelLo12S = refl
-width_by Hi20 = refl
-width_by Lo12I = refl
-width_by Lo12S = refl
 
 pub sizes : (kind : RelocationKind) → (site_size kind ≡ 4) ⊎ (site_size kind ≡ 8)
 sizes Word64 = inr refl

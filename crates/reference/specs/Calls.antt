@@ -22,6 +22,7 @@ use Rattle.reference.specs.declared.answers.Beside.TheVariants.{Nothing, SetsTim
 use Rattle.reference.specs.declared.answers.Extension.{Extension}
 use Rattle.reference.specs.declared.answers.Reply.{Reply}
 use Rattle.reference.specs.declared.answers.Reply.TheVariants.{Gives, Replies, Stays, Stops}
+use Rattle.sv_types.specs.SbiExtensions.{set_timer_extension, put_char_extension, get_char_extension, shut_down_extension, base_extension, timer_extension, interrupt_extension, fence_extension, hart_state_extension, reset_extension, modules_extension}
 
 -- ---- what a call asks
 
@@ -105,17 +106,17 @@ shut_down = record { reply = Stays; beside = ShutsDown }
 
 unfoldable pub extension_of : ℕ → Option Extension
 extension_of number =
-    if number == 0 then Some Extension.SetTimer
-    else if number == 1 then Some Extension.PutChar
-    else if number == 2 then Some Extension.GetChar
-    else if number == 8 then Some Extension.ShutDown
-    else if number == 0x10 then Some Extension.Base
-    else if number == 0x54494D45 then Some Extension.Timer
-    else if number == 0x735049 then Some Extension.Interrupt
-    else if number == 0x52464E43 then Some Extension.Fence
-    else if number == 0x48534D then Some Extension.HartState
-    else if number == 0x53525354 then Some Extension.Reset
-    else if number == 0x08534543 then Some Extension.Modules
+    if number == set_timer_extension then Some Extension.SetTimer
+    else if number == put_char_extension then Some Extension.PutChar
+    else if number == get_char_extension then Some Extension.GetChar
+    else if number == shut_down_extension then Some Extension.ShutDown
+    else if number == base_extension then Some Extension.Base
+    else if number == timer_extension then Some Extension.Timer
+    else if number == interrupt_extension then Some Extension.Interrupt
+    else if number == fence_extension then Some Extension.Fence
+    else if number == hart_state_extension then Some Extension.HartState
+    else if number == reset_extension then Some Extension.Reset
+    else if number == modules_extension then Some Extension.Modules
     else None
 
 -- the version of the SBI, 1.0, and that of this implementation

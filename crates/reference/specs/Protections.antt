@@ -1,5 +1,6 @@
 -- The protections of all pages of RAM, as a list, and the list with those of some pages changed. This project's own.
-use Rattle.std.specs.Prelude.{ℕ, zero, suc, ◌+◌, Bool, List, [], ◌∷◌, if◌then◌else◌, Option, Some, None, slice_get, slice_set}
+use Rattle.std.specs.Prelude.{ℕ, zero, suc, ◌+◌, Bool, not, List, [], ◌∷◌, if◌then◌else◌, Option, Some, None, slice_get, slice_set}
+use Rattle.sv_types.specs.Protections.{is_free}
 use Rattle.sv_types.specs.declared.protection.Protection.{Protection}
 use Rattle.sv_types.specs.declared.protection.Protection.TheVariants.{Free}
 
@@ -10,6 +11,10 @@ or_free (Some protection) = protection
 
 abbrev pub protection_at : List Protection → ℕ → Protection
 protection_at guard page = or_free (slice_get guard page)
+
+-- a page is approved or held
+abbrev pub is_taken : List Protection → ℕ → Bool
+is_taken guard page = not (is_free (protection_at guard page))
 
 -- so many pages from the first on, with a protection
 unfoldable pub with_pages : List Protection → (first count : ℕ) → Protection → List Protection

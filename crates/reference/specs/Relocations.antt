@@ -1,6 +1,7 @@
 -- The relocated fields of a module's text: clearing them, and which value each has to have.
 -- RISC-V ELF psABI, "Relocations".
 use Rattle.std.specs.Prelude.{ℕ, ◌+◌, ◌-◌, ◌*◌, ◌%◌, ◌^◌, Bool, true, false, ◌&&◌, List, fold, ◌==◌, if◌then◌else◌, bit_and, slice_get, Option, Some, None, ℤ, pos, negsuc, int_le}
+use Rattle.sv_types.specs.Policies.{site_size}
 use Rattle.std.specs.List.{list_all}
 use Rattle.std.specs.Int.{w64, cast_unsigned}
 use Rattle.processor.specs.Bits.{without}
@@ -38,14 +39,6 @@ field_bits UField = 0xFFFFF000
 field_bits IField = 0xFFF00000
 field_bits SField = 0xFE000F80
 
-abbrev pub field_width : Field → ℕ
-field_width DoubleWord = 8
-field_width BField = 4
-field_width JField = 4
-field_width UField = 4
-field_width IField = 4
-field_width SField = 4
-
 -- a value as it stands in the field
 abbrev pub in_field : Field → ℕ → ℕ
 in_field DoubleWord v = v
@@ -74,12 +67,19 @@ value_fits SField v = fits_in_parts v
 
 -- ---- clearing
 
+-- the bytes of a site's field
+abbrev pub width_of : Site → ℕ
+width_of site = site_size site.kind
+
 abbrev pub field_word : List ℕ → Site → ℕ
-field_word text site = word text site.offset (field_width (field_of site.kind))
+field_word text site = word text site.offset (width_of site)
+
+-- the same with the field's bits cleared
+abbrev pub cleared_value : List ℕ → Site → ℕ
+cleared_value text site = without (field_word text site) (field_bits (field_of site.kind))
 
 unfoldable pub clear_field : List ℕ → Site → List ℕ
-clear_field text site =
-    write_word text site.offset (field_width (field_of site.kind)) (without (field_word text site) (field_bits (field_of site.kind)))
+clear_field text site = write_word text site.offset (width_of site) (cleared_value text site)
 
 -- a module's text with each field cleared
 unfoldable pub masked_text : List ℕ → List Site → List ℕ

@@ -1,5 +1,6 @@
 -- Which states of the reference machine are sound: each state that a run reaches is. This project's own.
 use Rattle.std.specs.Prelude.{◌≡◌, ℕ, ◌+◌, ◌*◌, ◌%◌, ◌^◌, ◌<◌, ◌≤◌, true, false, List, [], ◌∷◌, length, Option, Some, None, slice_get, IsTrue}
+use Rattle.reference.specs.VirtioQueue.{used_word_size, ring_index_size}
 use Rattle.processor.specs.Bytes.{page_size, page_bytes, ram_place, ram_base, instruction_size}
 use Rattle.sv_types.specs.Policies.{Rules, rules_within}
 use Rattle.sv_types.specs.ApprovedPages.{ApprovedPage, approved_bytes}
@@ -68,9 +69,9 @@ abbrev pub IsSoundMove : VirtioMove → Type 0
 IsSoundMove (VirtioMove.ToMemory gpa place size) = StaysInPage gpa size
 IsSoundMove (VirtioMove.ToDisk gpa place size) = StaysInPage gpa size
 IsSoundMove (VirtioMove.PutResult gpa) = StaysInPage gpa 1
-IsSoundMove (VirtioMove.PutHead gpa head) = StaysInPage gpa 4
-IsSoundMove (VirtioMove.PutLength gpa) = StaysInPage gpa 4
-IsSoundMove (VirtioMove.PutIndex gpa index) = StaysInPage gpa 2
+IsSoundMove (VirtioMove.PutHead gpa head) = StaysInPage gpa used_word_size
+IsSoundMove (VirtioMove.PutLength gpa) = StaysInPage gpa used_word_size
+IsSoundMove (VirtioMove.PutIndex gpa index) = StaysInPage gpa ring_index_size
 
 abbrev pub AreSoundMoves : List VirtioMove → Type 0
 AreSoundMoves [] = Unit {0}

@@ -6,7 +6,7 @@ use Rattle.processor.specs.Bytes.{part, overwrite, low_bytes, in_ram, ram_place,
 use Rattle.reference.specs.Move.{Move, Idle, FromRam, IntoRam, DeniedAt, OutsideRam}
 use Rattle.reference.specs.VirtioDevice.{VirtioDevice, Request, driver_ok, is_broken, index_values, request_done, state_changed}
 use Rattle.reference.specs.VirtioStores.{needs_reset}
-use Rattle.reference.specs.VirtioQueue.{rings_in_ram, available_index, next_head, waiting_count}
+use Rattle.reference.specs.VirtioQueue.{rings_in_ram, available_index, next_head, waiting_count, used_word_size, ring_index_size}
 use Rattle.reference.specs.VirtioChain.{chain, most_parts, is_good, data_of, result_of}
 use Rattle.reference.specs.VirtioRequests.{type_of, sector_of, result_by, moves_by, last_moves}
 use Rattle.sv_types.specs.declared.virtio.VirtioMove.{VirtioMove}
@@ -79,9 +79,9 @@ unfoldable pub make : VirtioDevice → Request → VirtioMove → List ℕ → (
 make d q (VirtioMove.ToMemory gpa place size) ram may_write = to_memory d q gpa place size ram may_write
 make d q (VirtioMove.ToDisk gpa place size) ram may_write = to_disk d q gpa place size ram
 make d q (VirtioMove.PutResult gpa) ram may_write = put_last d (with_request d q) gpa (low_bytes 1 (result_number q.result)) ram may_write
-make d q (VirtioMove.PutHead gpa head) ram may_write = put_last d (with_request d q) gpa (low_bytes 4 head) ram may_write
-make d q (VirtioMove.PutLength gpa) ram may_write = put_last d (with_request d q) gpa (low_bytes 4 (q.written + 1)) ram may_write
-make d q (VirtioMove.PutIndex gpa index) ram may_write = put_last d (finish_request d) gpa (low_bytes 2 index) ram may_write
+make d q (VirtioMove.PutHead gpa head) ram may_write = put_last d (with_request d q) gpa (low_bytes used_word_size head) ram may_write
+make d q (VirtioMove.PutLength gpa) ram may_write = put_last d (with_request d q) gpa (low_bytes used_word_size (q.written + 1)) ram may_write
+make d q (VirtioMove.PutIndex gpa index) ram may_write = put_last d (finish_request d) gpa (low_bytes ring_index_size index) ram may_write
 
 -- the first of the moves that are left
 abbrev pub make_first : VirtioDevice → Request → List VirtioMove → List ℕ → (ℕ → Bool) → VirtioBeat

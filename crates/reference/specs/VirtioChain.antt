@@ -90,5 +90,9 @@ is_header ram part = part.len == header_size && not part.write && in_ram ram par
 abbrev pub is_result : VirtioPart → Bool
 is_result part = part.len == result_size && part.write
 
+-- a header and a result
+abbrev pub least_parts : ℕ
+least_parts = 2
+
 unfoldable pub is_good : List ℕ → List VirtioPart → Bool
-is_good ram parts = nat_le 2 (length parts) && is_header ram (header_of parts) && is_result (result_of parts)
+is_good ram parts = nat_le least_parts (length parts) && is_header ram (header_of parts) && is_result (result_of parts)

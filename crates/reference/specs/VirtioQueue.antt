@@ -12,15 +12,21 @@ ring_header_size = 4
 abbrev pub ring_index_place : ℕ
 ring_index_place = 2
 
+abbrev pub ring_index_size : ℕ
+ring_index_size = 2
+
 abbrev pub available_entry_size : ℕ
 available_entry_size = 2
 
-abbrev pub used_entry_size : ℕ
-used_entry_size = 8
+-- a place of the used ring has a head and a length, of so many bytes each
+abbrev pub used_word_size : ℕ
+used_word_size = 4
 
--- where the length stands in a place of the used ring
+abbrev pub used_entry_size : ℕ
+used_entry_size = 2 * used_word_size
+
 abbrev pub used_length_place : ℕ
-used_length_place = 4
+used_length_place = used_word_size
 
 -- the three parts lie in RAM
 unfoldable pub rings_in_ram : VirtioDevice → List ℕ → Bool
@@ -32,11 +38,11 @@ rings_in_ram d ram =
 -- ---- the available ring: flags, index, heads
 
 abbrev pub available_index : VirtioDevice → List ℕ → ℕ
-available_index d ram = word ram (ram_place d.available + ring_index_place) 2
+available_index d ram = word ram (ram_place d.available + ring_index_place) ring_index_size
 
 -- the head that stands where the next request is expected
 abbrev pub next_head : VirtioDevice → List ℕ → ℕ
-next_head d ram = word ram (ram_place d.available + ring_header_size + available_entry_size * (d.accepted % d.size)) 2
+next_head d ram = word ram (ram_place d.available + ring_header_size + available_entry_size * (d.accepted % d.size)) available_entry_size
 
 -- how many requests wait by the index, which counts modulo `index_values`
 abbrev pub waiting_count : VirtioDevice → List ℕ → ℕ

@@ -58,13 +58,19 @@ block_device = 2
 abbrev pub mmio_version : ℕ
 mmio_version = 2
 
--- the one feature that is offered is bit 32: a device of version 1
+-- the selector of features 32 to 63, and among these the one that is offered, bit 32: a device of version 1
+abbrev pub high_features : ℕ
+high_features = 1
+
+abbrev pub version_1 : ℕ
+version_1 = 1
+
 unfoldable pub register_value : VirtioDevice → VirtioRegister → ℕ
 register_value d VirtioRegister.MagicValue = magic_value
 register_value d VirtioRegister.Version = mmio_version
 register_value d VirtioRegister.DeviceId = block_device
 register_value d VirtioRegister.VendorId = implementation_number
-register_value d VirtioRegister.DeviceFeatures = flag (d.device_select == 1)
+register_value d VirtioRegister.DeviceFeatures = if d.device_select == high_features then version_1 else 0
 register_value d VirtioRegister.DeviceFeaturesSelect = 0
 register_value d VirtioRegister.DriverFeatures = 0
 register_value d VirtioRegister.DriverFeaturesSelect = 0

@@ -2,7 +2,7 @@
 -- A store to a register that is only read has no effect.
 use Rattle.std.specs.Prelude.{ℕ, ◌+◌, ◌*◌, ◌/◌, ◌%◌, ◌^◌, Bool, false, not, ◌&&◌, ◌||◌, bit_or, List, ◌==◌, if◌then◌else◌, Option, None, option_map}
 use Rattle.reference.specs.VirtioDevice.{VirtioDevice, clear_bits, is_broken, is_selected, most_places, needs_reset_place}
-use Rattle.reference.specs.VirtioRegisters.{register_at}
+use Rattle.reference.specs.VirtioRegisters.{register_at, high_features, version_1}
 use Rattle.sv_types.specs.declared.virtio.VirtioRegister.{VirtioRegister}
 
 -- ---- reset
@@ -29,16 +29,16 @@ reset bytes = record {
 
 -- ---- features and status
 
--- features 0 to 31 by selector 0, and 32 to 63 by selector 1
+-- features 0 to 31 by selector 0, and 32 to 63
 unfoldable pub with_features : VirtioDevice → ℕ → VirtioDevice
 with_features d value =
     if d.driver_select == 0 then record d { driver_low = value }
-    else if d.driver_select == 1 then record d { driver_high = value }
+    else if d.driver_select == high_features then record d { driver_high = value }
     else d
 
--- the driver took the one feature that is offered, bit 32
+-- the driver took the one feature that is offered
 abbrev pub takes_features : VirtioDevice → Bool
-takes_features d = d.driver_low == 0 && d.driver_high == 1
+takes_features d = d.driver_low == 0 && d.driver_high == version_1
 
 -- FEATURES_OK and DEVICE_NEEDS_RESET of the status
 abbrev pub features_ok : ℕ

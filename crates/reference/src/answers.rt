@@ -3,7 +3,11 @@
 ghost use Rattle.std.specs.Prelude.{◌≡◌};
 ghost use Rattle.reference.specs.Calls.{code, value, plain, extension_of};
 
-use sv_types::{SavedModule, SbiCode, Span};
+use sv_types::{
+    BASE_EXTENSION, FENCE_EXTENSION, GET_CHAR_EXTENSION, HART_STATE_EXTENSION, INTERRUPT_EXTENSION,
+    MODULES_EXTENSION, PUT_CHAR_EXTENSION, RESET_EXTENSION, SET_TIMER_EXTENSION,
+    SHUT_DOWN_EXTENSION, SavedModule, SbiCode, Span, TIMER_EXTENSION,
+};
 
 /// An extension of SBI. The first four are legacy calls.
 #[derive(Clone, Copy, PartialEq, Eq, Drop)]
@@ -28,17 +32,17 @@ impl Extension {
         ensures { result ≡ extension_of number }
     {
         match number {
-            0 => Some(Extension::SetTimer),
-            1 => Some(Extension::PutChar),
-            2 => Some(Extension::GetChar),
-            8 => Some(Extension::ShutDown),
-            0x10 => Some(Extension::Base),
-            0x5449_4D45 => Some(Extension::Timer),
-            0x0073_5049 => Some(Extension::Interrupt),
-            0x5246_4E43 => Some(Extension::Fence),
-            0x0048_534D => Some(Extension::HartState),
-            0x5352_5354 => Some(Extension::Reset),
-            0x0853_4543 => Some(Extension::Modules),
+            SET_TIMER_EXTENSION => Some(Extension::SetTimer),
+            PUT_CHAR_EXTENSION => Some(Extension::PutChar),
+            GET_CHAR_EXTENSION => Some(Extension::GetChar),
+            SHUT_DOWN_EXTENSION => Some(Extension::ShutDown),
+            BASE_EXTENSION => Some(Extension::Base),
+            TIMER_EXTENSION => Some(Extension::Timer),
+            INTERRUPT_EXTENSION => Some(Extension::Interrupt),
+            FENCE_EXTENSION => Some(Extension::Fence),
+            HART_STATE_EXTENSION => Some(Extension::HartState),
+            RESET_EXTENSION => Some(Extension::Reset),
+            MODULES_EXTENSION => Some(Extension::Modules),
             _ => None,
         }
     }

@@ -1,5 +1,6 @@
 -- What SecVisor makes of an exit, a row for each line: kernel mode, user mode, and both. This project's own.
 use Rattle.std.specs.Prelude.{◌≡◌, ℕ, ◌+◌, ◌/◌, ◌^◌, true, Some, None}
+use Rattle.processor.specs.HardwareMemory.{implicit_read}
 use Rattle.processor.specs.HypervisorRegisters.{registers_at_boot, registers_at_exit}
 use Rattle.processor.specs.declared.cause.Cause.{Cause}
 use Rattle.processor.specs.declared.exit.Exit.{Exit}
@@ -43,7 +44,7 @@ user_makes exit = serve_exit before 0 of_user exit
 abbrev pub inside : ℕ → Seen
 inside pc = record { ram = before.ram; mode = Kernel; pc = pc; entry = Some (record { va = 0x80000100; gpa = 0x80000100 }); effect = None }
 
--- LB, LW, SB and SW of x6, as htinst has them, and an implicit read of an entry
+-- LB, LW, SB and SW of x6, as htinst has them
 abbrev pub load_byte : ℕ
 load_byte = 0x0303
 
@@ -55,9 +56,6 @@ store_byte = 0x00600023
 
 abbrev pub store_word : ℕ
 store_word = 0x00602023
-
-abbrev pub implicit : ℕ
-implicit = 0x3000
 
 -- the cause as the hypervisor's scause shows it
 abbrev pub shown_cause : Exit → ℕ
@@ -74,7 +72,7 @@ pub record ExitRows : Type 0 where
   pub kernel_fetch : kernel_makes (by_cause Cause.GuestFetch 0x80002000 0x80002000 0) ≡ demote before 0 of_kernel 0x80002000
   pub kernel_return : kernel_makes (by_cause Cause.Virtual 0x10200073 0 0) ≡ returned_from_trap before 0 of_kernel
   pub kernel_virtual : kernel_makes (by_cause Cause.Virtual 0x20002373 0 0) ≡ exception before 0 of_kernel Cause.Illegal 0x20002373
-  pub kernel_fetch_implicit : kernel_makes (by_cause Cause.GuestFetch 0x80002000 0x80002000 implicit) ≡ exception before 0 of_kernel Cause.InstrAccess 0x80002000
+  pub kernel_fetch_implicit : kernel_makes (by_cause Cause.GuestFetch 0x80002000 0x80002000 implicit_read) ≡ exception before 0 of_kernel Cause.InstrAccess 0x80002000
   -- ---- user mode
   pub user_fetch : user_makes (by_cause Cause.GuestFetch 0x80000000 0x80000000 0) ≡ exception before 0 of_user Cause.InstrAccess 0x80000000
   pub user_virtual : user_makes (by_cause Cause.Virtual 0x10200073 0 0) ≡ exception before 0 of_user Cause.Illegal 0x10200073
@@ -100,7 +98,7 @@ pub record ExitRows : Type 0 where
       ≡ carry_out_device_load before 0 of_kernel 6 0x10000005 1 true (device_load before.devices 0x10000005 1)
   pub device_loads_of_another_width : kernel_makes (by_cause Cause.GuestLoad 0x10000000 0x10000000 load_word) ≡ exception before 0 of_kernel Cause.LoadAccess 0x10000000
   pub loads_of_no_device : user_makes (by_cause Cause.GuestLoad 0x90000000 0x90000000 load_word) ≡ exception before 0 of_user Cause.LoadAccess 0x90000000
-  pub load_of_an_unreadable_entry : user_makes (by_cause Cause.GuestLoad 0x5000 0x10000000 implicit) ≡ exception before 0 of_user Cause.LoadAccess 0x5000
+  pub load_of_an_unreadable_entry : user_makes (by_cause Cause.GuestLoad 0x5000 0x10000000 implicit_read) ≡ exception before 0 of_user Cause.LoadAccess 0x5000
   pub protected_store : kernel_makes (by_cause Cause.GuestStore 0x80000003 0x80000003 store_byte) ≡ write_stopped before 0 of_kernel 0x80000003
   pub device_stores : kernel_makes (by_cause Cause.GuestStore 0x10000000 0x10000000 store_byte)
       ≡ carry_out_device_store before 0 of_kernel 0x10000000 (device_store before.devices before.journal 0x10000000 1 65)
@@ -110,7 +108,7 @@ pub record ExitRows : Type 0 where
   pub fetch_at_the_entry : exit_answer (inside 0x80000100) (by_cause Cause.GuestFetch 0x80000100 0x80002100 0) ≡ Demotes 0x80002100
   pub fetch_at_the_entry_outside_ram : exit_answer (inside 0x80000100) (by_cause Cause.GuestFetch 0x80000100 0x90000100 0) ≡ Demotes 0
   pub fault_at_the_entry : exit_answer (inside 0x80000100) (by_cause Cause.InstrPage 0x80000100 0 0) ≡ Demotes 0
-  pub implicit_at_the_entry : exit_answer (inside 0x80000100) (by_cause Cause.GuestFetch 0x80000100 0x80002100 implicit) ≡ Demotes 0
+  pub implicit_at_the_entry : exit_answer (inside 0x80000100) (by_cause Cause.GuestFetch 0x80000100 0x80002100 implicit_read) ≡ Demotes 0
   pub fetch_elsewhere : exit_answer (inside 0x80000104) (by_cause Cause.GuestFetch 0x80000104 0x80002104 0) ≡ LeavesEntry
   pub fault_elsewhere : exit_answer (inside 0x80000104) (by_cause Cause.InstrPage 0x80000104 0 0) ≡ LeavesEntry
   pub call_inside : exit_answer (inside 0x80000100) (by_cause Cause.GuestCall 0 0 0) ≡ Calls

@@ -1,18 +1,19 @@
 -- The fields of a text in two parts, and then in pieces.
 use Rattle.std.proofs.Common.{◌≡◌, ℕ, ◌+◌, ◌-◌, ◌%◌, ◌<◌, ◌≤◌, Bool, true, false, not, ◌&&◌, List, [], ◌∷◌, ◌++◌, length, refl, sym, ◌∙◌, ap, subst, arith, All, length-append}
+use Rattle.sv_types.proofs.InPages.{IsWhole}
 use Rattle.std.specs.Prelude.{nat_le, nat_lt, if◌then◌else◌}
 use Rattle.std.specs.List.{concat}
 use Rattle.std.proofs.Math.Bool.{and_assoc}
 use Rattle.std.proofs.lemmas.Bool.Decides.{nat_tests}
 use Rattle.std.proofs.lemmas.List.Elements.{All-head, All-tail}
 use Rattle.processor.specs.Bits.{without}
-use Rattle.processor.specs.Bytes.{low_bytes, write_word}
+use Rattle.processor.specs.Bytes.{low_bytes, write_word, page_size}
 use Rattle.sv_types.specs.declared.module.Bases.{Bases}
 use Rattle.sv_types.specs.declared.module.Site.{Site}
 use Rattle.sv_types.specs.declared.policy.Export.{Export}
 use Rattle.processor_laws.proofs.ByteLemmas.{length_low_bytes, length_write_word, word_in_front, word_behind, overwrite_in_front, overwrite_behind}
-use Rattle.reference.specs.Relocations.{field_of, field_bits, field_word, clear_field, masked_text, field_right, fields_right, site_value}
-use Rattle.relocated_fields.specs.Fields.{field_end, width_of}
+use Rattle.reference.specs.Relocations.{field_of, field_bits, clear_field, masked_text, field_right, fields_right, site_value, cleared_value, width_of}
+use Rattle.sv_types.specs.Policies.{field_end}
 use Rattle.relocated_fields.specs.Pieces.{site_from, piece_sites, IsAligned}
 use Rattle.relocated_fields.proofs.Sites.{ends_inside}
 use Rattle.relocated_fields.specs.Laws.{MaskLaw, RightLaw, cleared_from, right_from}
@@ -31,20 +32,17 @@ past first size offset false q e f = grind (arith, nat_tests)
 
 -- ---- one field, in a text of two parts
 
-abbrev value_cleared : List ℕ → Site → ℕ
-value_cleared text site = without (field_word text site) (field_bits (field_of site.kind))
-
 clear_front : (piece rest : List ℕ) (site : Site) → field_end site ≤ length piece → clear_field (piece ++ rest) site ≡ clear_field piece site ++ rest
 unfolding clear_field
 clear_front piece rest site fits =
-    let bytes : List ℕ = low_bytes (width_of site) (value_cleared piece site) in
-    let size : length bytes ≡ width_of site = length_low_bytes (width_of site) (value_cleared piece site) in
+    let bytes : List ℕ = low_bytes (width_of site) (cleared_value piece site) in
+    let size : length bytes ≡ width_of site = length_low_bytes (width_of site) (cleared_value piece site) in
     ap (λ (w : ℕ). write_word (piece ++ rest) site.offset (width_of site) (without w (field_bits (field_of site.kind)))) (word_in_front piece rest site.offset (width_of site) fits)
     ∙ overwrite_in_front piece rest bytes site.offset (rw size fits)
 
 length_cleared : (piece : List ℕ) (site : Site) → field_end site ≤ length piece → length (clear_field piece site) ≡ length piece
 unfolding clear_field
-length_cleared piece site fits = length_write_word piece site.offset (width_of site) (value_cleared piece site) fits
+length_cleared piece site fits = length_write_word piece site.offset (width_of site) (cleared_value piece site) fits
 
 clear_behind : (first size : ℕ) (piece rest : List ℕ) (site : Site) → length piece ≡ size → first + size ≤ site.offset
     → clear_field (piece ++ rest) (site_from first site) ≡ piece ++ clear_field rest (site_from (first + size) site)
@@ -52,7 +50,7 @@ unfolding clear_field
 clear_behind first size piece rest site len low =
     let at : ℕ = site.offset - (first + size) in
     let place : site.offset - first ≡ length piece + at = omega arith in
-    let bytes : List ℕ = low_bytes (width_of site) (value_cleared rest (site_from (first + size) site)) in
+    let bytes : List ℕ = low_bytes (width_of site) (cleared_value rest (site_from (first + size) site)) in
     ap (λ (n : ℕ). clear_field (piece ++ rest) (record site { offset = n })) place
     ∙ ap (λ (w : ℕ). write_word (piece ++ rest) (length piece + at) (width_of site) (without w (field_bits (field_of site.kind)))) (word_behind piece rest at (width_of site))
     ∙ overwrite_behind piece rest bytes at
@@ -74,8 +72,8 @@ right_behind exports bases first size piece rest site len low =
 
 -- a part of whole pages
 record IsPart (first size : ℕ) (sites : List Site) : Type 0 where
-  start : first % 4096 ≡ 0
-  whole : size % 4096 ≡ 0
+  start : first % page_size ≡ 0
+  whole : size % page_size ≡ 0
   aligned : All IsAligned sites
 
 one_masked : (first size : ℕ) (piece rest : List ℕ) (site : Site) (sites : List Site) (p q : Bool) → nat_le first site.offset ≡ p → nat_lt (site.offset - first) size ≡ q
@@ -145,21 +143,18 @@ all_behind (site ∷ sites) =
     let place : site.offset - 0 ≡ site.offset = omega arith in
     rw (there, place) (ap (◌∷◌ site) (all_behind sites))
 
-abbrev IsWhole : List ℕ → Type 0
-IsWhole piece = length piece % 4096 ≡ 0
-
 abbrev EndsAt : ℕ → List Site → Type 0
 EndsAt end sites = All (λ site. site.offset < end) sites
 
 next : (first : ℕ) (piece : List ℕ) (pieces : List (List ℕ)) → first + length (concat (piece ∷ pieces)) ≡ first + length piece + length (concat pieces)
 next first piece pieces = rw length-append (omega arith)
 
-masked_from : (first : ℕ) (pieces : List (List ℕ)) (sites : List Site) → first % 4096 ≡ 0 → All IsWhole pieces → All IsAligned sites → EndsAt (first + length (concat pieces)) sites
+masked_from : (first : ℕ) (pieces : List (List ℕ)) (sites : List Site) → first % page_size ≡ 0 → All IsWhole pieces → All IsAligned sites → EndsAt (first + length (concat pieces)) sites
     → concat (cleared_from first pieces sites) ≡ masked_text (concat pieces) (behind first sites)
 unfolding cleared_from masked_text
 masked_from first [] sites start whole aligned ends = rw (none_behind first sites (subst (λ (n : ℕ). EndsAt n sites) (omega arith) ends)) refl
 masked_from first (piece ∷ pieces) sites start whole aligned ends =
-    let size : length piece % 4096 ≡ 0 = All-head IsWhole piece pieces whole in
+    let size : length piece % page_size ≡ 0 = All-head IsWhole piece pieces whole in
     let rest = masked_from (first + length piece) pieces sites (omega arith) (All-tail IsWhole piece pieces whole) aligned (subst (λ (n : ℕ). EndsAt n sites) (next first piece pieces) ends) in
     ap (◌++◌ (masked_text piece (piece_sites first (length piece) sites))) rest
     ∙ sym (masked_parts first (length piece) piece (concat pieces) sites (record { start = start; whole = size; aligned = aligned }) refl)
@@ -168,12 +163,12 @@ pub mask_law : MaskLaw
 mask_law pieces sites cut =
     masked_from 0 pieces sites refl cut.pages cut.aligned (subst (λ (n : ℕ). EndsAt n sites) (omega arith) cut.inside) ∙ ap (masked_text (concat pieces)) (all_behind sites)
 
-rights_from : (exports : List Export) (bases : Bases) (first : ℕ) (pieces : List (List ℕ)) (sites : List Site) → first % 4096 ≡ 0 → All IsWhole pieces → All IsAligned sites → EndsAt (first + length (concat pieces)) sites
+rights_from : (exports : List Export) (bases : Bases) (first : ℕ) (pieces : List (List ℕ)) (sites : List Site) → first % page_size ≡ 0 → All IsWhole pieces → All IsAligned sites → EndsAt (first + length (concat pieces)) sites
     → right_from exports bases first pieces sites ≡ fields_right exports bases (behind first sites) (concat pieces)
 unfolding right_from fields_right
 rights_from exports bases first [] sites start whole aligned ends = rw (none_behind first sites (subst (λ (n : ℕ). EndsAt n sites) (omega arith) ends)) refl
 rights_from exports bases first (piece ∷ pieces) sites start whole aligned ends =
-    let size : length piece % 4096 ≡ 0 = All-head IsWhole piece pieces whole in
+    let size : length piece % page_size ≡ 0 = All-head IsWhole piece pieces whole in
     let rest = rights_from exports bases (first + length piece) pieces sites (omega arith) (All-tail IsWhole piece pieces whole) aligned (subst (λ (n : ℕ). EndsAt n sites) (next first piece pieces) ends) in
     ap (λ (b : Bool). fields_right exports bases (piece_sites first (length piece) sites) piece && b) rest
     ∙ sym (right_parts exports bases first (length piece) piece (concat pieces) sites (record { start = start; whole = size; aligned = aligned }) refl)

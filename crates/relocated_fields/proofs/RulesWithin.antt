@@ -1,11 +1,10 @@
 -- What the limits of a policy say of its sites.
-use Rattle.std.proofs.Common.{◌≡◌, ℕ, ◌%◌, List, [], ◌∷◌, ◌++◌, sym, subst, true, ◌&&◌}
+use Rattle.std.proofs.Common.{◌≡◌, ℕ, ◌%◌, List, [], ◌∷◌, ◌++◌, true, ◌&&◌}
 use Rattle.std.specs.Prelude.{All}
 use Rattle.std.proofs.lemmas.Bool.{and_parts, eqb-true}
 use Rattle.std.proofs.lemmas.List.Elements.{All-nil, All-cons}
 use Rattle.sv_types.specs.Policies.{each_within, next_site_within, site_within, is_behind, place_within, is_aligned, base_within, anchor_within, site_size}
 use Rattle.sv_types.specs.declared.module.Site.{Site}
-use Rattle.reference.proofs.FieldWidths.{width_by}
 use Rattle.relocated_fields.specs.Pieces.{IsAligned}
 
 -- it begins in the text, at a multiple of its field's bytes
@@ -16,8 +15,7 @@ site_parts pages exports site within =
     and_parts (place_within pages site.offset) (is_aligned site.kind site.offset) b.0
 
 site_aligned : (pages exports : ℕ) (site : Site) → site_within pages exports site ≡ true → IsAligned site
-site_aligned pages exports site within =
-    subst (λ (w : ℕ). site.offset % w ≡ 0) (sym (width_by site.kind)) (eqb-true (site.offset % site_size site.kind) 0 (site_parts pages exports site within).1)
+site_aligned pages exports site within = eqb-true (site.offset % site_size site.kind) 0 (site_parts pages exports site within).1
 
 pub sites_aligned : (pages exports : ℕ) (before sites : List Site) → each_within (next_site_within pages exports) before sites ≡ true → All IsAligned sites
 sites_aligned pages exports before [] within = All-nil IsAligned

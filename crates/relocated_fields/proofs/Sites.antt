@@ -1,5 +1,6 @@
 -- Sites, one after another.
 use Rattle.std.proofs.Common.{◌≡◌, ℕ, ◌+◌, ◌-◌, ◌%◌, ◌<◌, ◌≤◌, Bool, true, false, List, ◌∷◌, length, drop, get_or, inl, inr, ◌⊎◌, refl, ap, sym, ◌∙◌, arith}
+use Rattle.processor.specs.Bytes.{page_size}
 use Rattle.std.specs.Prelude.{◌&&◌, nat_le, nat_lt, if◌then◌else◌}
 use Rattle.std.proofs.lemmas.Bool.{and_parts}
 use Rattle.std.proofs.lemmas.Bool.Decides.{nat_tests}
@@ -8,35 +9,28 @@ use Rattle.std.proofs.Math.ListN.{drop_of_length-le}
 use Rattle.sv_types.specs.declared.module.Bases.{Bases}
 use Rattle.sv_types.specs.declared.module.Site.{Site}
 use Rattle.sv_types.specs.declared.policy.Export.{Export}
-use Rattle.reference.specs.Relocations.{Field, DoubleWord, BField, JField, UField, IField, SField, field_of, field_width, clear_field, field_right, masked_text, fields_right}
-use Rattle.relocated_fields.specs.Fields.{field_end, width_of}
+use Rattle.reference.specs.Relocations.{width_of, clear_field, field_right, masked_text, fields_right}
+use Rattle.reference.proofs.FieldWidths.{sizes}
+use Rattle.sv_types.specs.Policies.{field_end}
 use Rattle.relocated_fields.specs.Pieces.{lies_in, site_from, piece_sites, IsAligned}
 use Rattle.relocated_fields.specs.Steps.{cleared_in_piece, right_in_piece}
 
-width_cases : (field : Field) → (field_width field ≡ 8) ⊎ (field_width field ≡ 4)
-width_cases DoubleWord = inl refl
-width_cases BField = inr refl
-width_cases JField = inr refl
-width_cases UField = inr refl
-width_cases IField = inr refl
-width_cases SField = inr refl
-
 -- a field that begins in whole pages ends there
-ends_by : (first size offset width : ℕ) → (width ≡ 8) ⊎ (width ≡ 4) → nat_le first offset && nat_lt (offset - first) size ≡ true → first % 4096 ≡ 0 → size % 4096 ≡ 0
+ends_by : (first size offset width : ℕ) → (width ≡ 4) ⊎ (width ≡ 8) → nat_le first offset && nat_lt (offset - first) size ≡ true → first % page_size ≡ 0 → size % page_size ≡ 0
     → offset % width ≡ 0 → offset - first + width ≤ size
-ends_by first size offset width (inl eight) inside start whole aligned =
-    let parts = and_parts (nat_le first offset) (nat_lt (offset - first) size) inside in
-    let place : offset % 8 ≡ 0 = rw eight at aligned in
-    rw eight (grind (arith, nat_tests))
-ends_by first size offset width (inr four) inside start whole aligned =
+ends_by first size offset width (inl four) inside start whole aligned =
     let parts = and_parts (nat_le first offset) (nat_lt (offset - first) size) inside in
     let place : offset % 4 ≡ 0 = rw four at aligned in
     rw four (grind (arith, nat_tests))
+ends_by first size offset width (inr eight) inside start whole aligned =
+    let parts = and_parts (nat_le first offset) (nat_lt (offset - first) size) inside in
+    let place : offset % 8 ≡ 0 = rw eight at aligned in
+    rw eight (grind (arith, nat_tests))
 
-pub ends_inside : (first size : ℕ) (site : Site) → lies_in first size site ≡ true → first % 4096 ≡ 0 → size % 4096 ≡ 0 → IsAligned site
+pub ends_inside : (first size : ℕ) (site : Site) → lies_in first size site ≡ true → first % page_size ≡ 0 → size % page_size ≡ 0 → IsAligned site
     → field_end (site_from first site) ≤ size
 ends_inside first size site inside start whole aligned =
-    ends_by first size site.offset (width_of site) (width_cases (field_of site.kind)) inside start whole aligned
+    ends_by first size site.offset (width_of site) (sizes site.kind) inside start whole aligned
 
 cleared_by : (first size : ℕ) (text : List ℕ) (site : Site) (rest : List Site) (b : Bool) → lies_in first size site ≡ b
     → masked_text (if b then clear_field text (site_from first site) else text) (piece_sites first size rest) ≡ masked_text text (piece_sites first size (site ∷ rest))

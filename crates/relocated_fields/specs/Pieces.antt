@@ -1,7 +1,7 @@
 -- The fields of a piece of a module's text. This project's own.
 use Rattle.std.specs.Prelude.{◌≡◌, ℕ, ◌-◌, ◌%◌, Bool, ◌&&◌, List, [], ◌∷◌, if◌then◌else◌, nat_le, nat_lt}
 use Rattle.sv_types.specs.declared.module.Site.{Site}
-use Rattle.relocated_fields.specs.Fields.{width_of}
+use Rattle.reference.specs.Relocations.{width_of}
 
 -- a field begins in the piece of so many bytes from the first one on
 abbrev pub lies_in : (first size : ℕ) → Site → Bool

@@ -2,7 +2,6 @@
 
 ghost use Rattle.std.specs.Prelude.{◌≡◌, ◌+◌, ◌-◌, ◌^◌, ◌<◌, ◌≤◌};
 ghost use Rattle.processor.specs.Instructions.{bits};
-ghost use Rattle.processor.specs.Regions.{IsWidth};
 ghost use Rattle.reference.specs.Relocations as spec;
 ghost use Rattle.relocated_fields.specs.Fields.{field_view};
 
@@ -45,17 +44,6 @@ pub(crate) fn field_of(kind: RelocationKind) -> Field
         RelocationKind::PcrelHi20 | RelocationKind::Hi20 => Field::Upper,
         RelocationKind::PcrelLo12I | RelocationKind::Lo12I => Field::Immediate,
         RelocationKind::PcrelLo12S | RelocationKind::Lo12S => Field::Store,
-    }
-}
-
-/// The bytes of the word in which the field stands.
-pub(crate) fn width(field: Field) -> u8
-    ensures value { result ≡ spec.field_width (field_view field) }
-    ensures width { IsWidth result }
-{
-    match field {
-        Field::DoubleWord => 8,
-        _ => 4,
     }
 }
 

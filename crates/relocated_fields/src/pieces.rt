@@ -5,11 +5,13 @@ ghost use Rattle.processor.specs.Bytes.{page_size};
 ghost use Rattle.reference.specs.Relocations as spec;
 ghost use Rattle.relocated_fields.specs.Pieces.{lies_in, site_from, piece_sites, IsAligned};
 ghost use Rattle.relocated_fields.specs.Steps.{cleared_in_piece, right_in_piece};
-ghost use Rattle.relocated_fields.specs.Fields.{field_end};
+ghost use Rattle.processor.specs.Regions.{IsWidth};
+ghost use Rattle.sv_types.specs.Policies.{field_end};
 
-use crate::field::{field_bits, field_of, in_field, value_fits, width};
+use crate::field::{field_bits, field_of, in_field, value_fits};
 use crate::value::site_value;
 use host_mem::{put_word, word_at};
+use policy_limits::site_size;
 use sv_types::{Bases, Export, Site};
 
 // Whether a field begins in the piece of `size` bytes at `first`.
@@ -30,6 +32,15 @@ fn site_from(first: u32, site: &Site) -> Site
     }
 }
 
+// The bytes of a site's field.
+#[tactic(auto, using(reference::proofs::FieldWidths::sizes))]
+fn width_of(site: &Site) -> u8
+    ensures value { result ≡ spec.width_of site.now }
+    ensures width { IsWidth result }
+{
+    site_size(site.kind) as u8
+}
+
 #[tactic(auto, unfolding(reference::specs::Relocations::clear_field))]
 fn clear_field(text: &mut [u8], site: &Site)
     requires { field_end site.now ≤ length text.old }
@@ -37,8 +48,8 @@ fn clear_field(text: &mut [u8], site: &Site)
 {
     let field = field_of(site.kind);
     let at = site.offset as usize;
-    let word = word_at(text, at, width(field));
-    put_word(text, at, width(field), word & !field_bits(field));
+    let word = word_at(text, at, width_of(site));
+    put_word(text, at, width_of(site), word & !field_bits(field));
 }
 
 #[tactic(auto, unfolding(reference::specs::Relocations::field_right))]
@@ -48,7 +59,7 @@ fn field_right(text: &[u8], site: &Site, bases: &Bases, exports: &[Export]) -> b
 {
     let field = field_of(site.kind);
     let value = site_value(exports, bases, site);
-    let word = word_at(text, site.offset as usize, width(field));
+    let word = word_at(text, site.offset as usize, width_of(site));
     word & field_bits(field) == in_field(field, value) && value_fits(field, value)
 }
 

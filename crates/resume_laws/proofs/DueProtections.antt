@@ -1,5 +1,6 @@
 -- Protections that are the due ones, page by page.
 use Rattle.std.proofs.Common.{◌≡◌, ℕ, suc, ◌+◌, ◌<◌, List, [], ◌∷◌, length, map, refl, sym, ◌∙◌, ap, subst, Bool, true, false, arith}
+use Rattle.sv_types.proofs.Sums.{plus_none}
 use Rattle.std.specs.Prelude.{Option, Some, None}
 use Rattle.sv_types.specs.ApprovedPages.{numbers_from}
 use Rattle.sv_types.specs.declared.protection.Protection.{Protection}
@@ -45,9 +46,6 @@ listed f first (p ∷ ps) each =
     ap (λ (x : Protection). x ∷ map f (numbers_from (first + 1) (length ps))) (ap f (plus_none first) ∙ sym (each 0 (omega arith)))
     ∙ ap (λ (rest : List Protection). p ∷ rest) (listed f (first + 1) ps (λ i below. each (suc i) (omega (arith, below)) ∙ ap f (plus_next first i)))
   where
-    plus_none : (first : ℕ) → first ≡ first + 0
-    plus_none first = omega arith
-
     plus_next : (first i : ℕ) → first + suc i ≡ first + 1 + i
     plus_next first i = omega arith
 

@@ -1,5 +1,6 @@
 -- The harts in which a machine goes on, with the load under way, the notes, the verdict and the clock.
 use Rattle.std.proofs.Common.{◌≡◌, ℕ, zero, suc, ◌+◌, ◌-◌, ◌*◌, ◌%◌, ◌^◌, ◌<◌, ◌≤◌, List, [], ◌∷◌, ◌++◌, length, map, min, drop, replicate, refl, ◌∙◌, ap, subst, Bool, true, false, not, ◌&&◌, ◌||◌, arith, slice_get, length-append}
+use Rattle.sv_types.specs.Limits.{most_notes}
 use Rattle.std.specs.Prelude.{Option, Some, None, option_map, is_some, ◌==◌, nat_lt, nat_le, slice_index}
 use Rattle.std.specs.List.{list_all}
 use Rattle.std.proofs.lemmas.Bool.{eqb-true, not-true}
@@ -299,10 +300,10 @@ verdict_kept n (Stopped (Write pc gpa) h turn) e =
 pub journal_kept : (n all : ℕ) (ns : List Note) (v : Verdict) → (notes n all).has ns ≡ true → (verdict n).has v ≡ true → IsKeepableJournal n ns all v
 unfolding notes
 journal_kept n all ns v h e =
-    let count = first_true (is_word (length ns) && length ns == min 4096 all) _ h in
+    let count = first_true (is_word (length ns) && length ns == min most_notes all) _ h in
     record {
-      number = eqb-true (length ns) (min 4096 all) (second_true (is_word (length ns)) _ count);
-      each = each_note n (length ns) [] ns (second_true (is_word (length ns) && length ns == min 4096 all) _ h);
+      number = eqb-true (length ns) (min most_notes all) (second_true (is_word (length ns)) _ count);
+      each = each_note n (length ns) [] ns (second_true (is_word (length ns) && length ns == min most_notes all) _ h);
       last = verdict_kept n v e;
     }
 

@@ -1,5 +1,6 @@
 -- The pages of the state in which a machine goes on: whose they are, and that they hold what they should.
 use Rattle.std.proofs.Common.{◌≡◌, ℕ, zero, suc, ◌+◌, ◌*◌, ◌/◌, ◌%◌, ◌<◌, ◌≤◌, ◌⊎◌, inl, inr, List, [], ◌∷◌, ◌++◌, length, refl, sym, ◌∙◌, ap, subst, Bool, true, false, ◌&&◌, ◌||◌, arith, slice_get}
+use Rattle.sv_types.proofs.TruthValues.{or_assoc}
 use Rattle.std.specs.Prelude.{Option, Some, None, option_map, is_some, if◌then◌else◌, ◌==◌, nat_lt, nat_le}
 use Rattle.std.specs.List.{list_all}
 use Rattle.std.proofs.lemmas.Bool.{eqb-true, or_cases}
@@ -21,7 +22,7 @@ use Rattle.snapshot_form.proofs.FormLaws.{first_true, second_true}
 use Rattle.resumption.specs.Judgements.{page_numbers, loaded_pages, fits}
 use Rattle.resume_laws.specs.Keepable.{AreAligned, AscendFrom}
 use Rattle.resume_laws.proofs.FormParts.{below_is, most_is, last_of}
-use Rattle.resume_laws.proofs.TakenPages.{Taking, AllBelow, taken_in_two, length_taken, apart, or_true}
+use Rattle.resume_laws.proofs.TakenPages.{Taking, AllBelow, taken_in_two, length_taken, apart, or_true, behind_page}
 use Rattle.run_laws.proofs.Lookups.{approved_alone, numbers_bounds, above_less}
 
 -- ---- text
@@ -29,11 +30,6 @@ use Rattle.run_laws.proofs.Lookups.{approved_alone, numbers_bounds, above_less}
 aligned_number : (size n : ℕ) → (multiple_of size).has n ≡ true → n % size ≡ 0
 unfolding multiple_of
 aligned_number size n h = eqb-true (n % size) 0 (second_true (is_word n) (n % size == 0) h)
-
--- where the next page may stand
-abbrev behind_page : Option ℕ → ℕ
-behind_page None = 0
-behind_page (Some page) = page + 1
 
 above_is : (last : Option ℕ) (n : ℕ) → is_above last n ≡ true → behind_page last ≤ n
 above_is None n e = omega arith
@@ -170,7 +166,7 @@ fits_is rules m e =
 pub place_aligned : (gpa : ℕ) → ram_base ≤ gpa → gpa % page_size ≡ 0 → ram_place gpa % page_size ≡ 0
 place_aligned gpa base whole = omega (arith, base, whole)
 
-pub page_inside : (place n pages page : ℕ) → place % 4096 ≡ 0 → place + 4096 * n ≤ 4096 * pages → page < place / 4096 + n → page < pages
+pub page_inside : (place n pages page : ℕ) → place % page_size ≡ 0 → place + page_size * n ≤ page_size * pages → page < place / page_size + n → page < pages
 page_inside place n pages page whole fits less = omega (arith, whole, fits, less)
 
 pub module_inside : (rules : Rules) (m : SavedModule) → Fits rules m → m.gpa % page_size ≡ 0 → AllBelow rules.ram_pages (module_pages rules m)
@@ -182,11 +178,7 @@ module_inside rules m k whole page there =
 
 has_either : (xs ys : List ℕ) (page : ℕ) → has_number (xs ++ ys) page ≡ (has_number xs page || has_number ys page)
 has_either [] ys page = refl
-has_either (x ∷ xs) ys page = ap (λ (b : Bool). (x == page) || b) (has_either xs ys page) ∙ regroup (x == page) (has_number xs page) (has_number ys page)
-  where
-    regroup : (a b c : Bool) → (a || (b || c)) ≡ ((a || b) || c)
-    regroup true b c = refl
-    regroup false b c = refl
+has_either (x ∷ xs) ys page = ap (λ (b : Bool). (x == page) || b) (has_either xs ys page) ∙ or_assoc (x == page) (has_number xs page) (has_number ys page)
 
 pub in_first : (xs ys : List ℕ) (page : ℕ) → has_number xs page ≡ true → has_number (xs ++ ys) page ≡ true
 in_first xs ys page e = has_either xs ys page ∙ ap (λ (b : Bool). b || has_number ys page) e

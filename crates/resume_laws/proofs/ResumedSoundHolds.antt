@@ -1,5 +1,6 @@
 -- The state in which a machine goes on from a snapshot that isn't refused is sound.
-use Rattle.std.proofs.Common.{◌≡◌, ℕ, zero, suc, ◌+◌, ◌*◌, ◌<◌, ◌≤◌, inl, inr, List, [], ◌∷◌, length, map, replicate, refl, sym, ◌∙◌, ap, subst, Bool, true, false, not, ◌&&◌, ◌||◌, slice_get, arith}
+use Rattle.std.proofs.Common.{◌≡◌, ℕ, zero, suc, ◌*◌, ◌<◌, ◌≤◌, inl, inr, List, [], ◌∷◌, length, map, replicate, refl, sym, ◌∙◌, ap, subst, Bool, true, false, not, ◌&&◌, ◌||◌, slice_get}
+use Rattle.sv_types.proofs.Sums.{nothing_plus}
 use Rattle.std.specs.Prelude.{Option, Some, None, option_map, if◌then◌else◌, ◌==◌, nat_le, IsTrue}
 use Rattle.std.specs.List.{list_all}
 use Rattle.std.proofs.lemmas.Slice.Eq.{bytes_eq-Decides}
@@ -280,9 +281,6 @@ protections_are rules s k =
     let f : ℕ → Protection = protection_in (approved_pages s.ram (approved_of rules s)) (load_pages rules s.loading) in
     ap (λ (n : ℕ). map f (numbers_from 0 n)) (sym k.policy.pages)
     ∙ listed f 0 s.protection (λ i below. protection_is rules s i k ∙ ap f (nothing_plus i))
-  where
-    nothing_plus : (i : ℕ) → i ≡ 0 + i
-    nothing_plus i = omega arith
 
 -- ---- the disk
 

@@ -1,5 +1,6 @@
 -- What was saved of a state isn't refused.
 use Rattle.std.proofs.Common.{◌≡◌, ℕ, zero, suc, ◌+◌, ◌-◌, ◌*◌, ◌/◌, ◌%◌, ◌<◌, ◌≤◌, List, [], ◌∷◌, length, map, replicate, refl, sym, ◌∙◌, ap, subst, Bool, true, false, not, ◌&&◌, ◌||◌, arith, slice_get}
+use Rattle.sv_types.proofs.Sums.{nothing_plus}
 use Rattle.std.specs.Prelude.{Option, Some, None, option_map, is_some, if◌then◌else◌, ◌==◌, nat_lt, nat_le, IsTrue}
 use Rattle.std.specs.List.{list_all}
 use Rattle.std.proofs.lemmas.Bool.{eq-eqb, and_from}
@@ -65,7 +66,7 @@ all_bound rules clock h (hart ∷ harts) sound =
     (all_bound rules clock (h + 1) harts (λ i x at. sound (suc i) x at))
 
 -- the last page of a module lies in RAM, so all of them do
-room_by : (place n pages : ℕ) → place % 4096 ≡ 0 → 1 ≤ n → place / 4096 + (n - 1) < pages → place + 4096 * n ≤ 4096 * pages
+room_by : (place n pages : ℕ) → place % page_size ≡ 0 → 1 ≤ n → place / page_size + (n - 1) < pages → place + page_size * n ≤ page_size * pages
 room_by place n pages whole some inside = omega (arith, whole, some, inside)
 
 last_in : (first n : ℕ) → 1 ≤ n → has_number (numbers_from first n) (first + (n - 1)) ≡ true
@@ -222,9 +223,6 @@ first_taken r c sound a =
       at = at;
       free = λ page there. ap is_free (at page) ∙ ap (λ (b : Bool). is_free (either_one b Approved Free)) (held_free r r.loading page sound.load there);
     }
-
-nothing_plus : (i : ℕ) → i ≡ 0 + i
-nothing_plus i = omega arith
 
 -- and what they leave are the state's protections
 last_is : (r : State) (c : Contents) (last : List Protection) → (k : TakenTwice r c) → Holds r → Taking Held k.mid r.held last → last ≡ saved_protections r

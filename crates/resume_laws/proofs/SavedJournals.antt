@@ -88,12 +88,12 @@ pub notes_have : (harts all : ℕ) (ns : List Note) (v : Verdict) → IsKeepable
     → (notes harts all).has ns ≡ true
 unfolding notes
 notes_have harts all ns v k words =
-    let few : length ns ≤ 4096 = least (length ns) all k.number in
+    let few : length ns ≤ most_notes = least (length ns) all k.number in
     both_true _ (has_all (λ before. note harts) [] (length ns) ns)
     (both_true (is_word (length ns)) (length ns == min most_notes all) (small_word (length ns) (omega (arith, few))) (eq-eqb (length ns) (min most_notes all) k.number))
     (notes_each harts [] ns k.each words)
   where
-    least : (n all : ℕ) → n ≡ min most_notes all → n ≤ 4096
+    least : (n all : ℕ) → n ≡ min most_notes all → n ≤ most_notes
     least n all e = omega (arith, e)
 
 -- ---- the verdict

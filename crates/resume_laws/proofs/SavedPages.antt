@@ -26,7 +26,7 @@ use Rattle.run_laws.proofs.Lookups.{all_found}
 use Rattle.resume_laws.specs.Keepable.{AreAligned, AscendFrom, IsKeepableLoad, MayGoOn}
 use Rattle.resume_laws.proofs.FormParts.{last_of, least_is, less_is, small_word}
 use Rattle.resume_laws.proofs.SavedHarts.{aligned_has, word_at, words_behind}
-use Rattle.resume_laws.proofs.TakenPages.{AllBelow, tail_below, head_below}
+use Rattle.resume_laws.proofs.TakenPages.{AllBelow, tail_below, head_below, behind_page}
 use Rattle.std.proofs.lemmas.Bool.{eqb-true}
 use Rattle.sv_types.proofs.PolicyLimits.{few_modules}
 
@@ -49,11 +49,7 @@ protections_have ps = each_has [] ps
 
 -- ---- ascending numbers
 
-abbrev behind : Option ℕ → ℕ
-behind None = 0
-behind (Some last) = last + 1
-
-above_is : (last : Option ℕ) (n : ℕ) → behind last ≤ n → is_above last n ≡ true
+above_is : (last : Option ℕ) (n : ℕ) → behind_page last ≤ n → is_above last n ≡ true
 above_is None n e = refl
 above_is (Some last) n e = less_is last n (omega (arith, e))
 
@@ -71,7 +67,7 @@ length_numbers (t ∷ ts) = ap suc (length_numbers ts)
 
 -- ---- text
 
-text_each : (pages : ℕ) (before ts : List TextPage) (last : Option ℕ) → last_page before ≡ last → pages ≤ 262144 → AscendFrom (behind last) (page_numbers ts)
+text_each : (pages : ℕ) (before ts : List TextPage) (last : Option ℕ) → last_page before ≡ last → pages ≤ 262144 → AscendFrom (behind_page last) (page_numbers ts)
     → AllBelow pages (page_numbers ts) → list_all is_typed_page ts ≡ true → has_all (text_page pages) before (length ts) ts ≡ true
 unfolding has_all text_page
 text_each pages before [] last at few up below typed = refl
@@ -131,7 +127,7 @@ module_has good m id k va words =
     (both_true ((multiple_of page_size).has m.va) _ (aligned_has page_size m.va (word_at (module_numbers m) 2 m.va words refl) va)
     (word_at (module_numbers m) 3 m.data_va words refl)))
 
-modules_each : (before ms : List SavedModule) (last : Option ℕ) → last_id before ≡ last → AscendFrom (behind last) (ids_of ms)
+modules_each : (before ms : List SavedModule) (last : Option ℕ) → last_id before ≡ last → AscendFrom (behind_page last) (ids_of ms)
     → ((i : ℕ) (m : SavedModule) → slice_get ms i ≡ Some m → IsGoodModule m) → AreAligned ms
     → list_all is_typed_module ms ≡ true → has_all next_module before (length ms) ms ≡ true
 unfolding has_all

@@ -1,5 +1,5 @@
 -- What was saved of a state leads back to it.
-use Rattle.std.proofs.Common.{◌≡◌, ℕ, zero, suc, ◌+◌, ◌-◌, ◌*◌, ◌<◌, ◌≤◌, inl, inr, List, [], ◌∷◌, ◌++◌, length, map, drop, replicate, refl, sym, ◌∙◌, ap, subst, Bool, true, false, not, ◌&&◌, arith}
+use Rattle.std.proofs.Common.{◌≡◌, ℕ, zero, suc, ◌+◌, ◌-◌, ◌*◌, ◌<◌, ◌≤◌, inl, inr, List, [], ◌∷◌, ◌++◌, length, map, drop, replicate, refl, sym, ◌∙◌, ap, subst, Bool, true, false, not, ◌&&◌, arith, add-one}
 use Rattle.std.specs.Prelude.{Option, Some, None, option_map, is_some, if◌then◌else◌, ◌==◌, slice_index}
 use Rattle.std.proofs.lemmas.List.{append-nil}
 use Rattle.processor.specs.Bits.{flag}
@@ -87,15 +87,12 @@ timers_by clock h [] rest at few never =
     ap (λ (n : ℕ). replicate n latest) whole ∙ all_latest rest (λ k below. never k (omega arith) below)
 timers_by clock h (hart ∷ harts) [] at few never = absurd (omega (arith, few))
 timers_by clock h (hart ∷ harts) (t ∷ rest) at few never =
-    let next : drop (h + 1) clock.timers ≡ rest = subst (λ (n : ℕ). drop n clock.timers ≡ rest) (one_more h) (drop_next clock.timers rest h t at) in
+    let next : drop (h + 1) clock.timers ≡ rest = subst (λ (n : ℕ). drop n clock.timers ≡ rest) (sym (add-one h)) (drop_next clock.timers rest h t at) in
     let left : suc (length rest) - suc (length harts) ≡ length rest - length harts = omega arith in
     ap (λ (n : ℕ). timer_of clock h ∷ (timers_from clock (h + 1) harts ++ replicate n latest)) left
     ∙ ap (λ (n : ℕ). n ∷ (timers_from clock (h + 1) harts ++ replicate (length rest - length harts) latest)) (index_here clock.timers rest h t at)
     ∙ ap (λ (more : List ℕ). t ∷ more)
     (timers_by clock (h + 1) harts rest next (omega (arith, few)) (λ k past below. never (suc k) (omega (arith, past)) (omega (arith, below))))
-  where
-    one_more : (h : ℕ) → suc h ≡ h + 1
-    one_more h = omega arith
 
 timers_back : (clock : Clock) (harts : List Hart) → length harts ≤ 4 → IsKeepableClock (length harts) clock → timers_of (saved_harts clock 0 harts) ≡ clock.timers
 timers_back clock harts few k =

@@ -1,6 +1,6 @@
 -- Pages that were taken one after the other: which protection they have, and that each was free.
-use Rattle.std.proofs.Common.{◌≡◌, ℕ, zero, suc, ◌<◌, List, [], ◌∷◌, ◌++◌, length, refl, sym, ◌∙◌, ap, subst, Bool, true, false, ◌||◌, arith, slice_set}
-use Rattle.std.specs.Prelude.{Some, None, if◌then◌else◌, ◌==◌}
+use Rattle.std.proofs.Common.{◌≡◌, ℕ, zero, suc, ◌+◌, ◌<◌, List, [], ◌∷◌, ◌++◌, length, refl, sym, ◌∙◌, ap, subst, Bool, true, false, ◌||◌, arith, slice_set}
+use Rattle.std.specs.Prelude.{Option, Some, None, if◌then◌else◌, ◌==◌}
 use Rattle.std.proofs.lemmas.Bool.{eqb-true, eqb-false}
 use Rattle.std.proofs.lemmas.List.{length-set}
 use Rattle.sv_types.specs.declared.protection.Protection.{Protection}
@@ -34,6 +34,11 @@ pub first_taken : (p : Protection) (guard after : List Protection) (page : ℕ) 
 first_taken p guard after page pages e = free_first p guard after page pages (is_free (protection_at guard page)) refl e
 
 -- ---- all of them
+
+-- where the next number of an ascending list may stand
+abbrev pub behind_page : Option ℕ → ℕ
+behind_page None = 0
+behind_page (Some page) = page + 1
 
 -- they lie in RAM
 abbrev pub AllBelow : ℕ → List ℕ → Type 0

@@ -1,8 +1,8 @@
 -- Pages that are approved some at a time, as the judgement of a snapshot's pages asks.
-use Rattle.std.proofs.Common.{◌≡◌, ℕ, zero, suc, ◌+◌, ◌*◌, ◌/◌, ◌<◌, ◌≤◌, List, [], ◌∷◌, ◌++◌, length, drop, get_or, replicate, refl, sym, ◌∙◌, ap, subst, Bool, true, false, arith, slice_get}
+use Rattle.std.proofs.Common.{◌≡◌, ℕ, zero, suc, ◌*◌, ◌/◌, ◌<◌, List, [], ◌∷◌, ◌++◌, length, drop, get_or, replicate, refl, sym, ◌∙◌, ap, subst, Bool, true, false, arith}
 use Rattle.std.specs.Prelude.{Option, Some, None, is_some}
 use Rattle.std.specs.List.{list_all}
-use Rattle.processor.specs.Bytes.{page_of, page_size}
+use Rattle.processor.specs.Bytes.{page_size}
 use Rattle.sv_types.specs.ApprovedPages.{numbers_from}
 use Rattle.sv_types.specs.Policies.{Rules}
 use Rattle.sv_types.specs.declared.module.Span.{Span}
@@ -10,16 +10,15 @@ use Rattle.sv_types.specs.declared.protection.Protection.{Protection}
 use Rattle.sv_types.specs.declared.protection.Protection.TheVariants.{Free, Held, Approved}
 use Rattle.sv_types.specs.declared.saved.SavedModule.{SavedModule}
 use Rattle.reference.specs.Protections.{with_pages}
-use Rattle.reference.specs.States.{module_pages, pages_in_rule}
+use Rattle.reference.specs.States.{module_pages}
 use Rattle.page_guard.specs.Guarded.{first_taken, with_span}
 use Rattle.snapshot_form.specs.Snapshots.{Contents}
 use Rattle.snapshot_form.specs.declared.whole.TextPage.{TextPage}
 use Rattle.snapshot_form.proofs.FormLaws.{first_true, second_true}
-use Rattle.resumption.specs.Judgements.{approved_of, fits, guard_due, is_due, is_guarded_right, load_pages, loaded_pages, take_pages, text_left, then_held}
+use Rattle.resumption.specs.Judgements.{approved_of, guard_due, is_due, is_guarded_right, load_pages, loaded_pages, take_pages, text_left, then_held}
 use Rattle.resumption.specs.Taking.{left_of}
 use Rattle.resumption.proofs.TakenSpans.{span_twice, taken_none, taken_span}
 use Rattle.resumption.proofs.TakenLoops.{modules_break, none_behind, some_behind, text_breaks}
-use Rattle.resume_laws.proofs.ResumedPages.{fits_is}
 use Rattle.resume_laws.proofs.DueProtections.{all_same}
 use Rattle.resumed_parts.specs.Approving.{Approves, CanApprove, CanTake}
 
@@ -71,11 +70,6 @@ unfolding first_taken
 span_busy p guard span q free found =
     let none : take_pages p guard (numbers_from span.first span.count) ≡ None = taken_none p guard (numbers_from span.first span.count) q found in
     let gone : is_some (take_pages p guard (numbers_from span.first span.count)) ≡ false = ap is_some none in cc
-
--- a module's pages lie in RAM
-pub module_inside : (rules : Rules) (m : SavedModule) (n : ℕ) → fits rules m ≡ true → n ≡ rules.ram_pages → page_of m.gpa + pages_in_rule (slice_get rules.modules m.id) ≤ n
-module_inside rules m n fit same =
-    let inside = (fits_is rules m fit).inside in omega (arith, inside, same)
 
 -- ---- what the judgement says
 

@@ -10,7 +10,7 @@ use Rattle.sv_types.specs.declared.module.Site.{Site}
 use Rattle.sv_types.specs.declared.protection.Protection.{Protection}
 use Rattle.sv_types.specs.declared.protection.Protection.TheVariants.{Held}
 use Rattle.sv_types.specs.declared.saved.SavedModule.{SavedModule}
-use Rattle.reference.specs.Protections.{with_pages}
+use Rattle.reference.specs.Protections.{with_pages, is_taken}
 use Rattle.reference.specs.Relocations.{fields_right}
 use Rattle.reference.specs.States.{Loading, module_pages, pages_in_rule}
 use Rattle.machine_model.specs.HostExits.{load_counted}
@@ -20,10 +20,10 @@ use Rattle.answer_laws.proofs.SitesInPages.{below}
 use Rattle.answer_laws.proofs.LoadsMirrored.{about_is, left_is, kept_next}
 use Rattle.saved_machine.specs.declared.whole.SavedLoad.{SavedLoad}
 use Rattle.page_guard.specs.Guarded.{with_span}
-use Rattle.module_gate.specs.Gates.{PageTurns, new_load, host_load, is_good_place, is_taken, load_span, next_counted}
+use Rattle.module_gate.specs.Gates.{PageTurns, new_load, host_load, is_good_place, load_span, next_counted}
 use Rattle.module_answers.proofs.LoadTurns.{counted_is}
 use Rattle.resumption.specs.Judgements.{fits, take_pages}
-use Rattle.resumption.proofs.TakenSpans.{is_busy, taken_none, taken_span}
+use Rattle.resumption.proofs.TakenSpans.{taken_none, taken_span}
 use Rattle.resume_laws.proofs.ResumedPages.{fits_is, place_aligned}
 use Rattle.resumed_start.specs.Resuming.{load_resumed}
 use Rattle.resumed_parts.specs.Approving.{CanTake}
@@ -33,7 +33,7 @@ use Rattle.standing_laws.proofs.Loads.{there_is}
 -- ---- the text
 
 -- whole pages that begin with a page end where their bytes end
-pub pages_inside : (place pages size : ℕ) → place % 4096 ≡ 0 → place + 4096 * pages ≤ size → 4096 * (place / 4096 + pages) ≤ size
+pub pages_inside : (place pages size : ℕ) → place % page_size ≡ 0 → place + page_size * pages ≤ size → page_size * (place / page_size + pages) ≤ size
 pages_inside place pages size aligned inside = omega (arith, aligned, inside)
 
 -- ---- a load with one page more
@@ -132,14 +132,14 @@ found_any : (test : ℕ → Bool) (xs : List ℕ) → find test xs ≡ None → 
 found_any test [] none = refl
 found_any test (x ∷ xs) none = any_by (test x) (list_any test xs) x (find test xs) (found_any test xs) none
 
-none_by : (p : Protection) (guard : List Protection) (pages : List ℕ) (x : Option ℕ) → find (is_busy guard) pages ≡ x → CanTake p guard pages → x ≡ None
+none_by : (p : Protection) (guard : List Protection) (pages : List ℕ) (x : Option ℕ) → find (is_taken guard) pages ≡ x → CanTake p guard pages → x ≡ None
 none_by p guard pages None found free = refl
 none_by p guard pages (Some q) found free =
     let none : take_pages p guard pages ≡ None = taken_none p guard pages q found in
     let gone : is_some (take_pages p guard pages) ≡ false = ap is_some none in absurd cc
 
-none_busy : (p : Protection) (guard : List Protection) (pages : List ℕ) → CanTake p guard pages → find (is_busy guard) pages ≡ None
-none_busy p guard pages free = none_by p guard pages (find (is_busy guard) pages) refl free
+none_busy : (p : Protection) (guard : List Protection) (pages : List ℕ) → CanTake p guard pages → find (is_taken guard) pages ≡ None
+none_busy p guard pages free = none_by p guard pages (find (is_taken guard) pages) refl free
 
 -- the place is a good one
 pub good_place : (rules : Rules) (ram : List ℕ) (guard : List Protection) (load : SavedLoad) → IsWithin rules load → length ram ≡ page_size * rules.ram_pages
@@ -154,7 +154,7 @@ good_place rules ram guard load within size free =
     let va : (m.va % page_size == 0) ≡ true = eq-eqb (m.va % page_size) 0 within.va in
     let base : nat_le ram_base m.gpa ≡ true = let b = fit.base in grind (arith, nat_tests) in
     let end : nat_le (ram_place m.gpa + page_size * n) (length ram) ≡ true = let e = fit.inside in let room : ram_place m.gpa + page_size * n ≤ length ram = omega (arith, e, size) in grind (arith, nat_tests) in
-    let none : list_any (is_taken guard) (module_pages rules m) ≡ false = found_any (is_busy guard) (module_pages rules m) (none_busy Held guard (module_pages rules m) free) in
+    let none : list_any (is_taken guard) (module_pages rules m) ≡ false = found_any (is_taken guard) (module_pages rules m) (none_busy Held guard (module_pages rules m) free) in
     rw (gpa, va, base, end, none) refl
 
 -- the pages that it takes

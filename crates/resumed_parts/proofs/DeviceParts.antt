@@ -1,5 +1,5 @@
 -- The devices that a snapshot says.
-use Rattle.std.proofs.Common.{◌≡◌, ℕ, suc, ◌+◌, ◌-◌, ◌*◌, ◌/◌, ◌<◌, ◌≤◌, List, [], ◌∷◌, ◌++◌, length, drop, get_or, refl, sym, ◌∙◌, ap, Bool, true, false, not, ◌&&◌, ◌||◌, arith, slice_get, length-append}
+use Rattle.std.proofs.Common.{◌≡◌, ℕ, suc, ◌+◌, ◌*◌, ◌/◌, ◌<◌, ◌≤◌, List, [], ◌∷◌, ◌++◌, length, drop, get_or, refl, sym, ◌∙◌, ap, Bool, true, false, not, ◌&&◌, ◌||◌, arith, slice_get, length-append}
 use Rattle.std.specs.Prelude.{nat_le, if◌then◌else◌}
 use Rattle.std.proofs.lemmas.Bool.Decides.{nat_tests}
 use Rattle.std.proofs.lemmas.List.{append-nil, drop_more, drop_all}
@@ -10,7 +10,7 @@ use Rattle.sv_types.specs.declared.virtio.VirtioState.{VirtioState}
 use Rattle.reference.specs.BlockDisk.{is_busy, sector_size}
 use Rattle.reference.specs.States.{Devices}
 use Rattle.saved_machine.specs.declared.harts.SavedHart.{SavedHart}
-use Rattle.snapshot_form.specs.DeviceForms.{block, block_in, console, devices, disk, holds_transfer, port}
+use Rattle.snapshot_form.specs.DeviceForms.{block_in, console, devices, disk, holds_transfer, port}
 use Rattle.snapshot_form.specs.Forms.{is_word}
 use Rattle.snapshot_form.proofs.FormLaws.{first_true, second_true}
 use Rattle.devices.specs.BlockRegisters.{IsSound}

@@ -8,7 +8,7 @@ ghost use Rattle.sv_types.specs.Policies.{rules_of};
 ghost use Rattle.sv_types.specs.declared.protection.Protection.TheVariants.{Free};
 ghost use Rattle.gstage_tables.specs.Layout.{most_bound, table_size};
 ghost use Rattle.reference.specs.States.{module_pages};
-ghost use Rattle.page_guard.specs.Guarded.{IsInRam, IsTheirs, StaysTheirs};
+ghost use Rattle.page_guard.specs.Guarded.{IsInRam, IsTheirs, StaysTheirs, Guards};
 ghost use Rattle.snapshot_form.specs.Snapshots.{contents};
 ghost use Rattle.resumption.specs.Judgements.{approved_of, fits, is_guarded_right, loaded_pages};
 ghost use Rattle.resumption.specs.Taking.{left_of};
@@ -39,8 +39,7 @@ pub fn approved_guard(
     requires modules { list_all (fits (rules_of policy.now)) (contents snapshot.now).modules ≡ true }
     requires right { is_guarded_right (rules_of policy.now) (contents snapshot.now) ≡ true }
     ensures guard { IfOk result (λ g. Approves (replicate policy.now.ram_pages Free) g.pages (approved_of (rules_of policy.now) (contents snapshot.now))) }
-    ensures bound { IfOk result (λ g. g.bound ≡ bound.now) }
-    ensures theirs { IfOk result (λ g. IsTheirs mem.new g) }
+    ensures guards { IfOk result (λ g. Guards mem.new bound.now g) }
     ensures ram { mem.new.ram ≡ mem.old.ram }
 {
     let mut guard = Guard::new(alloc, mem, bound)?;

@@ -1,12 +1,12 @@
 -- An ascending list is what a test for its numbers picks from all numbers.
-use Rattle.std.proofs.Common.{◌≡◌, ℕ, zero, suc, ◌+◌, ◌<◌, ◌≤◌, List, [], ◌∷◌, filter, refl, sym, ◌∙◌, ap, subst, Bool, true, false, ◌||◌, arith}
+use Rattle.std.proofs.Common.{◌≡◌, ℕ, zero, suc, ◌+◌, ◌<◌, ◌≤◌, List, [], ◌∷◌, filter, refl, sym, ◌∙◌, ap, subst, Bool, true, false, arith}
 use Rattle.std.specs.Prelude.{◌==◌}
 use Rattle.std.proofs.lemmas.Bool.{eq-eqb, eqb-true, ne_eqb}
 use Rattle.sv_types.specs.ApprovedPages.{numbers_from}
 use Rattle.reference.specs.States.{has_number}
 use Rattle.resume_laws.specs.Keepable.{AscendFrom}
 use Rattle.resume_laws.proofs.TakenAgain.{not_below}
-use Rattle.resume_laws.proofs.TakenPages.{or_true}
+use Rattle.resume_laws.proofs.TakenPages.{AllBelow, head_below, tail_below}
 use Rattle.run_laws.proofs.Lookups.{both, same_number}
 
 -- ---- what a test picks
@@ -26,16 +26,7 @@ picked_none first (suc n) = picked_none (first + 1) n
 rest_same : (page k : ℕ) (pages : List ℕ) → page + 1 ≤ k → has_number (page ∷ pages) k ≡ has_number pages k
 rest_same page k pages past = rw (ne_eqb page k (λ same. omega (arith, same, past))) refl
 
-abbrev LieBelow : ℕ → List ℕ → Type 0
-LieBelow end pages = (page : ℕ) → has_number pages page ≡ true → page < end
-
 -- the rest of an ascending list lies below the same end
-rest_below : (end page : ℕ) (pages : List ℕ) → LieBelow end (page ∷ pages) → LieBelow end pages
-rest_below end page pages below k there = below k (ap (λ (b : Bool). (page == k) || b) there ∙ or_true (page == k))
-
-first_below : (end page : ℕ) (pages : List ℕ) → LieBelow end (page ∷ pages) → page < end
-first_below end page pages below = below page (ap (λ (b : Bool). b || has_number pages page) (same_number page))
-
 -- the first number is taken where it is the list's, and passed over where it is before it
 picked_here : (first n : ℕ) (pages : List ℕ) → filter (has_number pages) (numbers_from (first + 1) n) ≡ pages
     → filter (has_number (first ∷ pages)) (numbers_from first (suc n)) ≡ first ∷ pages
@@ -54,26 +45,26 @@ later first page pages other least up =
 
 -- the numbers from the next one on pick what is left
 abbrev PicksNext : ℕ → ℕ → Type 0
-PicksNext first n = (pages : List ℕ) → AscendFrom (first + 1) pages → LieBelow (first + 1 + n) pages → filter (has_number pages) (numbers_from (first + 1) n) ≡ pages
+PicksNext first n = (pages : List ℕ) → AscendFrom (first + 1) pages → AllBelow (first + 1 + n) pages → filter (has_number pages) (numbers_from (first + 1) n) ≡ pages
 
 next_end : (first n k : ℕ) → k < first + suc n → k < first + 1 + n
 next_end first n k less = omega (arith, less)
 
-picked_by : (first n page : ℕ) (pages : List ℕ) (here : Bool) → (page == first) ≡ here → AscendFrom first (page ∷ pages) → LieBelow (first + suc n) (page ∷ pages)
+picked_by : (first n page : ℕ) (pages : List ℕ) (here : Bool) → (page == first) ≡ here → AscendFrom first (page ∷ pages) → AllBelow (first + suc n) (page ∷ pages)
     → PicksNext first n → filter (has_number (page ∷ pages)) (numbers_from first (suc n)) ≡ page ∷ pages
 picked_by first n page pages true at up below next =
     let same : page ≡ first = eqb-true page first at in
     subst (λ (k : ℕ). filter (has_number (k ∷ pages)) (numbers_from first (suc n)) ≡ k ∷ pages) (sym same)
     (picked_here first n pages (next pages (subst (λ (k : ℕ). AscendFrom (k + 1) pages) same up.1)
-    (λ k there. next_end first n k (rest_below (first + suc n) page pages below k there))))
+    (λ k there. next_end first n k (tail_below (first + suc n) page pages below k there))))
 picked_by first n page pages false at up below next =
     let up_here = later first page pages at up.0 up.1 in
     picked_later first n (page ∷ pages) (not_below (first + 1) first (page ∷ pages) up_here (omega arith))
     (next (page ∷ pages) up_here (λ k there. next_end first n k (below k there)))
 
-pub picked : (first n : ℕ) (pages : List ℕ) → AscendFrom first pages → LieBelow (first + n) pages → filter (has_number pages) (numbers_from first n) ≡ pages
+pub picked : (first n : ℕ) (pages : List ℕ) → AscendFrom first pages → AllBelow (first + n) pages → filter (has_number pages) (numbers_from first n) ≡ pages
 picked first n [] up below = picked_none first n
 picked first zero (page ∷ pages) up below =
-    let less : page < first + 0 = first_below (first + 0) page pages below in absurd (omega (arith, less, up.0))
+    let less : page < first + 0 = head_below (first + 0) page pages below in absurd (omega (arith, less, up.0))
 picked first (suc n) (page ∷ pages) up below =
     picked_by first n page pages (page == first) refl up below (λ rest up_rest below_rest. picked (first + 1) n rest up_rest below_rest)

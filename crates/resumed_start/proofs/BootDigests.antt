@@ -1,5 +1,5 @@
 -- The digests of a machine's text behind its boot are those that the run keeps.
-use Rattle.std.proofs.Common.{◌≡◌, ℕ, inl, inr, zero, suc, ◌+◌, ◌*◌, ◌/◌, ◌<◌, ◌≤◌, List, [], ◌∷◌, flat_map, length, map, refl, sym, ◌∙◌, ap, subst, Bool, true, false, ◌||◌, arith, slice_get, length-append}
+use Rattle.std.proofs.Common.{◌≡◌, ℕ, inl, inr, zero, suc, ◌+◌, ◌*◌, ◌/◌, ◌<◌, ◌≤◌, List, [], ◌∷◌, flat_map, length, map, refl, sym, ◌∙◌, ap, subst, Bool, true, ◌||◌, arith, slice_get, length-append}
 use Rattle.std.specs.Prelude.{Some, ◌==◌}
 use Rattle.std.proofs.lemmas.List.{take_at, drop_at}
 use Rattle.std.proofs.lemmas.Option.{same_Some}
@@ -11,7 +11,7 @@ use Rattle.sv_types.specs.Policies.{Rules}
 use Rattle.reference.specs.Protections.{protection_at}
 use Rattle.reference.specs.Soundness.{IsSound}
 use Rattle.reference.specs.Start.{IsStart, block_disk, boot_start, start}
-use Rattle.reference.specs.States.{State, Disk, has_number, is_approved_in, protection_in, protection_by}
+use Rattle.reference.specs.States.{State, Disk, has_number, is_approved_in, protection_in}
 use Rattle.machine_model.specs.StandsFor.{protections_of}
 use Rattle.snapshot_form.specs.declared.whole.TextPage.{TextPage}
 use Rattle.processor_laws.proofs.ByteLemmas.{length_part}
@@ -21,13 +21,14 @@ use Rattle.resume_laws.specs.Keepable.{AscendFrom}
 use Rattle.resume_laws.specs.Resumed.{KeepsDigests}
 use Rattle.resume_laws.proofs.KeepableStarts.{text_pages_ascend}
 use Rattle.resume_laws.proofs.ResumedPages.{approved_is}
-use Rattle.resume_laws.proofs.TakenPages.{or_true}
+use Rattle.resume_laws.proofs.TakenPages.{AllBelow, or_true}
 use Rattle.run_laws.proofs.StateLawsHold.{reached_sound}
 use Rattle.run_laws.proofs.Lookups.{same_number, length_pages}
 use Rattle.resumed_start.specs.SnapLaws.{BootDigestsLaw, IsMeasuredBoot}
 use Rattle.sv_types.specs.Protections.{is_approved}
 use Rattle.resumed_start.specs.TextPages.{approved_among, digest_in, digested_text, text_in}
 use Rattle.resumed_start.proofs.Ascending.{picked, picked_same}
+use Rattle.answer_laws.proofs.ModulesMirrored.{approved_by}
 
 -- ---- digests of pages
 
@@ -88,12 +89,6 @@ digest_is ram (page ∷ pages) (suc i) t at = digest_is ram pages i t at
 
 -- ---- a start with its text approved
 
-approved_by : (approved held : Bool) → is_approved (protection_by approved held) ≡ approved
-unfolding protection_by
-approved_by true held = refl
-approved_by false true = refl
-approved_by false false = refl
-
 picks_text : (rules : Rules) (ram text : List ℕ) (entry : ℕ) (disk : Disk) (page : ℕ) → page < rules.ram_pages
     → is_approved (protection_at (protections_of (start rules ram text entry disk)) page) ≡ has_number text page
 unfolding start protection_in
@@ -102,10 +97,7 @@ picks_text rules ram text entry disk page below =
     ∙ approved_by (is_approved_in (approved_pages ram text) page) (has_number [] page)
     ∙ approved_is ram text page
 
-abbrev LieIn : ℕ → List ℕ → Type 0
-LieIn pages text = (page : ℕ) → has_number text page ≡ true → page < pages
-
-text_is : (rules : Rules) (ram text : List ℕ) (entry : ℕ) (disk : Disk) → AscendFrom 0 text → LieIn rules.ram_pages text
+text_is : (rules : Rules) (ram text : List ℕ) (entry : ℕ) (disk : Disk) → AscendFrom 0 text → AllBelow rules.ram_pages text
     → approved_among (protections_of (start rules ram text entry disk)) (length (protections_of (start rules ram text entry disk))) ≡ text
 unfolding start
 text_is rules ram text entry disk up inside =
@@ -127,7 +119,7 @@ whole_in ram page pages size below = length_part ram (page_size * page) page_siz
     room : (page pages : ℕ) → page < pages → page_size * page + page_size ≤ page_size * pages
     room page pages below = omega (arith, below)
 
-text_inside : (rules : Rules) (ram text : List ℕ) (entry : ℕ) (disk : Disk) → IsSound (start rules ram text entry disk) → LieIn rules.ram_pages text
+text_inside : (rules : Rules) (ram text : List ℕ) (entry : ℕ) (disk : Disk) → IsSound (start rules ram text entry disk) → AllBelow rules.ram_pages text
 unfolding start
 text_inside rules ram text entry disk sound page there = sound.pages.inside page (approved_is ram text page ∙ there)
 
@@ -135,7 +127,7 @@ ram_size : (rules : Rules) (ram text : List ℕ) (entry : ℕ) (disk : Disk) →
 unfolding start
 ram_size rules ram text entry disk sound = sound.size
 
-digested_is : (rules : Rules) (ram text : List ℕ) (entry : ℕ) (disk : Disk) → AscendFrom 0 text → LieIn rules.ram_pages text
+digested_is : (rules : Rules) (ram text : List ℕ) (entry : ℕ) (disk : Disk) → AscendFrom 0 text → AllBelow rules.ram_pages text
     → digested_text (start rules ram text entry disk) ≡ map (digest_in ram) text
 unfolding text_in start
 digested_is rules ram text entry disk up inside = ap (map (digest_in ram)) (text_is rules ram text entry disk up inside)

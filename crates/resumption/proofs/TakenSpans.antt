@@ -6,7 +6,7 @@ use Rattle.std.proofs.lemmas.List.{set-set, set_comm}
 use Rattle.sv_types.specs.ApprovedPages.{numbers_from}
 use Rattle.sv_types.specs.declared.protection.Protection.{Protection}
 use Rattle.sv_types.specs.Protections.{is_free}
-use Rattle.reference.specs.Protections.{protection_at, with_pages}
+use Rattle.reference.specs.Protections.{protection_at, with_pages, is_taken}
 use Rattle.reference.specs.States.{has_number}
 use Rattle.resumption.specs.Judgements.{take_pages}
 use Rattle.sv_types.proofs.PageNumbers.{numbers_more}
@@ -80,26 +80,22 @@ taken_free p guard first (suc count) free =
     ∙ ap (λ (g : Option (List Protection)). then_taken p g ((first + count) ∷ [])) (taken_free p guard first count (λ i below. free i (omega (arith, below))))
     ∙ ap (λ (b : Bool). if b then Some (slice_set (with_pages guard first count p) (first + count) p) else None) last
 
--- a page isn't free
-abbrev pub is_busy : List Protection → ℕ → Bool
-is_busy guard page = not (is_free (protection_at guard page))
-
 free_by : (b : Bool) (rest : Option ℕ) (page : ℕ) → (if not b then Some page else rest) ≡ None → (b ≡ true) × (rest ≡ None)
 free_by true rest page none = (refl, none)
 free_by false rest page none = absurd cc
 
-none_busy : (guard : List Protection) (first count : ℕ) → find (is_busy guard) (numbers_from first count) ≡ None → AllFree guard first count
+none_busy : (guard : List Protection) (first count : ℕ) → find (is_taken guard) (numbers_from first count) ≡ None → AllFree guard first count
 none_busy guard first zero none i below = absurd (omega (arith, below))
 none_busy guard first (suc count) none zero below =
     let same : first ≡ first + 0 = omega arith in
-    subst (λ (k : ℕ). is_free (protection_at guard k) ≡ true) same (free_by (is_free (protection_at guard first)) (find (is_busy guard) (numbers_from (first + 1) count)) first none).0
+    subst (λ (k : ℕ). is_free (protection_at guard k) ≡ true) same (free_by (is_free (protection_at guard first)) (find (is_taken guard) (numbers_from (first + 1) count)) first none).0
 none_busy guard first (suc count) none (suc i) below =
     let same : first + 1 + i ≡ first + suc i = omega arith in
     subst (λ (k : ℕ). is_free (protection_at guard k) ≡ true) same
-    (none_busy guard (first + 1) count (free_by (is_free (protection_at guard first)) (find (is_busy guard) (numbers_from (first + 1) count)) first none).1 i (omega (arith, below)))
+    (none_busy guard (first + 1) count (free_by (is_free (protection_at guard first)) (find (is_taken guard) (numbers_from (first + 1) count)) first none).1 i (omega (arith, below)))
 
 -- a span without a page that isn't free is taken whole
-pub taken_span : (p : Protection) (guard : List Protection) (first count : ℕ) → find (is_busy guard) (numbers_from first count) ≡ None
+pub taken_span : (p : Protection) (guard : List Protection) (first count : ℕ) → find (is_taken guard) (numbers_from first count) ≡ None
     → take_pages p guard (numbers_from first count) ≡ Some (with_pages guard first count p)
 taken_span p guard first count none = taken_free p guard first count (none_busy guard first count none)
 
@@ -129,14 +125,14 @@ found_by false rest page q is_there at found here same later =
 found_by true rest page q is_there at found here same later =
     let it = later found in (or_right (page == q) is_there it.0, it.1)
 
-found_busy : (guard : List Protection) (pages : List ℕ) (q : ℕ) → find (is_busy guard) pages ≡ Some q → (has_number pages q ≡ true) × (is_free (protection_at guard q) ≡ false)
+found_busy : (guard : List Protection) (pages : List ℕ) (q : ℕ) → find (is_taken guard) pages ≡ Some q → (has_number pages q ≡ true) × (is_free (protection_at guard q) ≡ false)
 found_busy guard [] q found = absurd cc
 found_busy guard (page ∷ pages) q found =
-    found_by (is_free (protection_at guard page)) (find (is_busy guard) pages) page q (has_number pages q) (is_free (protection_at guard q)) found
+    found_by (is_free (protection_at guard page)) (find (is_taken guard) pages) page q (has_number pages q) (is_free (protection_at guard q)) found
     (λ busy is. subst (λ (k : ℕ). is_free (protection_at guard k) ≡ false) is busy)
     (λ is. eq-eqb page q is)
     (λ later. found_busy guard pages q later)
 
 -- pages of which one isn't free aren't taken
-pub taken_none : (p : Protection) (guard : List Protection) (pages : List ℕ) (q : ℕ) → find (is_busy guard) pages ≡ Some q → take_pages p guard pages ≡ None
+pub taken_none : (p : Protection) (guard : List Protection) (pages : List ℕ) (q : ℕ) → find (is_taken guard) pages ≡ Some q → take_pages p guard pages ≡ None
 taken_none p guard pages q found = let it = found_busy guard pages q found in taken_busy p guard pages q it.0 it.1

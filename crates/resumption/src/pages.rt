@@ -1,6 +1,7 @@
 // Whether no page of a snapshot is two parties', and each has the protection that follows.
 
-ghost use Rattle.std.specs.Prelude.{◌≡◌, ◌≤◌, ◌^◌, [], ◌∷◌, IfOk, length, slice_set};
+ghost use Rattle.std.specs.Prelude.{◌≡◌, ◌≤◌, [], ◌∷◌, IfOk, length, slice_set};
+ghost use Rattle.processor.specs.Translation.{address_pages};
 ghost use Rattle.sv_types.specs.ApprovedPages.{numbers_from};
 ghost use Rattle.sv_types.specs.Policies.{rules_of};
 ghost use Rattle.sv_types.specs.declared.protection.Protection.TheVariants as protected;
@@ -93,7 +94,7 @@ fn take_page(guard: &mut [Protection], protection: Protection, page: u64) -> boo
 // ---- the parties' pages, one after the other
 
 fn take_span(guard: &mut [Protection], protection: Protection, first: u64, count: u32) -> bool
-    requires { first ≤ 2 ^ 52 }
+    requires { first ≤ address_pages }
     ensures { Takes protection guard.old guard.new (numbers_from first count) result }
 {
     'pages: for i in 0..count {

@@ -1,5 +1,6 @@
 -- What a beat writes lies in one page that isn't protected, and the disk stays sound.
 use Rattle.std.proofs.Common.{◌≡◌, ℕ, ◌+◌, ◌*◌, ◌/◌, ◌%◌, ◌≤◌, List, [], ◌∷◌, length, refl, sym, subst, Bool, true, false, not, ◌&&◌, arith}
+use Rattle.sv_types.proofs.InPages.{page_begins}
 use Rattle.std.specs.Prelude.{Option, Some, None, if◌then◌else◌, ◌==◌, nat_lt}
 use Rattle.std.proofs.lemmas.Bool.Decides.{nat_tests}
 use Rattle.std.proofs.lemmas.Bool.{not-true}
@@ -41,7 +42,7 @@ pub record IsSoundBeat (r : State) (b : Beaten) : Type 0 where
   pub disk : IsSoundDisk b.disk
   pub move : FreeMove r b.move
 
-in_page : (p n size : ℕ) → n ≤ size → p % 4096 + size ≤ 4096 → p + n ≤ 4096 * (p / 4096 + 1)
+in_page : (p n size : ℕ) → n ≤ size → p % page_size + size ≤ page_size → p + n ≤ page_size * (p / page_size + 1)
 in_page p n size short fits = grind arith
 
 pub room_of : (ram : List ℕ) (gpa n size : ℕ) → n ≤ size → in_ram ram gpa size ≡ true → ram_place gpa + n ≤ length ram
@@ -52,13 +53,10 @@ beat_page r gpa bytes k = record {
   page = page_of gpa;
   free = unprotected r (page_of gpa) (not-true (is_protected r (page_of gpa)) k.free);
   unheld = unheld r (page_of gpa) (not-true (is_protected r (page_of gpa)) k.free);
-  first = whole_page (ram_place gpa);
+  first = page_begins (ram_place gpa);
   last = in_page (ram_place gpa) (length bytes) k.size k.short k.one_page;
   inside = room_of r.ram gpa (length bytes) k.size k.short k.inside;
 }
-  where
-    whole_page : (p : ℕ) → 4096 * (p / 4096) ≤ p
-    whole_page p = omega arith
 
 -- ---- this project's block device
 
@@ -75,7 +73,7 @@ block_sound d false aligned busy = aligned
 place_aligned : (gpa done : ℕ) → gpa % 64 ≡ 0 → ram_place (gpa + 64 * done) % 64 ≡ 0
 place_aligned gpa done e = grind arith
 
-beat_fits : (p : ℕ) → p % 64 ≡ 0 → p % 4096 + 64 ≤ 4096
+beat_fits : (p : ℕ) → p % 64 ≡ 0 → p % page_size + 64 ≤ page_size
 beat_fits p e = grind arith
 
 some_bytes : 1 ≤ beat_size
@@ -133,7 +131,7 @@ broken_sound r d x k free = record { device = record { aligned = k.aligned; move
 going_sound : (d : VirtioDevice) (q : Request) (bytes : List ℕ) → IsSoundVirtio d → AreSoundMoves q.moves → IsSoundVirtio (record d { request = Some q; bytes = bytes })
 going_sound d q bytes k moves = record { aligned = k.aligned; moves = moves }
 
-place_fits : (gpa size : ℕ) → gpa % 4096 + size ≤ 4096 → ram_place gpa % 4096 + size ≤ 4096
+place_fits : (gpa size : ℕ) → gpa % page_size + size ≤ page_size → ram_place gpa % page_size + size ≤ page_size
 place_fits gpa size fits = grind arith
 
 -- bytes in a page that may be written

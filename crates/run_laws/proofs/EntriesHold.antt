@@ -6,7 +6,7 @@ use Rattle.std.proofs.lemmas.Bool.Decides.{nat_tests}
 use Rattle.std.proofs.lemmas.Nat.{and_shr, and_mod}
 use Rattle.sv_types.specs.ApprovedPages.{approved_bytes}
 use Rattle.processor.specs.Bits.{bit, with_bits}
-use Rattle.processor.specs.Bytes.{word, in_ram, ram_base, ram_place, page_of, place_in_page}
+use Rattle.processor.specs.Bytes.{word, in_ram, ram_base, ram_place, page_of, place_in_page, page_size}
 use Rattle.sv_types.specs.Policies.{Rules, rules_within, bound_fits, all_bound}
 use Rattle.processor.specs.Translation.{Destination, At, PageFault, Unreadable, place, entry_in_ram}
 use Rattle.processor.specs.Traps.{trap_target, deliverable, status_at_trap, supervisor_at_trap, first_interrupt, is_pending}
@@ -94,12 +94,12 @@ bound_is_right rules i entry within e = by_format rules i entry (rules.format ==
 fits_base : (n va gpa : ℕ) → bound_fits n va gpa ≡ true → ram_base ≤ gpa
 fits_base n va gpa e = grind (arith, nat_tests)
 
-fits_low : (n va gpa : ℕ) → bound_fits n va gpa ≡ true → gpa % 4096 ≡ va % 4096
+fits_low : (n va gpa : ℕ) → bound_fits n va gpa ≡ true → gpa % page_size ≡ va % page_size
 fits_low n va gpa e = grind (arith, nat_tests)
 
 -- ---- the turn of a hart at its entry's address
 
-same_address : (a b : ℕ) → ram_base ≤ a → ram_base ≤ b → page_of a ≡ page_of b → a % 4096 ≡ b % 4096 → a ≡ b
+same_address : (a b : ℕ) → ram_base ≤ a → ram_base ≤ b → page_of a ≡ page_of b → a % page_size ≡ b % page_size → a ≡ b
 same_address a b base other page low = grind arith
 
 inside_base : (ram : List ℕ) (gpa : ℕ) → in_ram ram gpa 4 ≡ true → ram_base ≤ gpa
@@ -137,7 +137,7 @@ at_gpa q h hart entry away gpa true None its there place approved same = inl (de
 at_gpa q h hart entry away gpa false text its there place approved same = inl (demoted_there q h hart entry 0 away there)
 
 at_destination : (q : State) (h : ℕ) (hart : Hart) (entry : Binding) (away : State) (d : Destination) → hart.pc ≡ entry.va → place_of_pc q hart ≡ d → Keeps hart.pc d
-    → ram_base ≤ entry.gpa → entry.gpa % 4096 ≡ entry.va % 4096
+    → ram_base ≤ entry.gpa → entry.gpa % page_size ≡ entry.va % page_size
     → OneOf q h hart entry
     (if leads_into q (page_of entry.gpa) d then act_on_fetch q h hart (fetched_at q.ram q.approved Kernel d) else demotes_or q h hart entry (noted_gpa q.ram d) away)
 unfolding leads_into noted_gpa fetched_at
@@ -146,7 +146,7 @@ at_destination q h hart entry away (Unreadable at) there place keeps base low = 
 at_destination q h hart entry away (At gpa) there place keeps base low =
     at_gpa q h hart entry away gpa (in_ram q.ram gpa 4) (approved_bytes q.approved (page_of gpa)) (page_of gpa == page_of entry.gpa) there place refl
     (λ inside its. same_address gpa entry.gpa (inside_base q.ram gpa inside) base (eqb-true (page_of gpa) (page_of entry.gpa) its)
-    (keeps ∙ ap (λ (n : ℕ). n % 4096) there ∙ sym low))
+    (keeps ∙ ap (λ (n : ℕ). n % page_size) there ∙ sym low))
 
 acts : (q : State) (h : ℕ) (hart : Hart) (entry : Binding) → IsAtEntry q h hart entry → deliverable hart.mode hart.supervisor (lines_at q.devices h) ≡ None
     → act q h hart ≡ fetch_in_entry q h hart (Some entry)

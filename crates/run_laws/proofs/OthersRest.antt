@@ -134,13 +134,16 @@ sends z r next x named harts loading w =
       free = subst (IsNotLoading z.watched) (sym loading) w.free;
     }
 
+pub same_one : (x : Option Hart) (a b : Hart) → x ≡ Some a → x ≡ Some b → a ≡ b
+same_one x a b e f = cc
+
 -- a stopped hart begins
 starts : (z : Watched) (r next : State) (x : Hart) (i : ℕ) (other new : Hart) → slice_get r.harts i ≡ Some other → other.started ≡ false
     → next.harts ≡ slice_set (slice_set r.harts z.mover x) i new → next.loading ≡ r.loading → Leaves z r next
 starts z r next x i other new there off harts loading w =
     let second : i ≡ z.watched → ⊥ = λ same.
     let found : slice_get r.harts z.watched ≡ Some other = subst (λ (n : ℕ). slice_get r.harts n ≡ Some other) same there in
-    let its : other ≡ w.hart = same_hart (slice_get r.harts z.watched) other w.hart found w.found in
+    let its : other ≡ w.hart = same_one (slice_get r.harts z.watched) other w.hart found w.found in
     both w.hart.started w.looks.started (subst (λ (y : Hart). y.started ≡ false) its off) in
     record {
       hart = w.hart;
@@ -149,9 +152,6 @@ starts z r next x i other new there off harts loading w =
       looks = w.looks;
       free = subst (IsNotLoading z.watched) (sym loading) w.free;
     }
-  where
-    same_hart : (x : Option Hart) (a b : Hart) → x ≡ Some a → x ≡ Some b → a ≡ b
-    same_hart x a b e f = cc
 
 -- a load begins, ends, or goes on
 begins : (z : Watched) (r next : State) (x : Hart) (load : Loading) → next.harts ≡ slice_set r.harts z.mover x → next.loading ≡ Some load → load.hart ≡ z.mover → Leaves z r next

@@ -3,7 +3,7 @@ use Rattle.std.proofs.Common.{◌≡◌, ℕ, ◌+◌, ◌*◌, ◌/◌, ◌%◌
 use Rattle.std.specs.Prelude.{Option, Some, None, option_map, if◌then◌else◌, ◌==◌, nat_le, nat_lt}
 use Rattle.std.proofs.lemmas.Bool.{eqb-true}
 use Rattle.std.proofs.lemmas.Bool.Decides.{nat_tests}
-use Rattle.processor.specs.Bytes.{in_ram, low_bytes, page_of, ram_place}
+use Rattle.processor.specs.Bytes.{in_ram, low_bytes, page_of, ram_place, page_size}
 use Rattle.sv_types.specs.Console.{console_load, after_load, stored_byte}
 use Rattle.processor.specs.Causes.{cause_number}
 use Rattle.processor.specs.Effects.{set_register, amo_value}
@@ -34,7 +34,7 @@ use Rattle.reference.specs.Trapping.{trap_from, exception, returned_from_trap, h
 use Rattle.reference.specs.Soundness.{IsSound, IsSoundHart, IsSoundBlock, IsSoundDisk}
 use Rattle.attempt_laws.proofs.Everywhere.{Keeps, first_stage_keeps}
 use Rattle.attempt_laws.proofs.Under.{moved}
-use Rattle.attempt_laws.proofs.LoadsKept.{in_page}
+use Rattle.sv_types.proofs.InPages.{aligned_in_page, page_begins}
 use Rattle.run_laws.proofs.VirtioSound.{virtio_stored}
 use Rattle.run_laws.proofs.Lookups.{unprotected, unheld}
 use Rattle.run_laws.proofs.HartsSound.{goes_behind, trap_sound, return_sound, csr_sound}
@@ -226,8 +226,8 @@ target_free r hart address width whole = choose_free r hart address width (addre
 
 -- ---- stores
 
-page_end : (width p : ℕ) → IsWidth width → p % width ≡ 0 → p + width ≤ 4096 * (p / 4096 + 1)
-page_end width p whole aligned = let inside = in_page width p whole aligned in omega (arith, inside)
+page_end : (width p : ℕ) → IsWidth width → p % width ≡ 0 → p + width ≤ page_size * (p / page_size + 1)
+page_end width p whole aligned = let inside = aligned_in_page width p whole aligned in omega (arith, inside)
 
 pub room_of : (ram : List ℕ) (gpa width : ℕ) → in_ram ram gpa width ≡ true → ram_place gpa + width ≤ length ram
 room_of ram gpa width e = grind (arith, nat_tests)
@@ -241,13 +241,10 @@ free_page r h next gpa width value whole free =
       page = page_of gpa;
       free = unprotected r (page_of gpa) free.free;
       unheld = unheld r (page_of gpa) free.free;
-      first = whole_page (ram_place gpa);
+      first = page_begins (ram_place gpa);
       last = rw size (page_end width (ram_place gpa) whole free.aligned);
       inside = rw size (room_of r.ram gpa width free.inside);
     }
-  where
-    whole_page : (p : ℕ) → 4096 * (p / 4096) ≤ p
-    whole_page p = omega arith
 
 -- the hart goes on, and bytes are written
 written_goes : (r : State) (h : ℕ) (hart : Hart) (registers : List ℕ) (reservation : Option ℕ) (gpa width value : ℕ) → IsSound r → IsSoundHart r.rules hart → IsWidth width → IsFreePlace r gpa width

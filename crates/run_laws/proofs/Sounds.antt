@@ -118,7 +118,7 @@ other_page approved page q bytes free found same = let there : approved_bytes ap
 
 -- whole pages are left as they are by bytes inside another page
 pub pages_kept : (ram bytes : List ℕ) (at page from n : ℕ) → at + length bytes ≤ length ram → page_size * page ≤ at → at + length bytes ≤ page_size * (page + 1)
-    → from % 4096 ≡ 0 → (page < from / 4096) ⊎ (from / 4096 + n ≤ page) → part (overwrite ram at bytes) from (page_size * n) ≡ part ram from (page_size * n)
+    → from % page_size ≡ 0 → (page < from / page_size) ⊎ (from / page_size + n ≤ page) → part (overwrite ram at bytes) from (page_size * n) ≡ part ram from (page_size * n)
 pages_kept ram bytes at page from n inside first last aligned (inl before) =
     part_after ram bytes at from (page_size * n) inside (omega arith)
 pages_kept ram bytes at page from n inside first last aligned (inr behind) =

@@ -107,10 +107,10 @@ virtio_quiet bytes = record { aligned = λ ready. cc; moves = tt }
 -- ---- plain pages
 
 flat_words : (digest : List ℕ) → AreWords (flat_rules digest).entries
-flat_words digest entry e = words_by entry (0x80000000 == entry) (0x80000100 == entry) refl refl e
+flat_words digest entry e = words_by entry (ram_base == entry) (0x80000100 == entry) refl refl e
   where
-    words_by : (entry : ℕ) (a b : Bool) → (0x80000000 == entry) ≡ a → (0x80000100 == entry) ≡ b → (a || (b || false)) ≡ true → entry < 2 ^ 64
-    words_by entry true b first second e = let same : 0x80000000 ≡ entry = eqb-true 0x80000000 entry first in omega arith
+    words_by : (entry : ℕ) (a b : Bool) → (ram_base == entry) ≡ a → (0x80000100 == entry) ≡ b → (a || (b || false)) ≡ true → entry < 2 ^ 64
+    words_by entry true b first second e = let same : ram_base ≡ entry = eqb-true ram_base entry first in omega arith
     words_by entry false true first second e = let same : 0x80000100 ≡ entry = eqb-true 0x80000100 entry second in omega arith
     words_by entry false false first second e = cc
 

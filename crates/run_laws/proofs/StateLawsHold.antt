@@ -71,18 +71,18 @@ text_of s r page sound stays e = record { unretired = e; bytes = stays.bytes pag
 
 -- ---- modules
 
-page_place : (at page : ℕ) → at % 4096 ≡ 0 → at / 4096 ≤ page → at + 4096 * (page - at / 4096) ≡ 4096 * page
+page_place : (at page : ℕ) → at % page_size ≡ 0 → at / page_size ≤ page → at + page_size * (page - at / page_size) ≡ page_size * page
 page_place at page aligned behind = omega arith
 
-page_fits : (first n page : ℕ) → first ≤ page → page < first + n → 4096 * (page - first) + 4096 ≤ 4096 * n
+page_fits : (first n page : ℕ) → first ≤ page → page < first + n → page_size * (page - first) + page_size ≤ page_size * n
 page_fits first n page behind before = omega arith
 
 -- a module's page is a part of its text, since the module begins with a page
-page_in_text : (ram : List ℕ) (place n page : ℕ) → place % 4096 ≡ 0 → has_number (numbers_from (place / 4096) n) page ≡ true
-    → page_bytes ram page ≡ part (part ram place (page_size * n)) (page_size * (page - place / 4096)) page_size
+page_in_text : (ram : List ℕ) (place n page : ℕ) → place % page_size ≡ 0 → has_number (numbers_from (place / page_size) n) page ≡ true
+    → page_bytes ram page ≡ part (part ram place (page_size * n)) (page_size * (page - place / page_size)) page_size
 page_in_text ram place n page aligned inside =
-    let bounds = numbers_bounds (place / 4096) n page inside in
-    sym (part_of_part ram place (page_size * n) (page_size * (page - place / 4096)) page_size (page_fits (place / 4096) n page bounds.0 bounds.1)
+    let bounds = numbers_bounds (place / page_size) n page inside in
+    sym (part_of_part ram place (page_size * n) (page_size * (page - place / page_size)) page_size (page_fits (place / page_size) n page bounds.0 bounds.1)
     ∙ ap (λ (at : ℕ). part ram at page_size) (page_place place page aligned bounds.0))
 
 module_page : (r : State) (m : SavedModule) (page : ℕ) → IsSound r → IsPageOf r.rules r.loaded m page → IsModulePage r m page

@@ -1,5 +1,7 @@
 -- A virtio block device stays sound: stores into its registers, and the moves of the requests that it accepts.
-use Rattle.std.proofs.Common.{◌≡◌, ℕ, zero, suc, ◌+◌, ◌-◌, ◌*◌, ◌%◌, ◌^◌, ◌<◌, List, [], ◌∷◌, ◌++◌, refl, subst, Bool, true, false, not, ◌&&◌, ◌||◌, filter, arith}
+use Rattle.std.proofs.Common.{◌≡◌, ℕ, zero, suc, ◌+◌, ◌-◌, ◌*◌, ◌%◌, ◌^◌, ◌<◌, inl, inr, List, [], ◌∷◌, ◌++◌, refl, subst, Bool, true, false, not, ◌&&◌, ◌||◌, filter, arith}
+use Rattle.processor.specs.Bytes.{page_size}
+use Rattle.sv_types.proofs.InPages.{aligned_in_page, word_in_page}
 use Rattle.std.specs.Prelude.{Option, Some, None, option_map, if◌then◌else◌, ◌==◌}
 use Rattle.std.proofs.lemmas.Bool.{eqb-true}
 use Rattle.sv_types.specs.declared.virtio.VirtioMove.{VirtioMove}
@@ -138,7 +140,7 @@ piece_sound false gpa place size k = k
 
 piece_stays : (gpa m : ℕ) → StaysInPage gpa (piece_size gpa (suc m))
 piece_stays gpa m =
-    let below : gpa % 4096 < 4096 = grind arith in
+    let below : gpa % page_size < page_size = grind arith in
     (omega (arith, below), omega (arith, below))
 
 pieces_sound : (n : ℕ) (write : Bool) (gpa place len : ℕ) → AreSoundMoves (pieces n write gpa place len)
@@ -161,19 +163,13 @@ chosen_sound true moves k = k
 chosen_sound false moves k = tt
 
 byte_stays : (gpa : ℕ) → StaysInPage gpa 1
-byte_stays gpa = let below : gpa % 4096 < 4096 = grind arith in (omega arith, omega (arith, below))
+byte_stays gpa = let below : gpa % page_size < page_size = grind arith in (omega arith, omega (arith, below))
 
 word_stays : (gpa : ℕ) → gpa % 4 ≡ 0 → StaysInPage gpa 4
-word_stays gpa aligned =
-    let below : gpa % 4096 < 4096 = grind arith in
-    let same : gpa % 4096 % 4 ≡ 0 = omega (arith, aligned) in
-    (omega arith, omega (arith, below, same))
+word_stays gpa aligned = (omega arith, word_in_page gpa aligned)
 
 half_stays : (gpa : ℕ) → gpa % 2 ≡ 0 → StaysInPage gpa 2
-half_stays gpa aligned =
-    let below : gpa % 4096 < 4096 = grind arith in
-    let same : gpa % 4096 % 2 ≡ 0 = omega (arith, aligned) in
-    (omega arith, omega (arith, below, same))
+half_stays gpa aligned = (omega arith, aligned_in_page 2 gpa (inr (inl refl)) aligned)
 
 entry_aligned : (used k : ℕ) → used % 4 ≡ 0 → (used + 4 + 8 * k) % 4 ≡ 0
 entry_aligned used k e = omega (arith, e)

@@ -17,6 +17,8 @@ use Rattle.reference.specs.States.{State, Hart, Binding, binding_at, has_number}
 use Rattle.reference.specs.Trapping.{trap_from}
 use Rattle.reference.specs.Turn.{demote, carry_out_word, place_of_pc}
 use Rattle.attempt_laws.specs.Agree.{IsNotLoading}
+use Rattle.processor.specs.Registers.{sie_place}
+use Rattle.sv_types.specs.Limits.{bound_format}
 
 -- ---- the turn of a hart at its entry's address
 
@@ -83,9 +85,9 @@ pub record StandsAtEntry (r : State) (h : ℕ) : Type 0 where
   pub hart : Hart
   pub entry : Binding
   pub at : IsAtEntry r h hart entry
-  pub masked : bit hart.supervisor.sstatus 1 ≡ false
+  pub masked : bit hart.supervisor.sstatus sie_place ≡ false
   pub next : r.journal.verdict ≡ Running → DemotesOrReads r h hart entry
 
 abbrev pub EntryLaw : Type 0
-EntryLaw = (s : State) (before between : List Event) (h : ℕ) → IsStart s → s.rules.format ≡ 2 → Enters (run s before) h → AreNoTurnsOf h between
+EntryLaw = (s : State) (before between : List Event) (h : ℕ) → IsStart s → s.rules.format ≡ bound_format → Enters (run s before) h → AreNoTurnsOf h between
     → StandsAtEntry (run (step (run s before) (Turn h)) between) h

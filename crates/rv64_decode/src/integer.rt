@@ -2,13 +2,14 @@
 
 ghost use Rattle.std.specs.Prelude.{◌≡◌};
 ghost use Rattle.processor.specs.Instructions as table;
+ghost use Rattle.processor.specs.Opcodes.{branch_opcode, jalr_opcode, op_32_opcode, op_imm_32_opcode, op_imm_opcode, op_opcode};
 
 use crate::fields::{bits, funct3, funct7};
 use crate::forms;
 use processor::{BranchOp, Instr, Op32Op, OpImm32Op, OpImmOp, OpOp};
 
 pub fn jalr(word: u32) -> Option<Instr>
-    requires { table.bits word 0 7 ≡ 0x67 }
+    requires { table.bits word 0 7 ≡ jalr_opcode }
     ensures { result ≡ table.instruction_of word }
 {
     if funct3(word) == 0 {
@@ -19,7 +20,7 @@ pub fn jalr(word: u32) -> Option<Instr>
 }
 
 pub fn branch(word: u32) -> Option<Instr>
-    requires { table.bits word 0 7 ≡ 0x63 }
+    requires { table.bits word 0 7 ≡ branch_opcode }
     ensures { result ≡ table.instruction_of word }
 {
     let op = match funct3(word) {
@@ -36,7 +37,7 @@ pub fn branch(word: u32) -> Option<Instr>
 
 // A shift has its direction in bits 26 to 31; the six bits below them are its count.
 pub fn op_imm(word: u32) -> Option<Instr>
-    requires { table.bits word 0 7 ≡ 0x13 }
+    requires { table.bits word 0 7 ≡ op_imm_opcode }
     ensures { result ≡ table.instruction_of word }
 {
     let op = match funct3(word) {
@@ -53,7 +54,7 @@ pub fn op_imm(word: u32) -> Option<Instr>
 }
 
 fn shift_left(word: u32) -> Option<Instr>
-    requires opcode { table.bits word 0 7 ≡ 0x13 }
+    requires opcode { table.bits word 0 7 ≡ op_imm_opcode }
     requires funct3 { table.bits word 12 15 ≡ 1 }
     ensures { result ≡ table.instruction_of word }
 {
@@ -65,7 +66,7 @@ fn shift_left(word: u32) -> Option<Instr>
 }
 
 fn shift_right(word: u32) -> Option<Instr>
-    requires opcode { table.bits word 0 7 ≡ 0x13 }
+    requires opcode { table.bits word 0 7 ≡ op_imm_opcode }
     requires funct3 { table.bits word 12 15 ≡ 5 }
     ensures { result ≡ table.instruction_of word }
 {
@@ -77,7 +78,7 @@ fn shift_right(word: u32) -> Option<Instr>
 }
 
 pub fn op_imm_32(word: u32) -> Option<Instr>
-    requires { table.bits word 0 7 ≡ 0x1B }
+    requires { table.bits word 0 7 ≡ op_imm_32_opcode }
     ensures { result ≡ table.instruction_of word }
 {
     match funct3(word) {
@@ -89,7 +90,7 @@ pub fn op_imm_32(word: u32) -> Option<Instr>
 }
 
 fn shift_left_32(word: u32) -> Option<Instr>
-    requires opcode { table.bits word 0 7 ≡ 0x1B }
+    requires opcode { table.bits word 0 7 ≡ op_imm_32_opcode }
     requires funct3 { table.bits word 12 15 ≡ 1 }
     ensures { result ≡ table.instruction_of word }
 {
@@ -101,7 +102,7 @@ fn shift_left_32(word: u32) -> Option<Instr>
 }
 
 fn shift_right_32(word: u32) -> Option<Instr>
-    requires opcode { table.bits word 0 7 ≡ 0x1B }
+    requires opcode { table.bits word 0 7 ≡ op_imm_32_opcode }
     requires funct3 { table.bits word 12 15 ≡ 5 }
     ensures { result ≡ table.instruction_of word }
 {
@@ -113,7 +114,7 @@ fn shift_right_32(word: u32) -> Option<Instr>
 }
 
 pub fn op(word: u32) -> Option<Instr>
-    requires { table.bits word 0 7 ≡ 0x33 }
+    requires { table.bits word 0 7 ≡ op_opcode }
     ensures { result ≡ table.instruction_of word }
 {
     match funct7(word) {
@@ -125,7 +126,7 @@ pub fn op(word: u32) -> Option<Instr>
 }
 
 fn base_op(word: u32) -> Option<Instr>
-    requires opcode { table.bits word 0 7 ≡ 0x33 }
+    requires opcode { table.bits word 0 7 ≡ op_opcode }
     requires funct7 { table.bits word 25 32 ≡ 0x00 }
     ensures { result ≡ table.instruction_of word }
 {
@@ -143,7 +144,7 @@ fn base_op(word: u32) -> Option<Instr>
 }
 
 fn multiply_op(word: u32) -> Option<Instr>
-    requires opcode { table.bits word 0 7 ≡ 0x33 }
+    requires opcode { table.bits word 0 7 ≡ op_opcode }
     requires funct7 { table.bits word 25 32 ≡ 0x01 }
     ensures { result ≡ table.instruction_of word }
 {
@@ -161,7 +162,7 @@ fn multiply_op(word: u32) -> Option<Instr>
 }
 
 fn alternate_op(word: u32) -> Option<Instr>
-    requires opcode { table.bits word 0 7 ≡ 0x33 }
+    requires opcode { table.bits word 0 7 ≡ op_opcode }
     requires funct7 { table.bits word 25 32 ≡ 0x20 }
     ensures { result ≡ table.instruction_of word }
 {
@@ -173,7 +174,7 @@ fn alternate_op(word: u32) -> Option<Instr>
 }
 
 pub fn op_32(word: u32) -> Option<Instr>
-    requires { table.bits word 0 7 ≡ 0x3B }
+    requires { table.bits word 0 7 ≡ op_32_opcode }
     ensures { result ≡ table.instruction_of word }
 {
     match funct7(word) {
@@ -185,7 +186,7 @@ pub fn op_32(word: u32) -> Option<Instr>
 }
 
 fn base_op_32(word: u32) -> Option<Instr>
-    requires opcode { table.bits word 0 7 ≡ 0x3B }
+    requires opcode { table.bits word 0 7 ≡ op_32_opcode }
     requires funct7 { table.bits word 25 32 ≡ 0x00 }
     ensures { result ≡ table.instruction_of word }
 {
@@ -198,7 +199,7 @@ fn base_op_32(word: u32) -> Option<Instr>
 }
 
 fn multiply_op_32(word: u32) -> Option<Instr>
-    requires opcode { table.bits word 0 7 ≡ 0x3B }
+    requires opcode { table.bits word 0 7 ≡ op_32_opcode }
     requires funct7 { table.bits word 25 32 ≡ 0x01 }
     ensures { result ≡ table.instruction_of word }
 {
@@ -214,7 +215,7 @@ fn multiply_op_32(word: u32) -> Option<Instr>
 }
 
 fn alternate_op_32(word: u32) -> Option<Instr>
-    requires opcode { table.bits word 0 7 ≡ 0x3B }
+    requires opcode { table.bits word 0 7 ≡ op_32_opcode }
     requires funct7 { table.bits word 25 32 ≡ 0x20 }
     ensures { result ≡ table.instruction_of word }
 {

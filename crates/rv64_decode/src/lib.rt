@@ -14,6 +14,11 @@ ghost use Rattle.processor.specs.Instructions.{instruction_of};
 use fields::opcode;
 use integer::{branch, jalr, op, op_32, op_imm, op_imm_32};
 use memory::{atomic, fence, load, store};
+use processor::{
+    AMO_OPCODE, AUIPC_OPCODE, BRANCH_OPCODE, JAL_OPCODE, JALR_OPCODE, LOAD_OPCODE, LUI_OPCODE,
+    MISC_MEM_OPCODE, OP_32_OPCODE, OP_IMM_32_OPCODE, OP_IMM_OPCODE, OP_OPCODE, STORE_OPCODE,
+    SYSTEM_OPCODE,
+};
 pub use processor::{
     AmoOp, BranchOp, CsrOp, HyperOp, Instr, LoadOp, Op32Op, OpImm32Op, OpImmOp, OpOp, StoreOp,
 };
@@ -31,20 +36,20 @@ fn by_opcode(word: u32) -> Option<Instr>
     ensures { result ≡ instruction_of word }
 {
     match opcode(word) {
-        0x37 => Some(forms::lui(word)),
-        0x17 => Some(forms::auipc(word)),
-        0x6F => Some(forms::jal(word)),
-        0x67 => jalr(word),
-        0x63 => branch(word),
-        0x03 => load(word),
-        0x23 => store(word),
-        0x13 => op_imm(word),
-        0x1B => op_imm_32(word),
-        0x33 => op(word),
-        0x3B => op_32(word),
-        0x0F => fence(word),
-        0x2F => atomic(word),
-        0x73 => system(word),
+        LUI_OPCODE => Some(forms::lui(word)),
+        AUIPC_OPCODE => Some(forms::auipc(word)),
+        JAL_OPCODE => Some(forms::jal(word)),
+        JALR_OPCODE => jalr(word),
+        BRANCH_OPCODE => branch(word),
+        LOAD_OPCODE => load(word),
+        STORE_OPCODE => store(word),
+        OP_IMM_OPCODE => op_imm(word),
+        OP_IMM_32_OPCODE => op_imm_32(word),
+        OP_OPCODE => op(word),
+        OP_32_OPCODE => op_32(word),
+        MISC_MEM_OPCODE => fence(word),
+        AMO_OPCODE => atomic(word),
+        SYSTEM_OPCODE => system(word),
         _ => None,
     }
 }

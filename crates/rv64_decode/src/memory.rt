@@ -2,6 +2,7 @@
 
 ghost use Rattle.std.specs.Prelude.{◌≡◌};
 ghost use Rattle.processor.specs.Instructions as table;
+ghost use Rattle.processor.specs.Opcodes.{amo_opcode, load_opcode, misc_mem_opcode, store_opcode};
 ghost use Rattle.rv64_decode.specs.Widths.{IsWidthCode};
 
 use crate::fields::{bits, funct3, rs2};
@@ -9,7 +10,7 @@ use crate::forms;
 use processor::{AmoOp, Instr, LoadOp, StoreOp};
 
 pub fn load(word: u32) -> Option<Instr>
-    requires { table.bits word 0 7 ≡ 0x03 }
+    requires { table.bits word 0 7 ≡ load_opcode }
     ensures { result ≡ table.instruction_of word }
 {
     let op = match funct3(word) {
@@ -26,7 +27,7 @@ pub fn load(word: u32) -> Option<Instr>
 }
 
 pub fn store(word: u32) -> Option<Instr>
-    requires { table.bits word 0 7 ≡ 0x23 }
+    requires { table.bits word 0 7 ≡ store_opcode }
     ensures { result ≡ table.instruction_of word }
 {
     let op = match funct3(word) {
@@ -40,7 +41,7 @@ pub fn store(word: u32) -> Option<Instr>
 }
 
 pub fn fence(word: u32) -> Option<Instr>
-    requires { table.bits word 0 7 ≡ 0x0F }
+    requires { table.bits word 0 7 ≡ misc_mem_opcode }
     ensures { result ≡ table.instruction_of word }
 {
     match funct3(word) {
@@ -51,7 +52,7 @@ pub fn fence(word: u32) -> Option<Instr>
 }
 
 pub fn atomic(word: u32) -> Option<Instr>
-    requires { table.bits word 0 7 ≡ 0x2F }
+    requires { table.bits word 0 7 ≡ amo_opcode }
     ensures { result ≡ table.instruction_of word }
 {
     match funct3(word) {
@@ -62,7 +63,7 @@ pub fn atomic(word: u32) -> Option<Instr>
 }
 
 fn atomic_of_width(width: u8, word: u32) -> Option<Instr>
-    requires opcode { table.bits word 0 7 ≡ 0x2F }
+    requires opcode { table.bits word 0 7 ≡ amo_opcode }
     requires funct3 { IsWidthCode width (table.bits word 12 15) }
     ensures { result ≡ table.instruction_of word }
 {
@@ -84,7 +85,7 @@ fn atomic_of_width(width: u8, word: u32) -> Option<Instr>
 }
 
 fn load_reserved(width: u8, word: u32) -> Option<Instr>
-    requires opcode { table.bits word 0 7 ≡ 0x2F }
+    requires opcode { table.bits word 0 7 ≡ amo_opcode }
     requires funct3 { IsWidthCode width (table.bits word 12 15) }
     requires funct5 { table.bits word 27 32 ≡ 0x02 }
     ensures { result ≡ table.instruction_of word }

@@ -2,13 +2,14 @@
 
 ghost use Rattle.std.specs.Prelude.{◌≡◌, ◌≢◌, ◌==◌, if◌then◌else◌};
 ghost use Rattle.processor.specs.Instructions as table;
+ghost use Rattle.processor.specs.Opcodes.{system_opcode};
 
 use crate::fields::{funct3, funct7, rd, rs2};
 use crate::forms;
 use processor::{CsrOp, EBREAK, ECALL, HyperOp, Instr, SRET, WFI};
 
 pub fn system(word: u32) -> Option<Instr>
-    requires { table.bits word 0 7 ≡ 0x73 }
+    requires { table.bits word 0 7 ≡ system_opcode }
     ensures { result ≡ table.instruction_of word }
 {
     let op = match funct3(word) {
@@ -25,7 +26,7 @@ pub fn system(word: u32) -> Option<Instr>
 }
 
 fn privileged(word: u32) -> Option<Instr>
-    requires opcode { table.bits word 0 7 ≡ 0x73 }
+    requires opcode { table.bits word 0 7 ≡ system_opcode }
     requires funct3 { table.bits word 12 15 ≡ 0 }
     ensures { result ≡ table.instruction_of word }
 {
@@ -39,7 +40,7 @@ fn privileged(word: u32) -> Option<Instr>
 }
 
 fn translation_fence(word: u32) -> Option<Instr>
-    requires opcode { table.bits word 0 7 ≡ 0x73 }
+    requires opcode { table.bits word 0 7 ≡ system_opcode }
     requires funct3 { table.bits word 12 15 ≡ 0 }
     requires ecall { word ≢ table.ecall_word }
     requires ebreak { word ≢ table.ebreak_word }
@@ -59,7 +60,7 @@ fn translation_fence(word: u32) -> Option<Instr>
 }
 
 fn hyper(word: u32) -> Option<Instr>
-    requires opcode { table.bits word 0 7 ≡ 0x73 }
+    requires opcode { table.bits word 0 7 ≡ system_opcode }
     requires funct3 { table.bits word 12 15 ≡ 4 }
     ensures { result ≡ table.instruction_of word }
 {
@@ -87,7 +88,7 @@ fn store_without_rd(op: HyperOp, word: u32) -> Option<Instr>
 }
 
 fn load_byte(word: u32) -> Option<Instr>
-    requires opcode { table.bits word 0 7 ≡ 0x73 }
+    requires opcode { table.bits word 0 7 ≡ system_opcode }
     requires funct3 { table.bits word 12 15 ≡ 4 }
     requires funct7 { table.bits word 25 32 ≡ 0x30 }
     ensures { result ≡ table.instruction_of word }
@@ -101,7 +102,7 @@ fn load_byte(word: u32) -> Option<Instr>
 }
 
 fn load_half(word: u32) -> Option<Instr>
-    requires opcode { table.bits word 0 7 ≡ 0x73 }
+    requires opcode { table.bits word 0 7 ≡ system_opcode }
     requires funct3 { table.bits word 12 15 ≡ 4 }
     requires funct7 { table.bits word 25 32 ≡ 0x32 }
     ensures { result ≡ table.instruction_of word }
@@ -116,7 +117,7 @@ fn load_half(word: u32) -> Option<Instr>
 }
 
 fn load_word(word: u32) -> Option<Instr>
-    requires opcode { table.bits word 0 7 ≡ 0x73 }
+    requires opcode { table.bits word 0 7 ≡ system_opcode }
     requires funct3 { table.bits word 12 15 ≡ 4 }
     requires funct7 { table.bits word 25 32 ≡ 0x34 }
     ensures { result ≡ table.instruction_of word }
@@ -131,7 +132,7 @@ fn load_word(word: u32) -> Option<Instr>
 }
 
 fn load_double(word: u32) -> Option<Instr>
-    requires opcode { table.bits word 0 7 ≡ 0x73 }
+    requires opcode { table.bits word 0 7 ≡ system_opcode }
     requires funct3 { table.bits word 12 15 ≡ 4 }
     requires funct7 { table.bits word 25 32 ≡ 0x36 }
     ensures { result ≡ table.instruction_of word }

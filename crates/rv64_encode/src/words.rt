@@ -4,7 +4,11 @@ ghost use Rattle.std.specs.Prelude.{◌≡◌, ◌+◌, ◌-◌, ◌^◌, ◌<�
 ghost use Rattle.processor.specs.Encoding as table;
 
 use crate::codes;
-use processor::{EBREAK, ECALL, SRET, WFI};
+use processor::{
+    AMO_OPCODE, AUIPC_OPCODE, BRANCH_OPCODE, EBREAK, ECALL, JAL_OPCODE, JALR_OPCODE, LOAD_OPCODE,
+    LUI_OPCODE, OP_32_OPCODE, OP_IMM_32_OPCODE, OP_IMM_OPCODE, OP_OPCODE, SRET, STORE_OPCODE,
+    SYSTEM_OPCODE, WFI,
+};
 use rv64_decode::{HyperOp, Instr};
 
 /// The word of an instruction whose fields are in range.
@@ -14,25 +18,31 @@ pub fn word(instr: &Instr) -> u32
     ensures { result ≡ table.word_of instr.now }
 {
     match *instr {
-        Instr::Lui { rd, imm } => u_word(0x37, rd, imm),
-        Instr::Auipc { rd, imm } => u_word(0x17, rd, imm),
-        Instr::Jal { rd, imm } => j_word(0x6F, rd, imm),
-        Instr::Jalr { rd, rs1, imm } => i_word(0x67, 0, rd, rs1, field(imm, 0, 12)),
+        Instr::Lui { rd, imm } => u_word(LUI_OPCODE, rd, imm),
+        Instr::Auipc { rd, imm } => u_word(AUIPC_OPCODE, rd, imm),
+        Instr::Jal { rd, imm } => j_word(JAL_OPCODE, rd, imm),
+        Instr::Jalr { rd, rs1, imm } => i_word(JALR_OPCODE, 0, rd, rs1, field(imm, 0, 12)),
         Instr::Branch { op, rs1, rs2, imm } => b_word(
-            0x63,
+            BRANCH_OPCODE,
             codes::branch_funct3(op),
             rs1,
             rs2,
             imm,
         ),
         Instr::Load { op, rd, rs1, imm } => i_word(
-            0x03,
+            LOAD_OPCODE,
             codes::load_funct3(op),
             rd,
             rs1,
             field(imm, 0, 12),
         ),
-        Instr::Store { op, rs1, rs2, imm } => s_word(0x23, codes::store_funct3(op), rs1, rs2, imm),
+        Instr::Store { op, rs1, rs2, imm } => s_word(
+            STORE_OPCODE,
+            codes::store_funct3(op),
+            rs1,
+            rs2,
+            imm,
+        ),
         Instr::OpImm {
             op,
             rd,
@@ -41,7 +51,7 @@ pub fn word(instr: &Instr) -> u32
             shamt,
         } => {
             let operand = field(imm, 0, 12) + u32::from(shamt) + codes::arithmetic_bit(op);
-            i_word(0x13, codes::op_imm_funct3(op), rd, rs1, operand)
+            i_word(OP_IMM_OPCODE, codes::op_imm_funct3(op), rd, rs1, operand)
         }
         Instr::OpImm32 {
             op,
@@ -51,10 +61,16 @@ pub fn word(instr: &Instr) -> u32
             shamt,
         } => {
             let operand = field(imm, 0, 12) + u32::from(shamt) + codes::arithmetic_bit_32(op);
-            i_word(0x1B, codes::op_imm_32_funct3(op), rd, rs1, operand)
+            i_word(
+                OP_IMM_32_OPCODE,
+                codes::op_imm_32_funct3(op),
+                rd,
+                rs1,
+                operand,
+            )
         }
         Instr::Op { op, rd, rs1, rs2 } => r_word(
-            0x33,
+            OP_OPCODE,
             codes::op_funct7(op),
             codes::op_funct3(op),
             u32::from(rd),
@@ -62,7 +78,7 @@ pub fn word(instr: &Instr) -> u32
             rs2,
         ),
         Instr::Op32 { op, rd, rs1, rs2 } => r_word(
-            0x3B,
+            OP_32_OPCODE,
             codes::op_32_funct7(op),
             codes::op_32_funct3(op),
             u32::from(rd),
@@ -75,9 +91,9 @@ pub fn word(instr: &Instr) -> u32
         Instr::Ebreak => EBREAK,
         Instr::Sret => SRET,
         Instr::Wfi => WFI,
-        Instr::SfenceVma { rs1, rs2 } => r_word(0x73, 0x09, 0, 0, rs1, rs2),
+        Instr::SfenceVma { rs1, rs2 } => r_word(SYSTEM_OPCODE, 0x09, 0, 0, rs1, rs2),
         Instr::Csr { op, rd, rs1, csr } => i_word(
-            0x73,
+            SYSTEM_OPCODE,
             codes::csr_funct3(op),
             rd,
             rs1,
@@ -90,7 +106,7 @@ pub fn word(instr: &Instr) -> u32
             aq,
             rl,
         } => r_word(
-            0x2F,
+            AMO_OPCODE,
             amo_funct7(0x02, aq, rl),
             width_funct3(width),
             u32::from(rd),
@@ -105,7 +121,7 @@ pub fn word(instr: &Instr) -> u32
             aq,
             rl,
         } => r_word(
-            0x2F,
+            AMO_OPCODE,
             amo_funct7(0x03, aq, rl),
             width_funct3(width),
             u32::from(rd),
@@ -122,7 +138,14 @@ pub fn word(instr: &Instr) -> u32
             rl,
         } => {
             let code = amo_funct7(codes::amo_funct5(op), aq, rl);
-            r_word(0x2F, code, width_funct3(width), u32::from(rd), rs1, rs2)
+            r_word(
+                AMO_OPCODE,
+                code,
+                width_funct3(width),
+                u32::from(rd),
+                rs1,
+                rs2,
+            )
         }
         Instr::Hyper { op, rd, rs1, rs2 } => hyper_word(op, rd, rs1, rs2),
     }
@@ -152,7 +175,7 @@ fn hyper_word(op: HyperOp, rd: u8, rs1: u8, rs2: u8) -> u32
 {
     let number = rs2 + codes::hyper_number(op) as u8;
     r_word(
-        0x73,
+        SYSTEM_OPCODE,
         codes::hyper_funct7(op),
         codes::hyper_funct3(op),
         u32::from(rd),

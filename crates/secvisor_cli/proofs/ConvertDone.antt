@@ -1,5 +1,6 @@
 -- What stands where `convert` is done.
 use Rattle.std.proofs.Common.{◌≡◌, ◌∙◌, ℕ, true, List, Option, Some, None, Ok, Err, refl, sym, ap, subst, inl, inr}
+use Rattle.command_words.specs.Commands.{ConvertSplit}
 use Rattle.std.proofs.lemmas.Option.{same_Some}
 use Rattle.sv_types.specs.declared.image_fault.ImageFault.{ImageFault}
 use Rattle.sv_types.specs.declared.status.Status.{Status}
@@ -17,7 +18,7 @@ use Rattle.entry_binding.proofs.BoundWithin.{law_in_text}
 use Rattle.outside.specs.Outside.{FilesState, after_asking}
 use Rattle.secvisor_cli.specs.declared.file_fault.FileFault.{FileFault}
 use Rattle.secvisor_cli.specs.Answers.{Headline, Meets, MeetsReached, Outside, outside}
-use Rattle.secvisor_cli.specs.CommandLine.{Convert, ConvertWords}
+use Rattle.secvisor_cli.specs.CommandLine.{Convert}
 use Rattle.secvisor_cli.specs.Converted.{Holds, IsBoundOf, IsConverted}
 use Rattle.secvisor_cli.specs.Plans.{Due, Refuse, Plan, End, Read, Judge, Found, Faulty, Missing, Longer, Held, binding_plan, binding_refusal, bound_plan, command_plan, convert_plan, due_of_convert, converted_judged, found_plan, kernel_part, part_judged, plan_of, policy_judged, policy_part, status_due}
 use Rattle.secvisor_cli.specs.Reading.{Follows, FoundAs}
@@ -40,7 +41,7 @@ done_at_end P (Judge next) old new due all (inr it) is = done_at_end P next old 
 -- ---- the plan of `convert`
 
 -- what is due is a policy bound to the kernel that was read
-record IsBoundDue (words : ConvertWords) (files : FilesState) (due : Due) : Type 0 where
+record IsBoundDue (words : ConvertSplit) (files : FilesState) (due : Due) : Type 0 where
   rules : Rules
   is : due ≡ due_of_convert words.out rules
   bound : IsBoundOf words files rules
@@ -62,7 +63,7 @@ refused_undone P (binding.Measure found wanted) e = absurd (cc e)
 still_holds : (old now : FilesState) (asked : List ℕ) (limit : ℕ) (name bytes : List ℕ) → now ≡ after_asking asked limit old → Holds now name bytes → Holds old name bytes
 still_holds old now asked limit name bytes is held = subst (λ (f : FilesState). Holds f name bytes) is held
 
-module _ (words : ConvertWords) (files : FilesState) where
+module _ (words : ConvertSplit) (files : FilesState) where
   -- the policy was read
   record HasPolicy (text : List ℕ) (given : Rules) : Type 0 where
     policy : Holds files words.given text
@@ -122,7 +123,7 @@ module _ (words : ConvertWords) (files : FilesState) where
   unfolding plan_of command_plan
   words_done = convert_done
 
-converted_by : (words : ConvertWords) (due : Due) (old new : Outside) (files : FilesState) → IsBoundDue words old.files due
+converted_by : (words : ConvertSplit) (due : Due) (old new : Outside) (files : FilesState) → IsBoundDue words old.files due
     → Meets due (outside files old.sink old.bench) new Status.Done → IsConverted words old new
 converted_by words due old new files bound meets =
     let now = subst (λ (d : Due). Meets d (outside files old.sink old.bench) new Status.Done) bound.is meets in
@@ -134,12 +135,12 @@ converted_by words due old new files bound meets =
       line = now.whole refl;
     }
 
-reached_by : (words : ConvertWords) (reached : Option Due) (old new : Outside) (files : FilesState) → Follows (plan_of (Ok (Convert words))) old.files files reached
+reached_by : (words : ConvertSplit) (reached : Option Due) (old new : Outside) (files : FilesState) → Follows (plan_of (Ok (Convert words))) old.files files reached
     → MeetsReached reached (outside files old.sink old.bench) new Status.Done → IsConverted words old new
 reached_by words None old new files follows meets = absurd (cc meets.0)
 reached_by words (Some due) old new files follows meets =
     converted_by words due old new files
     (done_at_end (IsBoundDue words old.files) (plan_of (Ok (Convert words))) old.files files due (words_done words old.files) follows (sym (meets.status refl))) meets
 
-pub converted_done : (words : ConvertWords) (old new : Outside) → Headline (plan_of (Ok (Convert words))) old new Status.Done → IsConverted words old new
+pub converted_done : (words : ConvertSplit) (old new : Outside) → Headline (plan_of (Ok (Convert words))) old new Status.Done → IsConverted words old new
 converted_done words old new headline = reached_by words headline.reached old new headline.read headline.follows headline.meets

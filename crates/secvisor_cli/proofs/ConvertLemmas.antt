@@ -1,5 +1,6 @@
 -- The stages of a plan that binds a policy's entries.
 use Rattle.std.proofs.Common.{◌≡◌, ◌∙◌, ℕ, List, length, None, refl, sym, ap, subst, Ok, Err}
+use Rattle.command_words.specs.Commands.{ConvertSplit}
 use Rattle.sv_types.specs.Kernel.{LoadedSegment, kernel_refusal, kernel_segments}
 use Rattle.sv_types.specs.Policies.{Rules}
 use Rattle.elf64_load.specs.Images.{segments_of}
@@ -15,7 +16,6 @@ use Rattle.outside.specs.Outside.{FilesState}
 use Rattle.secvisor_cli.specs.declared.ready.Ready.TheVariants.{Save}
 use Rattle.secvisor_cli.specs.declared.ready.Made.{Made}
 use Rattle.secvisor_cli.specs.declared.ready.Stop.TheVariants.{Memory}
-use Rattle.secvisor_cli.specs.CommandLine.{ConvertWords}
 use Rattle.secvisor_cli.specs.Plans.{bound_plan, converted_judged, converted_line, kernel_part}
 use Rattle.secvisor_cli.specs.Ready.{IsMade, IsReady, Prepares, stop_of_binding}
 use Rattle.secvisor_cli.proofs.ReadyLemmas.{judge_end, judge_wants}
@@ -31,7 +31,7 @@ fault_judged (Ok value) fault is = absurd (cc is)
 fault_judged (Err found) fault is =
     let same : found ≡ fault = cc is in ap (λ (f : BindFault). Err f) same
 
-module _ (words : ConvertWords) (rules : Rules) (file : List ℕ) (files : FilesState) (accepted : kernel_refusal file rules.ram_pages ≡ None) where
+module _ (words : ConvertSplit) (rules : Rules) (file : List ℕ) (files : FilesState) (accepted : kernel_refusal file rules.ram_pages ≡ None) where
   abbrev at_kernel : List LoadedSegment → Judged Rules
   at_kernel ss = bound_rules rules ss
 

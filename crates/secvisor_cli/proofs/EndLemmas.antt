@@ -1,5 +1,6 @@
 -- The end of a run: the rest of the console, and the report.
 use Rattle.std.proofs.Common.{◌≡◌, ℕ, List, [], ◌∷◌, ◌++◌, ◌<◌, length, refl, sym, ◌∙◌, ap, subst, append_assoc, inl, inr, Result, Ok, Err, IsErrOf, IsTrue, IsFalse}
+use Rattle.sv_types.specs.Limits.{most_printed}
 use Rattle.std.proofs.lemmas.List.{append-nil}
 use Rattle.sv_types.specs.declared.event.Event.{Event}
 use Rattle.sv_types.specs.declared.event.Verdict.{Verdict}
@@ -91,7 +92,7 @@ broke_reaches wanting first start events m old new never is_new b = record {
 -- ---- a whole run
 
 pub ran_reaches : (first : Machine) (start : State) (events : List Event) (m : Machine) (old mid new : SinkState) (result : Result Status Trouble) → IsNew first start →
-    HasRun first start events m old mid → length m.journal.printed < 4096 → IsFalse (is_due m.journal.printed) → TookPrefix mid new (machine_output m) → (IsErrOf result Memory → new ≡ mid) →
+    HasRun first start events m old mid → length m.journal.printed < most_printed → IsFalse (is_due m.journal.printed) → TookPrefix mid new (machine_output m) → (IsErrOf result Memory → new ≡ mid) →
     RunsTo (IsErrOf result Memory) start events m old new
 ran_reaches first start events m old mid new result is_new ran room undue prefix quiet = record {
   done = events;

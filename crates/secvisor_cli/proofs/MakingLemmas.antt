@@ -4,7 +4,7 @@ use Rattle.std.specs.Prelude.{not}
 use Rattle.std.specs.List.{list_all}
 use Rattle.std.proofs.lemmas.Bool.{and_parts}
 use Rattle.sv_types.specs.Policies.{Rules, each_within, modules_count_within}
-use Rattle.policy_making.specs.WordRanges.{is_name, is_among, is_new_name, all_new_names, are_module_names}
+use Rattle.policy_making.specs.WordRanges.{is_among, is_new_name, all_new_names, are_module_names}
 use Rattle.policy_making.specs.declared.object_file.ObjectFile.{ObjectFile}
 use Rattle.policy_making.specs.declared.refusal.MakingFault.{MakingFault}
 use Rattle.policy_making.specs.declared.refusal.MakingRefusal.{MakingRefusal}
@@ -24,6 +24,7 @@ use Rattle.secvisor_cli.specs.Reading.{FoundAs, Follows, MayFollow}
 use Rattle.secvisor_cli.specs.Ready.{PartRead, stop_of_making, IsMade, Prepares, Passes, MayStage}
 use Rattle.secvisor_cli.proofs.ReadyLemmas.{end_ready, judge_ready, judge_wants, read_ready, stopped_ready}
 use Rattle.secvisor_cli.proofs.StageLemmas.{read_follows, read_may, read_faults}
+use Rattle.sv_types.specs.Names.{name_within}
 
 -- ---- a part, and what is made of it
 
@@ -199,14 +200,14 @@ behind_same terms wanted file kernel digest names given objects held t f n o =
 
 -- ---- the words
 
-each_named : {A : Type 0} (bytes : A → List ℕ) (before : List (List ℕ)) (words : List A) → each_within is_new_name before (map bytes words) ≡ true → list_all (λ w. is_name (bytes w)) words ≡ true
+each_named : {A : Type 0} (bytes : A → List ℕ) (before : List (List ℕ)) (words : List A) → each_within is_new_name before (map bytes words) ≡ true → list_all (λ w. name_within (bytes w)) words ≡ true
 each_named bytes before [] new = refl
 each_named bytes before (w ∷ ws) new =
     let parts = and_parts (is_new_name before (bytes w)) (each_within is_new_name (before ++ bytes w ∷ []) (map bytes ws)) new in
-    let name = (and_parts (is_name (bytes w)) (not (is_among before (bytes w))) parts.0).0 in
-    ap (λ (b : Bool). b && list_all (λ v. is_name (bytes v)) ws) name ∙ each_named bytes (before ++ bytes w ∷ []) ws parts.1
+    let name = (and_parts (name_within (bytes w)) (not (is_among before (bytes w))) parts.0).0 in
+    ap (λ (b : Bool). b && list_all (λ v. name_within (bytes v)) ws) name ∙ each_named bytes (before ++ bytes w ∷ []) ws parts.1
 
 -- names of modules are names
-pub modules_named : {A : Type 0} (bytes : A → List ℕ) (words : List A) → IsTrue (are_module_names (map bytes words)) → IsTrue (list_all (λ w. is_name (bytes w)) words)
+pub modules_named : {A : Type 0} (bytes : A → List ℕ) (words : List A) → IsTrue (are_module_names (map bytes words)) → IsTrue (list_all (λ w. name_within (bytes w)) words)
 modules_named bytes words good =
     each_named bytes [] words (and_parts (modules_count_within (length (map bytes words))) (all_new_names (map bytes words)) good).1

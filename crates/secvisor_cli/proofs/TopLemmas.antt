@@ -1,5 +1,6 @@
 -- From what is ready to what is answered, and from the answer with its trouble to the status.
 use Rattle.std.proofs.Common.{◌≡◌, ◌≢◌, ℕ, ◌≤◌, ◌<◌, List, [], ◌∷◌, string_bytes, true, false, IsTrue, refl, sym, ◌∙◌, ap, subst, arith, inl, inr, ◌⊎◌, Option, Some, None, Result, Ok, Err, IsErrOf, if◌then◌else◌}
+use Rattle.command_words.specs.Commands.{ConvertSplit}
 use Rattle.std.specs.Option.{option_copied}
 use Rattle.std.specs.Result.{is_ok}
 use Rattle.std.specs.Str.{bytes_eq}
@@ -47,7 +48,7 @@ use Rattle.outside.specs.declared.trouble.Trouble.{Trouble}
 use Rattle.outside.specs.declared.trouble.Trouble.TheVariants.{Write, Memory}
 use Rattle.secvisor_cli.specs.Refusals.{refusal_line, refusal_status, takes_memory}
 use Rattle.command_words.specs.declared.command.DiskKind.{DiskKind}
-use Rattle.secvisor_cli.specs.CommandLine.{Command, Flat, Generated, Run, RunWords, Source, Rounds, Auto, Text, MakePolicy, PolicyWords, Convert, ConvertWords, judgement_of_words}
+use Rattle.secvisor_cli.specs.CommandLine.{Command, Flat, Generated, Run, RunWords, Source, Rounds, Auto, Text, MakePolicy, PolicyWords, Convert, judgement_of_words}
 use Rattle.secvisor_cli.specs.Plans.{Due, Refuse, RunFrom, Make, Exactly, Saving, policy_saving, saves_due, most_image_bytes, most_object_bytes, making_fault, made_judged, made_part, Kernel, digest_part, Modules, no_modules, with_module, module_part, modules_part, making_plan, measure_plan, Plan, End, bytes_due, status_due, found_plan, flat_plan, command_plan, plan_of, measure_judged, pages_judged, is_whole_pages, flat_events, gen_plan, gen_due, gen_disk, policy_judged, policy_part, part_judged, kernel_part, disk_refusal, disk_part, text_part, script_part, image_measure, boot_judged, boot_plan, image_plan, run_plan, start_with, due_of_measure, binding_refusal, converted_judged, bound_plan, binding_plan, convert_plan}
 use Rattle.secvisor_cli.specs.Reading.{Follows, MayFollow, MaySave, Saved, SaveBroke, SavesUnder}
 use Rattle.secvisor_cli.specs.Ready.{IsMade, IsReady, IsReadyWhere, IsFresh, IsRunnable, MayCarryOut, MaySaveRun, Prepares}
@@ -519,16 +520,16 @@ converted_no_read_fault : (out : List ℕ) (bound : Bound Rules) → status_due 
 converted_no_read_fault out (Ok rules) = λ e. cc e
 converted_no_read_fault out (Err fault) = binding_no_read_fault fault
 
-bound_found_faults : (words : ConvertWords) (rules : Rules) (file : List ℕ) → HasFoundFaults (bound_plan words rules file)
+bound_found_faults : (words : ConvertSplit) (rules : Rules) (file : List ℕ) → HasFoundFaults (bound_plan words rules file)
 unfolding bound_plan
 bound_found_faults words rules file = converted_no_read_fault words.out (bound_rules rules (kernel_segments file))
 
-binding_found_faults : (words : ConvertWords) (rules : Rules) → HasFoundFaults (binding_plan words rules)
+binding_found_faults : (words : ConvertSplit) (rules : Rules) → HasFoundFaults (binding_plan words rules)
 unfolding binding_plan kernel_part found_plan
 binding_found_faults words rules =
     (λ e. cc e, λ file. part_found_faults FileFault.Image (bound_plan words rules file) (kernel_refusal file rules.ram_pages) (bound_found_faults words rules file))
 
-convert_found_faults : (words : ConvertWords) → HasFoundFaults (convert_plan words)
+convert_found_faults : (words : ConvertSplit) → HasFoundFaults (convert_plan words)
 unfolding convert_plan policy_part found_plan
 convert_found_faults words = (λ e. cc e, λ bytes. policy_found_faults (binding_plan words) (rules_of_text bytes) (binding_found_faults words))
 

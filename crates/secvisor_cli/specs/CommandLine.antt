@@ -47,21 +47,14 @@ pub record PolicyWords : Type 0 where
   -- the names of the modules' objects
   pub modules : List (List ℕ)
 
--- a policy whose entries are bound to their places in a kernel
-pub record ConvertWords : Type 0 where
-  pub kernel : List ℕ
-  -- the policy that is given
-  pub given : List ℕ
-  -- the name that the new one is saved under
-  pub out : List ℕ
-
 pub data Command : Type 0 where
   Flat : (file wanted : List ℕ) → (events : ℕ) → Command
   -- the generated guest, which calls its kernel so many times
   Generated : (calls : ℕ) → Command
   Run : RunWords → Command
   MakePolicy : PolicyWords → Command
-  Convert : ConvertWords → Command
+  -- a policy whose entries are bound to their places in a kernel
+  Convert : ConvertSplit → Command
 
 -- ---- flat FILE MEASURE EVENTS
 
@@ -150,20 +143,15 @@ making_words w (Ok terms) =
 abbrev pub making_judged : MeasureSplit → Result Command Refusal
 making_judged w = making_words w (terms_judged w.ram w.harts w.entries w.init)
 
--- ---- convert KERNEL IN OUT
-
--- none of the words is out of its range
-abbrev pub convert_judged : ConvertSplit → Result Command Refusal
-convert_judged w = Ok (Convert (record { kernel = w.kernel; given = w.given; out = w.out }))
-
 -- ---- all commands
 
+-- none of the words of convert is out of its range
 abbrev pub command_judged : Split → Result Command Refusal
 command_judged (Split.Flat w) = flat_judged w
 command_judged (Split.Gen calls) = gen_judged calls
 command_judged (Split.Run w) = run_judged w
 command_judged (Split.Measure w) = making_judged w
-command_judged (Split.Convert w) = convert_judged w
+command_judged (Split.Convert w) = Ok (Convert w)
 
 abbrev pub split_judged : Option Split → Result Command Refusal
 split_judged None = Err NoCommand

@@ -1,5 +1,6 @@
 -- What stands outside where `convert` is done.
 use Rattle.std.specs.Prelude.{◌≡◌, true, ℕ, List, length, IsTrue, Some, Ok}
+use Rattle.command_words.specs.Commands.{ConvertSplit}
 use Rattle.std.specs.List.{list_all}
 use Rattle.sv_types.specs.Kernel.{kernel_segments}
 use Rattle.sv_types.specs.Policies.{Rules}
@@ -8,7 +9,6 @@ use Rattle.entry_binding.specs.Binding.{bound_rules}
 use Rattle.entry_binding.specs.InText.{is_in_text}
 use Rattle.outside.specs.Outside.{FilesState, after_taking}
 use Rattle.secvisor_cli.specs.Answers.{Outside}
-use Rattle.secvisor_cli.specs.CommandLine.{ConvertWords}
 use Rattle.secvisor_cli.specs.Plans.{converted_line, policy_saving}
 use Rattle.secvisor_cli.specs.Reading.{Saved}
 
@@ -17,7 +17,7 @@ abbrev pub Holds : FilesState → (name bytes : List ℕ) → Type 0
 Holds files name bytes = IsTrue files.tells → files.held name ≡ Some bytes
 
 -- a policy whose entries are bound to their places in a kernel, each to an address in its text; both are what the names hold
-pub record IsBoundOf (words : ConvertWords) (files : FilesState) (rules : Rules) : Type 0 where
+pub record IsBoundOf (words : ConvertSplit) (files : FilesState) (rules : Rules) : Type 0 where
   -- what the policy was read from, and what it says
   pub text : List ℕ
   pub given : Rules
@@ -30,7 +30,7 @@ pub record IsBoundOf (words : ConvertWords) (files : FilesState) (rules : Rules)
   pub within : list_all (is_in_text (kernel_segments file)) rules.bound ≡ true
 
 -- the line of the entries was written, and a text was saved that reads as that policy
-pub record IsConverted (words : ConvertWords) (old new : Outside) : Type 0 where
+pub record IsConverted (words : ConvertSplit) (old new : Outside) : Type 0 where
   pub rules : Rules
   -- the files once they were read
   pub read : FilesState

@@ -1,6 +1,7 @@
 -- What is asked, as a plan: which files are read, under which names, in which order, and what is due by what is found in
 -- them. This project's own.
 use Rattle.std.specs.Prelude.{ℕ, ◌%◌, ◌*◌, ◌^◌, List, [], ◌∷◌, ◌++◌, length, map, codes, Bool, ◌&&◌, ◌==◌, nat_lt, if◌then◌else◌, Option, Some, None, Result, Ok, Err}
+use Rattle.command_words.specs.Commands.{ConvertSplit}
 use Rattle.std.specs.Fmt.{decimal}
 use Rattle.std.specs.Str.{bytes_eq}
 use Rattle.sv_types.specs.declared.event.Event.{Event}
@@ -39,7 +40,7 @@ use Rattle.secvisor_cli.specs.declared.file_fault.FileFault.{FileFault}
 use Rattle.secvisor_cli.specs.declared.refusal.Refusal.{Refusal}
 use Rattle.secvisor_cli.specs.declared.refusal.Refusal.TheVariants.{ReadFault, File, Measure, Entry}
 use Rattle.secvisor_cli.specs.Refusals.{refusal_line, refusal_status}
-use Rattle.secvisor_cli.specs.CommandLine.{Command, Flat, Generated, Run, RunWords, MakePolicy, PolicyWords, Convert, ConvertWords, Source, Rounds, Auto, Text}
+use Rattle.secvisor_cli.specs.CommandLine.{Command, Flat, Generated, Run, RunWords, MakePolicy, PolicyWords, Convert, Source, Rounds, Auto, Text}
 
 -- ---- what is due
 
@@ -313,13 +314,13 @@ abbrev pub converted_judged : (out : List ℕ) → Bound Rules → Due
 converted_judged out (Ok rules) = due_of_convert out rules
 converted_judged out (Err fault) = Refuse (binding_refusal fault)
 
-unfoldable pub bound_plan : ConvertWords → Rules → (file : List ℕ) → Plan
+unfoldable pub bound_plan : ConvertSplit → Rules → (file : List ℕ) → Plan
 bound_plan words rules file = Judge (End (converted_judged words.out (bound_rules rules (kernel_segments file))))
 
-unfoldable pub binding_plan : ConvertWords → Rules → Plan
+unfoldable pub binding_plan : ConvertSplit → Rules → Plan
 binding_plan words rules = image_part rules words.kernel (bound_plan words rules)
 
-unfoldable pub convert_plan : ConvertWords → Plan
+unfoldable pub convert_plan : ConvertSplit → Plan
 convert_plan words = policy_part words.given (binding_plan words)
 
 -- ---- all commands

@@ -1,5 +1,6 @@
 -- What judging and reading the words answers.
 use Rattle.std.specs.Prelude.{◌≡◌, ◌≤◌, IsTrue, map, Result, Ok, Err}
+use Rattle.command_words.specs.Values.{convert_split_of}
 use Rattle.std.specs.Option.{option_copied}
 use Rattle.std.specs.Result.{is_ok}
 use Rattle.sv_types.specs.Limits.{most_events}
@@ -16,8 +17,7 @@ use Rattle.secvisor_cli.specs.declared.words.Source.TheVariants as named
 use Rattle.secvisor_cli.specs.declared.words.Run.{Run as AskedRun}
 use Rattle.secvisor_cli.specs.declared.words.Terms.{Terms as AskedTerms}
 use Rattle.secvisor_cli.specs.declared.words.MakePolicy.{MakePolicy as AskedPolicy}
-use Rattle.secvisor_cli.specs.declared.words.Convert.{Convert as AskedConvert}
-use Rattle.secvisor_cli.specs.CommandLine.{Command, Flat, Generated, Run, RunWords, MakePolicy, PolicyWords, Convert, ConvertWords, Source, Rounds, Auto, Text}
+use Rattle.secvisor_cli.specs.CommandLine.{Command, Flat, Generated, Run, RunWords, MakePolicy, PolicyWords, Convert, Source, Rounds, Auto, Text}
 
 -- where the events come from, by value
 abbrev pub source_value : Named → Source
@@ -48,16 +48,13 @@ policy_value p = record {
   modules = map (λ name. name.now) p.modules.items;
 }
 
-abbrev pub convert_value : AskedConvert → ConvertWords
-convert_value c = record { kernel = c.kernel.now; given = c.given.now; out = c.out.now }
-
 -- the values of the words
 abbrev pub command_of : Asked → Command
 command_of (asked.Flat flat) = Flat flat.file.now flat.wanted flat.events
 command_of (asked.Generated calls) = Generated calls
 command_of (asked.Run run) = Run (run_value run)
 command_of (asked.MakePolicy policy) = MakePolicy (policy_value policy)
-command_of (asked.Convert convert) = Convert (convert_value convert)
+command_of (asked.Convert convert) = Convert (convert_split_of convert)
 
 -- the command of these values, or the first word that is out of its range
 abbrev pub IsRead : Result Command Refusal → Result Asked Refusal → Type 0

@@ -6,13 +6,13 @@ ghost use Rattle.processor.specs.Counters.{CanCount};
 ghost use Rattle.secvisor_cli.specs.Plans.{bound_plan, convert_plan, converted_line, kernel_part};
 ghost use Rattle.secvisor_cli.specs.Reading.{MayFollow};
 ghost use Rattle.secvisor_cli.specs.Ready.{IsMade, Prepares};
-ghost use Rattle.secvisor_cli.specs.Words.{convert_value};
+ghost use Rattle.command_words.specs.Values.{convert_split_of};
 
 use crate::file_fault::Part;
 use crate::image_run::{MOST_IMAGE_BYTES, judge_kernel, read_policy};
 use crate::parts::read_part;
 use crate::ready::{Made, Ready, Stop};
-use crate::words::Convert;
+use command_words::ConvertWords;
 use entry_binding::bind;
 use outside::Files;
 use std::alloc::{AllocError, Global};
@@ -23,12 +23,12 @@ use sv_types::Policy;
 pub fn prepare_converted<'a, R: Threads + Sync, F: Files>(
     rt: &R,
     alloc: Global,
-    asked: &Convert<'a>,
+    asked: &ConvertWords<'a>,
     files: &mut F,
 ) -> Result<Ready<'a>, Stop>
-    requires permitted { MayFollow (convert_plan (convert_value asked.now)) (F.state files.old) }
+    requires permitted { MayFollow (convert_plan (convert_split_of asked.now)) (F.state files.old) }
     requires reads { CanCount (F.state files.old).read_faults }
-    ensures { Prepares (convert_plan (convert_value asked.now)) (F.state files.old) (F.state files.new) result }
+    ensures { Prepares (convert_plan (convert_split_of asked.now)) (F.state files.old) (F.state files.new) result }
 {
     let policy = read_policy(alloc, asked.given, files)?;
     let file = read_part(alloc, files, Part::Image, asked.kernel, MOST_IMAGE_BYTES)?;
@@ -39,12 +39,12 @@ pub fn prepare_converted<'a, R: Threads + Sync, F: Files>(
 fn bind_file<'a, R: Threads + Sync>(
     rt: &R,
     alloc: Global,
-    asked: &Convert<'a>,
+    asked: &ConvertWords<'a>,
     policy: Policy,
     file: &[u8],
 ) -> Result<Ready<'a>, Stop>
     requires within { IsTrue (rules_within (rules_of policy)) }
-    ensures { (files : FilesState) → Prepares (kernel_part (rules_of policy) file.now (bound_plan (convert_value asked.now) (rules_of policy) file.now)) files files result }
+    ensures { (files : FilesState) → Prepares (kernel_part (rules_of policy) file.now (bound_plan (convert_split_of asked.now) (rules_of policy) file.now)) files files result }
 {
     let image = judge_kernel(alloc, file, policy.ram_pages)?;
     let bound = bind(rt, alloc, policy, &image)?;

@@ -1,9 +1,10 @@
 // Laws of the definitions alone. A law takes no argument and does nothing; its clause is the theorem.
 
 ghost use Rattle.std.specs.Prelude.{Ok};
+ghost use Rattle.command_words.specs.Commands.{ConvertSplit};
 ghost use Rattle.sv_types.specs.declared.status.Status.{Status};
 ghost use Rattle.secvisor_cli.specs.Answers.{Headline, Outside};
-ghost use Rattle.secvisor_cli.specs.CommandLine.{Convert, ConvertWords};
+ghost use Rattle.secvisor_cli.specs.CommandLine.{Convert};
 ghost use Rattle.secvisor_cli.specs.Converted.{IsConverted};
 ghost use Rattle.secvisor_cli.specs.DueIn.{ComesToDue, RunEnds};
 ghost use Rattle.secvisor_cli.specs.Plans.{plan_of};
@@ -11,7 +12,7 @@ ghost use Rattle.secvisor_cli.specs.Plans.{plan_of};
 /// Where `convert` ends with status 0, the policy that its name holds was saved with its entries bound to their places in the
 /// kernel that its name holds, each to an address in the kernel's text, and its line was written.
 pub fn law_converted()
-    ensures { (words : ConvertWords) (old new : Outside) → Headline (plan_of (Ok (Convert words))) old new Status.Done → IsConverted words old new }
+    ensures { (words : ConvertSplit) (old new : Outside) → Headline (plan_of (Ok (Convert words))) old new Status.Done → IsConverted words old new }
 {}
 
 /// In files that tell what they hold, what is due at the end of a plan is what they hold asks for, where no read failed.

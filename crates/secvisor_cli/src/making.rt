@@ -4,13 +4,14 @@ ghost use Rattle.std.specs.List.{list_all};
 ghost use Rattle.sv_types.specs.Policies.{rules_of, rules_within};
 ghost use Rattle.policy_making.specs.Making.{file_names, terms_of};
 ghost use Rattle.policy_making.specs.Ranges.{terms_within};
-ghost use Rattle.policy_making.specs.WordRanges.{is_name, are_module_names};
+ghost use Rattle.policy_making.specs.WordRanges.{are_module_names};
 ghost use Rattle.outside.specs.Outside.{FilesState};
 ghost use Rattle.processor.specs.Counters.{CanCount};
 ghost use Rattle.secvisor_cli.specs.Plans.{Plan, Modules, digest_part, no_modules, module_part, modules_part, making_plan, measure_plan, measured_line};
 ghost use Rattle.secvisor_cli.specs.Reading.{MayFollow};
 ghost use Rattle.secvisor_cli.specs.Ready.{IsMade, Prepares, Passes, Staged, MayStage, kernel_value, modules_value};
 ghost use Rattle.secvisor_cli.specs.Words.{policy_value, terms_value};
+ghost use Rattle.sv_types.specs.Names.{name_within};
 
 use crate::file_fault::Part;
 use crate::image_run::MOST_IMAGE_BYTES;
@@ -86,7 +87,7 @@ fn read_modules<F: Files>(
 ) -> Result<WantingModules, Stop>
     requires permitted { MayStage (modules_part (map (λ word. word.now) words.now) no_modules) (F.state files.old) }
     requires reads { CanCount (F.state files.old).read_faults }
-    requires names { IsTrue (list_all (λ word. is_name word.now) words.now) }
+    requires names { IsTrue (list_all (λ word. name_within word.now) words.now) }
     ensures staged { Staged (modules_part (map (λ word. word.now) words.now) no_modules) modules_value (F.state files.old) (F.state files.new) result }
     ensures named { IfOk result (λ modules. file_names (modules_value modules).objects ≡ map (λ word. word.now) words.now) }
 {
@@ -109,7 +110,7 @@ fn read_module<F: Files>(
 ) -> Result<(), Stop>
     requires permitted { MayStage (module_part word.now (modules_value modules.old)) (F.state files.old) }
     requires reads { CanCount (F.state files.old).read_faults }
-    requires name { IsTrue (is_name word.now) }
+    requires name { IsTrue (name_within word.now) }
     ensures passes { OnOk result (Passes (module_part word.now (modules_value modules.old)) (modules_value modules.new) (F.state files.old) (F.state files.new)) }
     ensures named { OnOk result (file_names (modules_value modules.new).objects ≡ file_names (modules_value modules.old).objects ++ word.now ∷ []) }
     ensures stopped { IfErr result (λ stop. (next : Modules → Plan) → Prepares (module_part word.now (modules_value modules.old) next) (F.state files.old) (F.state files.new) (Err stop)) }

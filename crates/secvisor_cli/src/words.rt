@@ -5,8 +5,8 @@ ghost use Rattle.sv_types.specs.Numbers.{number_within};
 ghost use Rattle.processor.specs.Regions.{most_ram_pages};
 ghost use Rattle.sv_types.specs.Limits.{most_harts, fewest_ram_pages};
 ghost use Rattle.policy_making.specs.WordRanges.{entries_of, are_module_names};
-ghost use Rattle.command_words.specs.Values.{split_of, flat_split_of, run_split_of, measure_split_of, convert_split_of};
-ghost use Rattle.secvisor_cli.specs.CommandLine.{command_judged, flat_judged, gen_judged, run_judged, run_of, unless_none, source_of, auto_of, making_judged, convert_judged, terms_judged, terms_with, init_of};
+ghost use Rattle.command_words.specs.Values.{split_of, flat_split_of, run_split_of, measure_split_of};
+ghost use Rattle.secvisor_cli.specs.CommandLine.{command_judged, flat_judged, gen_judged, run_judged, run_of, unless_none, source_of, auto_of, making_judged, terms_judged, terms_with, init_of};
 ghost use Rattle.secvisor_cli.specs.Words.{IsRead, HasTerms, HasModuleNames, IsInRange, command_of, source_value, run_value};
 
 use crate::refusal::{Refusal, Word};
@@ -25,7 +25,7 @@ pub enum Command<'a> {
     Generated(u64),
     Run(Run<'a>),
     MakePolicy(MakePolicy<'a>),
-    Convert(Convert<'a>),
+    Convert(ConvertWords<'a>),
 }
 
 /// `flat FILE MEASURE EVENTS`: the file's name, the measure that is wanted, and the number of events.
@@ -62,15 +62,6 @@ pub struct MakePolicy<'a> {
     pub modules: Vec<&'a str>,
 }
 
-/// `convert KERNEL IN OUT`: the files' names, and the name that the policy with bound entries is saved under.
-#[derive(Drop)]
-pub struct Convert<'a> {
-    pub kernel: &'a str,
-    /// The policy that is given.
-    pub given: &'a str,
-    pub out: &'a str,
-}
-
 /// What a policy says beside its files.
 #[derive(Drop)]
 pub struct Terms<'a> {
@@ -104,7 +95,7 @@ pub fn read_words(words: CommandWords<'_>) -> Result<Command<'_>, Refusal>
         CommandWords::Generated(calls) => read_generated(calls),
         CommandWords::Run(words) => read_run(&words),
         CommandWords::Measure(words) => read_measure(words),
-        CommandWords::Convert(words) => Ok(read_convert(&words)),
+        CommandWords::Convert(words) => Ok(Command::Convert(words)),
     }
 }
 
@@ -200,18 +191,6 @@ fn auto_of(number: &str) -> Option<Source<'_>>
         Some(number) => Some(Source::Auto(number)),
         None => None,
     }
-}
-
-// The words of `convert`.
-fn read_convert<'a>(words: &ConvertWords<'a>) -> Command<'a>
-    ensures read { convert_judged (convert_split_of words.now) ≡ Ok (command_of result) }
-    ensures range { IsInRange result }
-{
-    Command::Convert(Convert {
-        kernel: words.kernel,
-        given: words.given,
-        out: words.out,
-    })
 }
 
 // The words of `measure`.

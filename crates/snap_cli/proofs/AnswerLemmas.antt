@@ -6,7 +6,7 @@ use Rattle.sv_types.specs.declared.status.Status.{Status}
 use Rattle.reference.specs.States.{State}
 use Rattle.machine_model.specs.Machine.{Machine}
 use Rattle.machine_model.specs.Reaches.{IsNew}
-use Rattle.outside.specs.Outside.{FilesState, SinkState}
+use Rattle.outside.specs.Outside.{FilesState, SinkState, MaySaveUnder}
 use Rattle.secvisor_cli.specs.Answers.{Outside, outside, Writes, WritesAndSaves}
 use Rattle.secvisor_cli.specs.Plans.{Due, Refuse, RunFrom, Make, Plan, run_plan}
 use Rattle.secvisor_cli.specs.Reading.{MayFollow}
@@ -21,7 +21,7 @@ use Rattle.outside.specs.declared.trouble.Trouble.TheVariants.{Memory}
 use Rattle.secvisor_cli.proofs.TopLemmas.{refused_writes}
 use Rattle.secvisor_cli.proofs.PlanLemmas.{may_follow}
 use Rattle.snap_cli.specs.SnapAnswers.{RunsSnap, AnswersSnapReached, PerformsRun, PerformsSnap}
-use Rattle.snap_cli.specs.SnapReady.{StartsBlock, IsBootedWhere, Boots, MaySaveUnder}
+use Rattle.snap_cli.specs.SnapReady.{StartsBlock, IsBootedWhere, Boots}
 use Rattle.snap_cli.specs.SnapWords.{SnapWords, snap_plan, out_of, snap_judged}
 
 -- ---- what is ready

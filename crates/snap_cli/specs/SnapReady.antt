@@ -1,5 +1,5 @@
 -- What is made ready of `snap`, before anything is written.
-use Rattle.std.specs.Prelude.{◌≡◌, ℕ, List, [], ◌∷◌, true, IsTrue, Option, Some, None, Result, Ok, Err, IsErrOf}
+use Rattle.std.specs.Prelude.{◌≡◌, true, Option, Some, None, Result, Ok, Err, IsErrOf}
 use Rattle.sv_types.specs.Schedule.{first_events}
 use Rattle.reference.specs.States.{State}
 use Rattle.machine_model.specs.Machine.{Machine}
@@ -38,7 +38,3 @@ pub record Boots (plan : Plan) (old new : FilesState) (result : Result Booted St
   pub reached : Option Due
   pub follows : Follows plan old new reached
   pub ready : IsBootedWhere reached result
-
--- any bytes may be saved under the name, once
-abbrev pub MaySaveUnder : (name : List ℕ) → FilesState → Type 0
-MaySaveUnder name files = (bytes : List ℕ) → IsTrue (files.permits_save ((name, bytes) ∷ []))

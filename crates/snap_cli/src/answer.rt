@@ -10,7 +10,7 @@ ghost use Rattle.machine_model.specs.Reaches.{IsNew};
 ghost use Rattle.sv_types.specs.Schedule.{first_events};
 ghost use Rattle.console_run.specs.Console.{MayRun};
 ghost use Rattle.console_run.specs.Standing.{HasState};
-ghost use Rattle.outside.specs.Outside.{MayWrite};
+ghost use Rattle.outside.specs.Outside.{MayWrite, MaySaveUnder};
 ghost use Rattle.processor.specs.Counters.{CanCount};
 ghost use Rattle.secvisor_cli.specs.Answers.{outside, Writes};
 ghost use Rattle.secvisor_cli.specs.Plans.{run_plan};
@@ -18,7 +18,7 @@ ghost use Rattle.secvisor_cli.specs.Reading.{MayFollow, IsNamed};
 ghost use Rattle.secvisor_cli.specs.Ready.{IsFresh};
 ghost use Rattle.secvisor_cli.specs.Words.{run_value};
 ghost use Rattle.snap_cli.specs.SnapAnswers.{StandsAfter, SnapsTo, RunsSnap, PerformsSnap, PerformsRun, SnapHeadline};
-ghost use Rattle.snap_cli.specs.SnapReady.{StartsBlock, MaySaveUnder};
+ghost use Rattle.snap_cli.specs.SnapReady.{StartsBlock};
 ghost use Rattle.snap_cli.specs.SnapWords.{snap_judged, snap_plan, out_of};
 
 use crate::ready::prepare_snap;

@@ -5,9 +5,9 @@ ghost use Rattle.snap_laws.specs.EventCounts.{events_counted};
 ghost use Rattle.console_run.specs.Standing.{HasState};
 ghost use Rattle.secvisor_cli.specs.Answers.{AfterSave};
 ghost use Rattle.secvisor_cli.specs.Plans.{Exactly};
-ghost use Rattle.snap_cli.specs.SnapReady.{MaySaveUnder};
 ghost use Rattle.snap_cli.specs.Spelling.{SpellsMachine, SavesMachine};
 ghost use Rattle.processor.specs.Counters.{CanCount};
+ghost use Rattle.outside.specs.Outside.{MaySaveUnder};
 
 use machine::Machine;
 use outside::Files;

@@ -1,5 +1,6 @@
 -- What a machine recorded has a form.
 use Rattle.std.proofs.Common.{◌≡◌, ℕ, zero, suc, Bool, true, false, List, [], ◌∷◌, eqb, leb, refl, ap, arith}
+use Rattle.sv_types.specs.Limits.{most_notes}
 use Rattle.std.specs.Prelude.{nat_lt, nat_le, ◌==◌, ◌||◌, if◌then◌else◌, min}
 use Rattle.std.proofs.lemmas.Bool.{eqb-true, leb-true}
 use Rattle.sv_types.specs.Policies.{is_between}
@@ -8,9 +9,6 @@ use Rattle.sv_types.specs.declared.sbi.SbiCode.{SbiCode}
 use Rattle.sv_types.specs.declared.event.Note.{Note}
 use Rattle.sv_types.specs.declared.event.Rule.{Rule}
 use Rattle.sv_types.specs.declared.event.Verdict.{Verdict}
-use Rattle.sv_types.specs.declared.event.Note.TheVariants as Note
-use Rattle.sv_types.specs.declared.event.Rule.TheVariants as Rule
-use Rattle.sv_types.specs.declared.event.Verdict.TheVariants as Verdict
 use Rattle.snapshot_form.specs.FormLaw.{IsForm}
 use Rattle.snapshot_form.specs.Forms.{is_word, number, within, and_then, ◌⨾◌, always}
 use Rattle.snapshot_form.specs.JournalForms.{count, event_counts, hart_counts, rule_counts, counts_of, counts_parts, counts, codes_known, is_among, found_among, code, hart_number, kind_of, is_kind, demote_of, demote_parts, demote, denied_of, denied_parts, denied_note, answer, load_note_of, load_note_parts, load_note, unload_of, unload_parts, unload, retire_of, retire_parts, retire, note_behind, note, notes, verdict_kind, is_verdict, entry_of, entry_parts, stopped_entry, write_of, write_parts, stopped_write, verdict_behind, verdict, journal}
@@ -192,7 +190,7 @@ note_is harts =
 
 pub notes_are : (harts all : ℕ) → IsForm (notes harts all)
 unfolding notes
-notes_are harts all = counted_is (λ n. n == min 4096 all) (λ before. note harts) (λ before. note_is harts)
+notes_are harts all = counted_is (λ n. n == min most_notes all) (λ before. note harts) (λ before. note_is harts)
 
 entry_back : (v : Verdict) → eqb (verdict_kind v) 2 ≡ true → entry_of (entry_parts v) ≡ v
 entry_back Verdict.Running e = absurd cc

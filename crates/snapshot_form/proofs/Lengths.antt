@@ -8,12 +8,11 @@ use Rattle.std.proofs.lemmas.Slice.Eq.{bytes_eq-Decides}
 use Rattle.processor.specs.Bytes.{page_size}
 use Rattle.sv_types.specs.Policies.{is_between, harts_within, ram_pages_within, modules_count_within}
 use Rattle.processor.specs.Registers.{legal_status, legal_interrupts, legal_tvec, legal_counteren, legal_epc, legal_satp}
-use Rattle.sv_types.specs.Limits.{most_disk_bytes}
+use Rattle.sv_types.specs.Limits.{most_disk_bytes, most_notes}
 use Rattle.sv_types.specs.declared.event.Verdict.{Verdict}
 use Rattle.sv_types.specs.declared.block.BlockState.{BlockState}
 use Rattle.reference.specs.BlockDisk.{sector_size}
 use Rattle.saved_machine.specs.declared.harts.SavedHart.{SavedHart}
-use Rattle.sv_types.specs.declared.event.Verdict.TheVariants as Verdict
 use Rattle.sv_types.specs.SbiCodes.{code_word}
 use Rattle.snapshot_form.specs.DeviceForms.{console, goes_with, has_beats, transfer, standing_status, block, holds_transfer, disk, devices, is_block, block_in, port}
 use Rattle.snapshot_form.specs.Forms.{Form, spell_number, is_word, number, byte, plain, nothing, within, and_then, ◌⨾◌, map_form, always, spell_all, has_all, list_form, counted_list, counted_bytes}
@@ -252,13 +251,13 @@ note_behind_short harts kind =
     (longer_by _ 24 32 (retire_short harts) (omega arith)))))
 
 -- the lesser of two numbers is at most the first
-kept_few : (all n : ℕ) → (n == min 4096 all) ≡ true → n ≤ 4096
-kept_few all n h = omega (arith, eqb-true n (min 4096 all) h)
+kept_few : (all n : ℕ) → (n == min most_notes all) ≡ true → n ≤ most_notes
+kept_few all n h = omega (arith, eqb-true n (min most_notes all) h)
 
 notes_short : (harts all : ℕ) → IsAtMost (notes harts all) 163848
 unfolding notes note
 notes_short harts all =
-    counted_short (λ n. n == min 4096 all) (λ before. note harts) 40 4096 (kept_few all)
+    counted_short (λ n. n == min most_notes all) (λ before. note harts) 40 most_notes (kept_few all)
     (λ before. made_short _ _ always _ 40 (both_short _ (note_behind harts) 8 32 (numbers_short (is_between 1 5)) (λ kind h. note_behind_short harts kind)))
 
 verdict_short : (harts : ℕ) → IsAtMost (verdict harts) 40

@@ -8,11 +8,8 @@ use Rattle.sv_types.specs.Policies.{is_between}
 use Rattle.sv_types.specs.SbiCodes.{code_word}
 use Rattle.sv_types.specs.declared.sbi.SbiCode.{SbiCode}
 use Rattle.sv_types.specs.declared.event.Counts.{Counts}
-use Rattle.sv_types.specs.declared.event.Note.TheVariants as Note
 use Rattle.sv_types.specs.declared.event.Note.{Note}
-use Rattle.sv_types.specs.declared.event.Rule.TheVariants as Rule
 use Rattle.sv_types.specs.declared.event.Rule.{Rule}
-use Rattle.sv_types.specs.declared.event.Verdict.TheVariants as Verdict
 use Rattle.sv_types.specs.declared.event.Verdict.{Verdict}
 
 -- ---- counts

@@ -5,7 +5,7 @@ use Rattle.saved_machine.specs.declared.harts.SavedHart.{SavedHart}
 use Rattle.saved_machine.specs.declared.whole.SavedLoad.{SavedLoad}
 use Rattle.snapshot_form.specs.DeviceForms.{Devices, devices}
 use Rattle.sv_types.specs.Steps.{◌>>=◌}
-use Rattle.snapshot_form.specs.Forms.{Taken, Form, number, plain, within, and_then, ◌⨾◌, map_value, map_form, always}
+use Rattle.snapshot_form.specs.Forms.{Taken, Form, number, plain, within, and_then, ◌⨾◌, map_form, always}
 use Rattle.snapshot_form.specs.HartForms.{harts}
 use Rattle.snapshot_form.specs.JournalForms.{JournalParts, journal}
 use Rattle.snapshot_form.specs.PageForms.{Pages, pages, Gate, gate}
@@ -158,10 +158,6 @@ whole_body s = (
 
 unfoldable pub snapshot : Form Contents
 snapshot = map_form whole_of (λ s. (whole_header s, whole_body s)) always (and_then header body)
-
--- what stands behind a header
-abbrev pub behind : Header → List ℕ → Taken Contents
-behind h bytes = (body h).taken bytes >>= map_value (λ b. whole_of (h, b))
 
 -- ---- files
 

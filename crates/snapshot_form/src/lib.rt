@@ -11,7 +11,7 @@ pub mod verdict_kind;
 mod whole;
 
 pub use refusal::SnapRefusal;
-pub use whole::{MAGIC, Snapshot, TextPage};
+pub use whole::{MAGIC, MAGIC_BYTES, Snapshot, TextPage};
 
 /// A snapshot that has a spelling is read from its spelling, and what is read is spelled by exactly the bytes that were read.
 pub fn law_snapshot()

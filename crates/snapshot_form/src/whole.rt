@@ -3,8 +3,10 @@
 use saved_machine::Saved;
 use sv_types::Digest;
 
-/// The first eight bytes of a snapshot.
-pub const MAGIC: &[u8; 8] = b"SVSNAP01";
+/// The first bytes of a snapshot.
+pub const MAGIC_BYTES: usize = 8;
+
+pub const MAGIC: &[u8; MAGIC_BYTES] = b"SVSNAP01";
 
 /// A page of the kernel's text, and the SHA-256 of the bytes that it was approved with.
 #[derive(Clone, Copy, Drop)]

@@ -1,7 +1,7 @@
 // The bytes of a hart's supervisor registers.
 
 ghost use Rattle.std.specs.Prelude.{◌≡◌, ◌==◌, ◌||◌};
-ghost use Rattle.processor.specs.Registers.{legal_counteren, legal_epc, legal_interrupts, legal_satp, legal_status, legal_tvec};
+ghost use Rattle.processor.specs.Registers.{legal_counteren, legal_epc, legal_interrupts, legal_satp, legal_status, legal_tvec, software_bit};
 ghost use Rattle.snapshot_form.specs.Forms.{number, within};
 ghost use Rattle.snapshot_form.specs.HartForms.{legal, status, trap_status};
 ghost use Rattle.snapshot_reader.specs.Reading.{Gives};
@@ -126,7 +126,7 @@ fn read_sepc(bytes: &[u8]) -> Result<(u64, &[u8]), SnapRefusal>
 
 // The software interrupt, or nothing.
 fn read_sip(bytes: &[u8]) -> Result<(u64, &[u8]), SnapRefusal>
-    ensures { Gives (λ x. (x.0, x.1.now)) result ((within (λ n. n == 0 || n == 2) number).taken bytes.now) }
+    ensures { Gives (λ x. (x.0, x.1.now)) result ((within (λ n. n == 0 || n == software_bit) number).taken bytes.now) }
 {
     let (n, rest) = read_number(bytes)?;
     in_range(n == 0 || n == SOFTWARE_INTERRUPT)?;

@@ -12,11 +12,14 @@ use policy_limits::MOST_ENTRIES;
 use processor::INSTRUCTION_BYTES;
 use snapshot_form::SnapRefusal;
 
+/// The bytes of a number.
+const NUMBER_BYTES: usize = 8;
+
 #[tactic(auto, unfolding(snapshot_form::specs::Forms::number_at))]
 pub(crate) fn read_number(bytes: &[u8]) -> Result<(u64, &[u8]), SnapRefusal>
     ensures { Gives (λ x. (x.0, x.1.now)) result (number.taken bytes.now) }
 {
-    let Some((front, rest)) = bytes.split_first_chunk::<8>() else {
+    let Some((front, rest)) = bytes.split_first_chunk::<NUMBER_BYTES>() else {
         return Err(SnapRefusal::OtherLength);
     };
     Ok((u64::from_le_bytes(*front), rest))

@@ -18,7 +18,7 @@ use crate::values::{in_range, read_number, read_plain};
 use policy_limits::{FEWEST_RAM_PAGES, MOST_RAM_PAGES};
 use processor::PAGE_BYTES;
 use saved_machine::{Saved, SavedHart};
-use snapshot_form::{MAGIC, SnapRefusal, Snapshot, law_snapshot};
+use snapshot_form::{MAGIC, MAGIC_BYTES, SnapRefusal, Snapshot, law_snapshot};
 use std::alloc::Global;
 use sv_types::{MOST_EVENTS, MOST_HARTS, PortState};
 
@@ -140,7 +140,7 @@ fn read_header(bytes: &[u8]) -> Result<(Header, &[u8]), SnapRefusal>
 fn read_magic(bytes: &[u8]) -> Result<&[u8], SnapRefusal>
     ensures { Gives (λ rest. (magic, rest.now)) result (magic_form.taken bytes.now) }
 {
-    let Some((front, rest)) = bytes.split_first_chunk::<8>() else {
+    let Some((front, rest)) = bytes.split_first_chunk::<MAGIC_BYTES>() else {
         return Err(SnapRefusal::OtherLength);
     };
     if front != MAGIC {

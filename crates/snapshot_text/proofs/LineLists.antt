@@ -1,5 +1,5 @@
 -- Lines of one element after another, as a loop writes them.
-use Rattle.std.proofs.Common.{◌≡◌, ℕ, zero, suc, map, ◌+◌, ◌<◌, ◌≤◌, List, [], ◌∷◌, ◌++◌, length, get_or, drop, refl, sym, ap, ◌∙◌, append_assoc, arith}
+use Rattle.std.proofs.Common.{◌≡◌, ℕ, zero, suc, map, ◌+◌, ◌<◌, ◌≤◌, List, [], ◌∷◌, ◌++◌, length, get_or, drop, refl, sym, ap, ◌∙◌, append_assoc, arith, add-one}
 use Rattle.std.proofs.Math.Seq.{drop-cons}
 use Rattle.std.proofs.lemmas.List.{append-nil, drop_all}
 use Rattle.snapshot_text.specs.Lines.{lines_of, named_line}
@@ -8,15 +8,12 @@ use Rattle.snapshot_text.specs.Lines.{lines_of, named_line}
 abbrev pub lines_from : {A : Type 0} → (ℕ → A → List ℕ) → List A → ℕ → List ℕ
 lines_from line xs i = lines_of line i (drop i xs)
 
-behind : (i : ℕ) → suc i ≡ i + 1
-behind i = omega arith
-
 left_is : {A : Type 0} (line : ℕ → A → List ℕ) (xs : List A) (i : ℕ) (d : A) → i < length xs →
     lines_from line xs i ≡ line i (get_or xs i d) ++ lines_from line xs (i + 1)
 unfolding lines_of
 left_is line xs i d inside =
     ap (lines_of line i) (drop-cons xs i d inside)
-    ∙ ap (λ n. line i (get_or xs i d) ++ lines_of line (i + 1) (drop n xs)) (behind i)
+    ∙ ap (λ n. line i (get_or xs i d) ++ lines_of line (i + 1) (drop n xs)) (sym (add-one i))
 
 pub one_more : {A : Type 0} (d : A) (line : ℕ → A → List ℕ) (xs : List A) (i : ℕ) (whole out next : List ℕ) → i < length xs →
     out ++ lines_from line xs i ≡ whole → next ≡ out ++ line i (get_or xs i d) → next ++ lines_from line xs (i + 1) ≡ whole

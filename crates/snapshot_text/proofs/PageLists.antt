@@ -1,20 +1,17 @@
 -- Runs of pages, as a loop finds them.
-use Rattle.std.proofs.Common.{◌≡◌, ℕ, suc, ◌+◌, ◌<◌, ◌≤◌, List, ◌++◌, length, get_or, drop, refl, sym, ap, ◌∙◌, append_assoc, arith, Bool, true, false, if◌then◌else◌}
+use Rattle.std.proofs.Common.{◌≡◌, ℕ, ◌+◌, ◌<◌, ◌≤◌, List, ◌++◌, length, get_or, drop, refl, sym, ap, ◌∙◌, append_assoc, Bool, true, false, if◌then◌else◌, add-one}
 use Rattle.std.proofs.Math.Seq.{drop-cons}
 use Rattle.std.proofs.lemmas.List.{drop_all}
 use Rattle.sv_types.specs.declared.protection.Protection.{Protection}
 use Rattle.snapshot_text.specs.declared.pages.PageRun.{PageRun}
 use Rattle.snapshot_text.specs.PageTexts.{run_line, next_run, ended_line, run_lines, is_same}
 
-behind : (i : ℕ) → suc i ≡ i + 1
-behind i = omega arith
-
 lines_left : (run : PageRun) (pages : List Protection) (i : ℕ) (d : Protection) → i < length pages →
     run_lines run (drop i pages) ≡ ended_line run (get_or pages i d) ++ run_lines (next_run run (get_or pages i d)) (drop (i + 1) pages)
 unfolding run_lines
 lines_left run pages i d inside =
     ap (run_lines run) (drop-cons pages i d inside)
-    ∙ ap (λ n. ended_line run (get_or pages i d) ++ run_lines (next_run run (get_or pages i d)) (drop n pages)) (behind i)
+    ∙ ap (λ n. ended_line run (get_or pages i d) ++ run_lines (next_run run (get_or pages i d)) (drop n pages)) (sym (add-one i))
 
 pub one_page : (run next : PageRun) (pages : List Protection) (i : ℕ) (d : Protection) (whole out after : List ℕ) → i < length pages →
     out ++ run_lines run (drop i pages) ≡ whole → after ≡ out ++ ended_line run (get_or pages i d) → next ≡ next_run run (get_or pages i d) →

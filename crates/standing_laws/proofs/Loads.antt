@@ -3,7 +3,7 @@ use Rattle.std.proofs.Common.{◌≡◌, ℕ, zero, suc, ◌+◌, ◌*◌, ◌/�
 use Rattle.std.specs.Prelude.{Some, None, Option, option_map, IfSome, nat_le}
 use Rattle.std.proofs.lemmas.Bool.{leb-true, cases_Bool}
 use Rattle.sv_types.specs.ApprovedPages.{numbers_from}
-use Rattle.processor.specs.Bytes.{page_of, ram_place}
+use Rattle.processor.specs.Bytes.{page_of, ram_place, page_size}
 use Rattle.sv_types.specs.Policies.{Rules, ModuleRule, each_within, rules_within, numbers_within, lists_within, init_within, modules_count_within, module_within, modules_within, module_pages_within, sites_count_within, sites_of, sites_within}
 use Rattle.sv_types.specs.declared.saved.SavedModule.{SavedModule}
 use Rattle.sv_types.specs.declared.protection.Protection.TheVariants.{Held, Approved}
@@ -116,7 +116,7 @@ loaded_approved m r stands = subst (λ (x : Machine). AreApproved x.rules x.prot
 
 -- ---- a load under way
 
-room_of : (place n pages : ℕ) → place % 4096 ≡ 0 → place + 4096 * n ≤ 4096 * pages → place / 4096 + n ≤ pages
+room_of : (place n pages : ℕ) → place % page_size ≡ 0 → place + page_size * n ≤ page_size * pages → place / page_size + n ≤ pages
 room_of place n pages aligned inside = omega arith
 
 held_at : (r : State) (load : Loading) (i : ℕ) → HoldsModule r.rules r.approved r.loaded r.held load → i < pages_in_rule (slice_get r.rules.modules load.about.id)

@@ -5,7 +5,7 @@ ghost use Rattle.std.specs.Option.{ok_or};
 ghost use Rattle.processor.specs.Translation.{walk, root_of, entry_size, table_levels};
 ghost use Rattle.processor.specs.SecondStage.{host_entry, entry_in_region, permits_guest, address_at, walk_guest, guest_address_bits};
 ghost use Rattle.processor.specs.declared.access.Access.{Access as Kind};
-ghost use Rattle.sv39_walk.specs.Levels.{indices_of, IsTable};
+ghost use Rattle.sv39_walk.specs.Levels.{indices_of, root_choice_place, IsTable};
 ghost use Rattle.sv39_walk.specs.Mappings.{mapping_answer, found_mapping};
 ghost use Rattle.processor.specs.Bytes.{page_size};
 ghost use Rattle.processor.specs.Roots.{IsSv39x4};
@@ -15,8 +15,8 @@ use crate::entry::{
 };
 use host_mem::{HostMem, Steps};
 use processor::{
-    Access, ENTRY_BYTES, ENTRY_WIDTH, GUEST_ADDRESS_BITS, GuestFault, PAGE_BYTES, PAGE_SIZE,
-    PteBits, TABLE_LEVELS,
+    Access, ENTRY_BYTES, ENTRY_WIDTH, GUEST_ADDRESS_BITS, GuestFault, INDEX_BITS, PAGE_BITS,
+    PAGE_BYTES, PAGE_SIZE, PteBits, TABLE_LEVELS,
 };
 use std::marker::Brand;
 use std::sync::ledger::{Blank, Ledger};
@@ -128,13 +128,16 @@ pub fn find_mapping<L: Ledger>(
     }
 }
 
-// The root is four tables in one; bits 40 and 39 of the address choose among them.
+// Where the bits of an address stand that choose among the four tables of a root.
+const ROOT_CHOICE_PLACE: u32 = PAGE_BITS + INDEX_BITS * TABLE_LEVELS;
+
+// The root is four tables in one; the highest two bits of the address choose among them.
 fn root_table(hgatp: u64, gpa: u64) -> u64
     requires { gpa < 2 ^ guest_address_bits }
-    ensures value { result ≡ root_of hgatp + page_size * (gpa / 2 ^ 39) }
+    ensures value { result ≡ root_of hgatp + page_size * (gpa / 2 ^ root_choice_place) }
     ensures table { IsTable result }
 {
-    PAGE_BYTES * ((hgatp & PAGE_NUMBER) + (gpa >> 39))
+    PAGE_BYTES * ((hgatp & PAGE_NUMBER) + (gpa >> ROOT_CHOICE_PLACE))
 }
 
 // The walk of an address from a table with three levels, its own counted.

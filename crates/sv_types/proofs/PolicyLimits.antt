@@ -1,12 +1,14 @@
 -- What the limits of a policy say of its numbers, of its lists, and of one of its modules.
-use Rattle.std.proofs.Common.{◌≡◌, ℕ, zero, suc, ◌≤◌, List, [], ◌∷◌, ◌++◌, length, subst, arith, Bool, true, false, not, ◌&&◌, slice_get}
+use Rattle.std.proofs.Common.{◌≡◌, ℕ, zero, suc, ◌≤◌, List, [], ◌∷◌, ◌++◌, ◌+◌, length, map, ◌∙◌, ap, subst, arith, Bool, true, false, not, ◌&&◌, slice_get}
 use Rattle.std.specs.Prelude.{Some, IsTrue, ◌==◌, if◌then◌else◌}
-use Rattle.std.specs.List.{list_any}
+use Rattle.std.specs.List.{list_any, sum}
 use Rattle.std.proofs.lemmas.Bool.{and_parts, eqb-true}
 use Rattle.std.proofs.lemmas.Bool.Decides.{nat_tests}
 use Rattle.processor.specs.Regions.{most_ram_pages}
 use Rattle.sv_types.specs.Policies.{Rules, ModuleRule, rules_within, numbers_within, lists_within, init_within, bound_within, bound_fits, all_bound, modules_count_within, modules_within, module_within, module_pages_within, sites_count_within, sites_within, sites_of, is_module, each_within}
 use Rattle.sv_types.specs.Limits.{plain_format, most_entries, most_modules}
+use Rattle.std.proofs.lemmas.List.{map-append}
+use Rattle.std.proofs.lemmas.List.Sums.{sum_by_push}
 
 -- ---- numbers
 
@@ -84,3 +86,10 @@ rule_within rules id rule within found =
     let named = and_parts (module_pages_within rule.pages && sites_count_within (sites_of one.0) (length rule.sites) && sites_within rule.pages (length rules.exports) rule.sites) (not (is_module rule.name one.0)) one.1 in
     let sites = and_parts (module_pages_within rule.pages && sites_count_within (sites_of one.0) (length rule.sites)) (sites_within rule.pages (length rules.exports) rule.sites) named.0 in
     ((and_parts (module_pages_within rule.pages) (sites_count_within (sites_of one.0) (length rule.sites)) sites.0).0, sites.1)
+
+-- ---- the sites of modules
+
+pub sites_of_more : (modules : List ModuleRule) (m : ModuleRule) → sites_of (modules ++ m ∷ []) ≡ sites_of modules + length m.sites
+sites_of_more modules m =
+    let count : ModuleRule → ℕ = λ x. length x.sites in
+    ap sum (map-append count modules (m ∷ [])) ∙ sum_by_push (λ n. n) (map count modules) (count m)

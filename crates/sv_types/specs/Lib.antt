@@ -18,5 +18,6 @@ pub mod Kernel
 pub mod Policies
 pub mod Protections
 pub mod SbiCodes
+pub mod SbiExtensions
 pub mod Steps
 pub mod Views

@@ -1,10 +1,14 @@
 -- Names: 1 to 64 bytes of text, kept in 64 bytes with zeros behind.
 -- The Unicode Standard, "UTF-8".
-use Rattle.std.specs.Prelude.{◌≡◌, ◌<◌, ◌≤◌, ℕ, List, length, take, IsUtf8}
+use Rattle.std.specs.Prelude.{◌≡◌, ◌<◌, ◌≤◌, ℕ, List, Bool, ◌&&◌, nat_le, length, take, IsUtf8}
 use Rattle.std.proofs.Common.{◌∙◌, ap}
 use Rattle.processor.specs.Bytes.{with_padding}
 use Rattle.sv_types.specs.Limits.{most_name_bytes}
 use Rattle.sv_types.specs.declared.name.Name.TheInside.{Inside}
+
+-- 1 to 64 bytes
+abbrev pub name_within : List ℕ → Bool
+name_within name = nat_le 1 (length name) && nat_le (length name) most_name_bytes
 
 abbrev pub name_bytes : Inside → List ℕ
 name_bytes name = take name.length name.bytes

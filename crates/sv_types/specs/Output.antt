@@ -24,8 +24,12 @@ abbrev pub hexadecimal_bytes : List ℕ → List ℕ
 hexadecimal_bytes [] = []
 hexadecimal_bytes (b ∷ bs) = digit_char (b / 16) ∷ digit_char (b % 16) ∷ hexadecimal_bytes bs
 
+-- the hexadecimal digits of an address, which has 64 bits
+abbrev pub address_digits : ℕ
+address_digits = 16
+
 unfoldable pub address_text : ℕ → List ℕ
-address_text a = codes "0x" ++ hexadecimal 16 a
+address_text a = codes "0x" ++ hexadecimal address_digits a
 
 -- ---- counts
 

@@ -140,7 +140,7 @@ is_low_part _ = false
 -- the bytes of a field
 abbrev pub site_size : RelocationKind → ℕ
 site_size Word64 = 8
-site_size _ = 4
+site_size _ = instruction_size
 
 abbrev pub module_bytes : ℕ → ℕ
 module_bytes pages = page_size * pages
@@ -166,9 +166,12 @@ site_within pages exports site =
     anchor_within pages site.kind site.offset site.anchor
 
 -- the byte behind a site's field
+abbrev pub field_end : Site → ℕ
+field_end site = site.offset + site_size site.kind
+
 abbrev pub site_end : Option Site → ℕ
 site_end None = 0
-site_end (Some site) = site.offset + site_size site.kind
+site_end (Some site) = field_end site
 
 -- the byte behind the field of the last of the sites
 abbrev pub sites_end : List Site → ℕ

@@ -4,6 +4,7 @@
 mod block;
 mod digest;
 mod event;
+mod extensions;
 mod failed;
 mod image_fault;
 mod kernel;
@@ -27,6 +28,11 @@ pub use block::{
 };
 pub use digest::{DIGEST_BYTES, Digest};
 pub use event::{Counts, Event, Note, Rule, Verdict};
+pub use extensions::{
+    BASE_EXTENSION, FENCE_EXTENSION, GET_CHAR_EXTENSION, HART_STATE_EXTENSION, INTERRUPT_EXTENSION,
+    MODULES_EXTENSION, PUT_CHAR_EXTENSION, RESET_EXTENSION, SET_TIMER_EXTENSION,
+    SHUT_DOWN_EXTENSION, TIMER_EXTENSION,
+};
 pub use failed::Failed;
 pub use image_fault::{HeaderFault, ImageFault};
 pub use kernel::ProgramHeader;

@@ -1,17 +1,14 @@
 -- Addresses as text. This project's own; digits are those of ISO/IEC 646 (ASCII).
 use Rattle.std.specs.Prelude.{ℕ, Bool, ◌&&◌, List, length, take, drop, codes, if◌then◌else◌, nat_le, Option, Some, None}
+use Rattle.sv_types.specs.Output.{address_digits}
 use Rattle.std.specs.List.{list_all}
 use Rattle.std.specs.Str.{bytes_eq}
 use Rattle.std.specs.Str.Parse.{digits_value}
 use Rattle.std.specs.Char.{is_ascii_hexdigit}
 
--- the most hexadecimal digits of an address, which has 64 bits
-abbrev pub most_hexadecimal_digits : ℕ
-most_hexadecimal_digits = 16
-
 -- 1 to 16 hexadecimal digits of either case
 abbrev pub is_hexadecimal : List ℕ → Bool
-is_hexadecimal digits = nat_le 1 (length digits) && nat_le (length digits) most_hexadecimal_digits && list_all is_ascii_hexdigit digits
+is_hexadecimal digits = nat_le 1 (length digits) && nat_le (length digits) address_digits && list_all is_ascii_hexdigit digits
 
 -- the number that such digits write
 abbrev pub hexadecimal_number : List ℕ → Option ℕ

@@ -6,7 +6,7 @@ ghost use Rattle.std.specs.Char.{is_ascii_hexdigit};
 ghost use Rattle.text_numbers.specs.Addresses as spec;
 
 /// The most hexadecimal digits that an address has.
-const MOST_HEXADECIMAL_DIGITS: usize = 16;
+const ADDRESS_DIGITS: usize = 16;
 
 fn has_hexadecimal_digits_alone(text: &[u8]) -> bool
     ensures { result ≡ list_all is_ascii_hexdigit text.now }
@@ -17,7 +17,7 @@ fn has_hexadecimal_digits_alone(text: &[u8]) -> bool
 fn is_hexadecimal(text: &[u8]) -> bool
     ensures { result ≡ spec.is_hexadecimal text.now }
 {
-    1 <= text.len() && text.len() <= MOST_HEXADECIMAL_DIGITS && has_hexadecimal_digits_alone(text)
+    1 <= text.len() && text.len() <= ADDRESS_DIGITS && has_hexadecimal_digits_alone(text)
 }
 
 fn hexadecimal_number(digits: &str) -> Option<u64>

@@ -6,7 +6,7 @@ ghost use Rattle.processor.specs.Traps.{is_interrupt, guest_number, trap_target,
 ghost use Rattle.processor.specs.Bytes.{instruction_size};
 
 use csr_file::{Csrs, SIE, SIE_PLACE, SPIE, SPIE_PLACE, SPP, SPP_PLACE};
-use processor::{Exit, ExitCause, Mode, has_bit, with_bits};
+use processor::{Exit, ExitCause, INSTRUCTION_BYTES, Mode, has_bit, with_bits};
 
 /// The mode of a trap vector stands in its low bits.
 const VECTOR_MODE: u64 = 3;
@@ -62,7 +62,7 @@ pub fn target(csrs: &Csrs, cause: ExitCause) -> u64
 {
     let base = csrs.vstvec & !VECTOR_MODE;
     if cause.is_interrupt() && has_bit(csrs.vstvec, 0) {
-        base.wrapping_add(cause.guest_number().wrapping_mul(4))
+        base.wrapping_add(cause.guest_number().wrapping_mul(INSTRUCTION_BYTES))
     } else {
         base
     }

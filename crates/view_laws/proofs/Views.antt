@@ -7,7 +7,7 @@ use Rattle.processor.specs.Bytes.{word, in_ram, ram_base, ram_place, page_of, pa
 use Rattle.processor.specs.Regions.{Region, host_word}
 use Rattle.processor.specs.Translation.{Destination, At, PageFault, Unreadable, entry_in_ram, first_stage, place, Settings}
 use Rattle.sv_types.specs.Views.{IsView, Sight, with_ram, page_in_ram, view_permits, view_answer, under_view}
-use Rattle.processor.specs.SecondStage.{WalksInside, WalksApart, walk_guest, entry_there, entry_through, place_through, after_first_stage, two_stages}
+use Rattle.processor.specs.SecondStage.{WalksInside, WalksApart, walk_guest, entry_there, entry_through, place_through, after_first_stage, two_stages, guest_address_bits}
 use Rattle.processor.specs.declared.access.Access.{Access}
 use Rattle.processor.specs.declared.access.Access.TheVariants.{Load}
 use Rattle.processor.specs.declared.mode.Mode.{Mode}
@@ -18,7 +18,7 @@ use Rattle.processor_laws.proofs.Walks.{Agree, first_stage_agrees}
 use Rattle.processor_laws.proofs.GuestViews.{and_false, and_true}
 
 -- 8 aligned bytes from p on are in n pages exactly where p's page is one of them
-pub whole_entry : (p n : ℕ) → p % 8 ≡ 0 → nat_le (p + 8) (4096 * n) ≡ nat_lt (p / 4096) n
+pub whole_entry : (p n : ℕ) → p % 8 ≡ 0 → nat_le (p + 8) (page_size * n) ≡ nat_lt (p / page_size) n
 whole_entry p n h = grind (arith, nat_tests)
 
 place_aligned : (a : ℕ) → a % 8 ≡ 0 → ram_place a % 8 ≡ 0
@@ -62,15 +62,15 @@ none_chosen : (b : Bool) (at : ℕ) → None ≡ (if b && true then Some at else
 none_chosen true at e = absurd (cc)
 none_chosen false at e = refl
 
-beyond : (n gpa : ℕ) → page_in_ram n (2 ^ 41) ≡ false → 2 ^ 64 ≤ gpa → page_in_ram n gpa ≡ false
+beyond : (n gpa : ℕ) → page_in_ram n (2 ^ guest_address_bits) ≡ false → 2 ^ 64 ≤ gpa → page_in_ram n gpa ≡ false
 beyond n gpa e far = grind (arith, nat_tests)
 
 far_walk : (r : Region) (hgatp gpa : ℕ) (access : Access) → 2 ^ 64 ≤ gpa → walk_guest r hgatp gpa access ≡ None
 unfolding walk_guest
 far_walk r hgatp gpa access far =
-    let test : (gpa / 2 ^ 41 == 0) ≡ false = grind (arith, nat_tests) in rw test refl
+    let test : (gpa / 2 ^ guest_address_bits == 0) ≡ false = grind (arith, nat_tests) in rw test refl
 
-walk_at_limit : (r : Region) (hgatp : ℕ) (access : Access) → walk_guest r hgatp (2 ^ 41) access ≡ None
+walk_at_limit : (r : Region) (hgatp : ℕ) (access : Access) → walk_guest r hgatp (2 ^ guest_address_bits) access ≡ None
 unfolding walk_guest
 walk_at_limit r hgatp access = refl
 
@@ -83,10 +83,10 @@ unfolding view_answer
 view_answers tables ram ram_pages hgatp protections sight is_view size gpa access = elim (lt_or_le gpa (2 ^ 64)) [
   | inl near ↦ is_view.answers ram gpa access size near
   | inr far ↦
-      let limit : None ≡ (if page_in_ram ram_pages (2 ^ 41) && true then Some (length tables + ram_place (2 ^ 41)) else None) =
-      sym (walk_at_limit (with_ram tables ram) hgatp Load) ∙ is_view.answers ram (2 ^ 41) Load size (lit< tt) in
+      let limit : None ≡ (if page_in_ram ram_pages (2 ^ guest_address_bits) && true then Some (length tables + ram_place (2 ^ guest_address_bits)) else None) =
+      sym (walk_at_limit (with_ram tables ram) hgatp Load) ∙ is_view.answers ram (2 ^ guest_address_bits) Load size (lit< tt) in
       let none : page_in_ram ram_pages gpa ≡ false =
-      beyond ram_pages gpa (none_chosen (page_in_ram ram_pages (2 ^ 41)) (length tables + ram_place (2 ^ 41)) limit) far in
+      beyond ram_pages gpa (none_chosen (page_in_ram ram_pages (2 ^ guest_address_bits)) (length tables + ram_place (2 ^ guest_address_bits)) limit) far in
       rw none (far_walk (with_ram tables ram) hgatp gpa access far)
 ]
 
@@ -117,7 +117,7 @@ chosen_inside : (b : Bool) (at n x : ℕ) → (b ≡ true → at < n) → (if b 
 chosen_inside true at n x h e = let same : at ≡ x = cc in let below = h refl in omega arith
 chosen_inside false at n x h e = absurd (cc)
 
-page_inside : (t n gpa : ℕ) (c : Bool) → (page_in_ram n gpa && c) ≡ true → t + ram_place gpa < t + 4096 * n
+page_inside : (t n gpa : ℕ) (c : Bool) → (page_in_ram n gpa && c) ≡ true → t + ram_place gpa < t + page_size * n
 page_inside t n gpa true h = let k : page_in_ram n gpa ≡ true = sym (and_true (page_in_ram n gpa)) ∙ h in grind (arith, nat_tests)
 page_inside t n gpa false h = let k = sym (and_false (page_in_ram n gpa)) ∙ h in absurd (cc)
 
@@ -129,8 +129,8 @@ view_walks_inside tables ram ram_pages hgatp protections sight is_view size = re
   inside = λ gpa hpa access e.
       let answer : (if page_in_ram ram_pages gpa && view_permits sight (page_of gpa) (protections (page_of gpa)) access then Some (length tables + ram_place gpa) else None) ≡ Some hpa =
       sym (view_answers tables ram ram_pages hgatp protections sight is_view size gpa access) ∙ e in
-      let below : hpa < length tables + 4096 * ram_pages =
-      chosen_inside (page_in_ram ram_pages gpa && view_permits sight (page_of gpa) (protections (page_of gpa)) access) (length tables + ram_place gpa) (length tables + 4096 * ram_pages) hpa
+      let below : hpa < length tables + page_size * ram_pages =
+      chosen_inside (page_in_ram ram_pages gpa && view_permits sight (page_of gpa) (protections (page_of gpa)) access) (length tables + ram_place gpa) (length tables + page_size * ram_pages) hpa
       (page_inside (length tables) ram_pages gpa (view_permits sight (page_of gpa) (protections (page_of gpa)) access)) answer in omega arith;
 }
 

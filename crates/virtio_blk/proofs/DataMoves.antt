@@ -1,5 +1,6 @@
 -- How the moves of a request's data go on.
 use Rattle.std.proofs.Common.{◌≡◌, ℕ, zero, suc, ◌+◌, ◌-◌, ◌%◌, ◌<◌, ◌≤◌, Bool, true, false, List, [], ◌∷◌, ◌++◌, length, take, drop, get_or, filter, refl, ◌∙◌, sym, ap, append_assoc, length-drop, arith}
+use Rattle.processor.specs.Bytes.{page_size}
 use Rattle.std.proofs.lemmas.List.{drop_more, take_more, get_or-drop}
 use Rattle.reference.specs.VirtioChain.{no_part, between}
 use Rattle.reference.specs.VirtioRequests.{bytes_in, piece_size, piece, pieces, data_moves}
@@ -37,7 +38,7 @@ bytes_in_more parts from k before inside =
 
 pub piece_size_some : (gpa len : ℕ) → 0 < len → 0 < piece_size gpa len
 piece_size_some gpa len some =
-    let below : gpa % 4096 < 4096 = grind arith in
+    let below : gpa % page_size < page_size = grind arith in
     omega (arith, some, below)
 
 pub piece_size_most : (gpa len : ℕ) → piece_size gpa len ≤ len

@@ -1,5 +1,6 @@
 -- How the place in a chain goes on, as moves are taken.
 use Rattle.std.proofs.Common.{◌≡◌, ℕ, ◌+◌, ◌-◌, ◌%◌, ◌<◌, ◌≤◌, Bool, true, false, List, [], ◌∷◌, ◌++◌, length, drop, filter, Option, Some, None, IfSome, refl, ◌∙◌, sym, ap, subst, arith}
+use Rattle.processor.specs.Bytes.{page_size}
 use Rattle.std.proofs.lemmas.List.{drop-drop}
 use Rattle.reference.specs.VirtioChain.{between}
 use Rattle.reference.specs.VirtioRequests.{bytes_in, piece_size, piece, data_moves, last_moves}
@@ -146,18 +147,11 @@ without_data_moves accepted q all =
 
 pub piece_made : (disk_size : ℕ) (write : Bool) (gpa place size len : ℕ) → size ≡ piece_size gpa len → place + size ≤ disk_size → CanBeMade disk_size (piece write gpa place size)
 piece_made disk_size true gpa place size len is on =
-    let below : gpa % 4096 < 4096 = grind arith in
+    let below : gpa % page_size < page_size = grind arith in
     (omega (arith, is), (omega (arith, is, below), on))
 piece_made disk_size false gpa place size len is on =
-    let below : gpa % 4096 < 4096 = grind arith in
+    let below : gpa % page_size < page_size = grind arith in
     (omega (arith, is), (omega (arith, is, below), on))
-
--- a word of 4 bytes at a multiple of 4
-pub word_in_page : (gpa : ℕ) → gpa % 4 ≡ 0 → gpa % 4096 + 4 ≤ 4096
-word_in_page gpa aligned =
-    let below : gpa % 4096 < 4096 = grind arith in
-    let same : gpa % 4096 % 4 ≡ 0 = omega (arith, aligned) in
-    omega (arith, below, same)
 
 -- ---- the last moves
 

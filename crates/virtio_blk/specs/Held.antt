@@ -3,9 +3,9 @@ use Rattle.std.specs.Prelude.{◌≡◌, ℕ, ◌+◌, ◌-◌, ◌*◌, ◌%◌
 use Rattle.processor.specs.Bytes.{page_size, ram_base, ram_place}
 use Rattle.reference.specs.BlockDisk.{beat_size}
 use Rattle.reference.specs.VirtioDevice.{VirtioDevice, index_values, most_places}
-use Rattle.reference.specs.VirtioQueue.{ring_header_size, available_entry_size, used_entry_size}
+use Rattle.reference.specs.VirtioQueue.{ring_header_size, available_entry_size, used_entry_size, used_word_size, ring_index_size}
 use Rattle.reference.specs.VirtioStores.{is_size, descriptors_alignment, available_alignment, used_alignment}
-use Rattle.reference.specs.VirtioChain.{descriptor_size, header_size, no_part, most_parts, header_of}
+use Rattle.reference.specs.VirtioChain.{descriptor_size, header_size, no_part, most_parts, header_of, least_parts}
 use Rattle.reference.specs.VirtioRequests.{bytes_in}
 use Rattle.saved_machine.specs.VirtioStates.{last_place, part_at, data_left, disk_place, moves_left, virtio_of}
 use Rattle.sv_types.specs.declared.virtio.VirtioMove.{VirtioMove}
@@ -43,14 +43,18 @@ state_at_reset = record {
 
 -- ---- what holds at each moment
 
+-- the moves behind the data: the result, and three of the used ring
+abbrev pub tail_moves : ℕ
+tail_moves = 4
+
 -- where a request stands in its chain
 pub record IsPlaced (q : VirtioRequest) : Type 0 where
   pub parts : length q.parts ≡ most_parts
-  pub least : 2 ≤ q.count
+  pub least : least_parts ≤ q.count
   pub most : q.count ≤ most_parts
   pub begun : 1 ≤ q.part
   pub inside : q.part ≤ last_place q
-  pub tail : q.tail ≤ 4
+  pub tail : q.tail ≤ tail_moves
   -- the last moves are made after all data's
   pub data_first : q.part < last_place q → q.tail ≡ 0
   -- no more bytes of a part are moved than it has
@@ -94,9 +98,9 @@ abbrev pub CanBeMade : ℕ → VirtioMove → Type 0
 CanBeMade disk_size (VirtioMove.ToMemory gpa place size) = (size ≤ beat_size) × ((gpa % page_size + size ≤ page_size) × (place + size ≤ disk_size))
 CanBeMade disk_size (VirtioMove.ToDisk gpa place size) = (size ≤ beat_size) × ((gpa % page_size + size ≤ page_size) × (place + size ≤ disk_size))
 CanBeMade disk_size (VirtioMove.PutResult gpa) = gpa % page_size + 1 ≤ page_size
-CanBeMade disk_size (VirtioMove.PutHead gpa head) = gpa % page_size + 4 ≤ page_size
-CanBeMade disk_size (VirtioMove.PutLength gpa) = gpa % page_size + 4 ≤ page_size
-CanBeMade disk_size (VirtioMove.PutIndex gpa index) = gpa % page_size + 2 ≤ page_size
+CanBeMade disk_size (VirtioMove.PutHead gpa head) = gpa % page_size + used_word_size ≤ page_size
+CanBeMade disk_size (VirtioMove.PutLength gpa) = gpa % page_size + used_word_size ≤ page_size
+CanBeMade disk_size (VirtioMove.PutIndex gpa index) = gpa % page_size + ring_index_size ≤ page_size
 
 -- ---- the next request
 
@@ -135,6 +139,6 @@ new_of head sector size used result parts = record {
 
 -- a chain whose header lies in RAM
 pub record HasHeader (ram : List ℕ) (parts : List VirtioPart) : Type 0 where
-  pub few : 2 ≤ length parts
+  pub few : least_parts ≤ length parts
   pub begins : ram_base ≤ (header_of parts).gpa
   pub ends : ram_place (header_of parts).gpa + header_size ≤ length ram

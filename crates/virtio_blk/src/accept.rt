@@ -2,7 +2,7 @@
 
 ghost use Rattle.std.specs.Prelude.{◌≡◌, ℕ, ◌++◌, ◌+◌, ◌-◌, ◌*◌, ◌%◌, ◌<◌, ◌≤◌, ◌^◌, IsTrue, true, length, replicate};
 ghost use Rattle.processor.specs.Bytes.{ram_place};
-ghost use Rattle.reference.specs.VirtioStores.{is_size};
+ghost use Rattle.reference.specs.VirtioStores.{is_size, used_alignment};
 ghost use Rattle.processor.specs.Regions.{Region};
 ghost use Rattle.dma_guard.specs.Transfers.{beat_of, after_move};
 ghost use Rattle.reference.specs.VirtioQueue.{rings_in_ram, available_index, next_head};
@@ -29,6 +29,8 @@ pub(crate) const INDICES: u64 = 1 << 16;
 pub(crate) const RING_HEADER_BYTES: u64 = 4;
 /// Where the index stands in a ring, behind the flags.
 pub(crate) const RING_INDEX_PLACE: u64 = 2;
+/// The bytes of that index.
+pub(crate) const RING_INDEX_WIDTH: u8 = 2;
 /// A head in the available ring.
 pub(crate) const AVAILABLE_ENTRY_BYTES: u64 = 2;
 /// A head and a length in the used ring.
@@ -107,7 +109,7 @@ fn next_request(
     requires most { length parts.now ≤ most_parts }
     requires head { head < index_values }
     requires size { is_size size ≡ true }
-    requires aligned { used % 4 ≡ 0 }
+    requires aligned { used % used_alignment ≡ 0 }
     requires used { used < 2 ^ 63 }
     requires small { length ram.now < 2 ^ 62 }
     ensures request { (accepted : ℕ) → request_of accepted result ≡ record { moves = moves_by (result_by ram.now disk_size (type_of ram.now parts.now) (sector_of ram.now parts.now) (data_of parts.now)) (sector_of ram.now parts.now) (data_of parts.now) ++ last_moves (result_of parts.now).gpa used size head accepted; result = result_by ram.now disk_size (type_of ram.now parts.now) (sector_of ram.now parts.now) (data_of parts.now); written = 0 } }
@@ -147,7 +149,7 @@ impl Virtio {
         word_at(
             ram,
             ram_place(self.state.available) as usize + RING_INDEX_PLACE as usize,
-            2,
+            RING_INDEX_WIDTH,
         )
     }
 
@@ -164,7 +166,7 @@ impl Virtio {
             ram_place(self.state.available) as usize
                 + RING_HEADER_BYTES as usize
                 + AVAILABLE_ENTRY_BYTES as usize * place,
-            2,
+            AVAILABLE_ENTRY_BYTES as u8,
         )
     }
 

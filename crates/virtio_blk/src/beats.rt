@@ -1,6 +1,7 @@
 // Beats: the moves of the request under way.
 
 ghost use Rattle.std.specs.Prelude.{◌≡◌, ℕ, ◌+◌, ◌%◌, ◌^◌, ◌≤◌, false, true, IsTrue, length, Some};
+ghost use Rattle.reference.specs.VirtioQueue.{used_word_size, ring_index_size};
 ghost use Rattle.processor.specs.Bytes.{page_size, overwrite, low_bytes};
 ghost use Rattle.reference.specs.BlockDisk.{beat_size};
 ghost use Rattle.reference.specs.Disk.{is_writable};
@@ -170,7 +171,7 @@ impl Virtio {
         guard: &DmaGuard,
         mem: &mut HostMem,
     ) -> Beaten
-        requires small { length bytes.now ≤ 4 }
+        requires small { length bytes.now ≤ used_word_size }
         requires one_page { gpa % page_size + length bytes.now ≤ page_size }
         requires placed { IsPlaced request.now }
         requires on_disk { IsOnDisk (length self.old.bytes) request.now }
@@ -206,7 +207,7 @@ impl Virtio {
         guard: &DmaGuard,
         mem: &mut HostMem,
     ) -> Beaten
-        requires one_page { gpa % page_size + 2 ≤ page_size }
+        requires one_page { gpa % page_size + ring_index_size ≤ page_size }
         ensures device { device_of self.new ≡ (put_last (device_of self.old) (finish_request (device_of self.old)) gpa bytes.now mem.old.ram (is_writable guard.now)).device }
         ensures told { result ≡ beat_of (put_last (device_of self.old) (finish_request (device_of self.old)) gpa bytes.now mem.old.ram (is_writable guard.now)).move }
         ensures memory { mem.new ≡ after_move mem.old (put_last (device_of self.old) (finish_request (device_of self.old)) gpa bytes.now mem.old.ram (is_writable guard.now)).move }
@@ -214,7 +215,10 @@ impl Virtio {
         match guard.write(mem, gpa, bytes) {
             Ok(()) => {
                 self.finish();
-                Beaten::Wrote { gpa, len: 2 }
+                Beaten::Wrote {
+                    gpa,
+                    len: bytes.len() as u32,
+                }
             }
             Err(DmaRefused::Protected { page: _ }) => {
                 self.break_down();

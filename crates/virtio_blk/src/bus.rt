@@ -13,8 +13,18 @@ use sv_types::{IMPLEMENTATION, SECTOR_BYTES, VirtioRegister, VirtioState};
 
 /// What tells that this is a virtio device: "virt".
 const MAGIC_VALUE: u64 = 0x7472_6976;
+/// The version of the registers. Virtio 1.2, 4.2.2.
+const MMIO_VERSION: u64 = 2;
+/// The number of a block device. Virtio 1.2, 5.2.1.
+const BLOCK_DEVICE: u64 = 2;
+/// The selector of features 32 to 63, and the one among them that is offered.
+const HIGH_FEATURES: u32 = 1;
+
+const VERSION_1: u32 = 1;
 /// The most places of the queue.
 const MOST_PLACES: u64 = 64;
+
+const MOST_SIZE: u32 = MOST_PLACES as u32;
 /// The alignment of the table of descriptors. Virtio 1.2, 2.7.
 const DESCRIPTORS_ALIGN: u64 = 16;
 /// The alignment of the available ring.
@@ -97,9 +107,16 @@ impl Virtio {
     {
         match register {
             VirtioRegister::MagicValue => MAGIC_VALUE,
-            VirtioRegister::Version | VirtioRegister::DeviceId => 2,
+            VirtioRegister::Version => MMIO_VERSION,
+            VirtioRegister::DeviceId => BLOCK_DEVICE,
             VirtioRegister::VendorId => IMPLEMENTATION,
-            VirtioRegister::DeviceFeatures => u64::from(self.state.device_select == 1),
+            VirtioRegister::DeviceFeatures => {
+                if self.state.device_select == HIGH_FEATURES {
+                    VERSION_1 as u64
+                } else {
+                    0
+                }
+            },
             VirtioRegister::QueueSizeMax => { if self.is_selected() { MOST_PLACES } else { 0 } }
             VirtioRegister::QueueReady => u64::from(self.is_selected() && self.state.ready),
             VirtioRegister::InterruptStatus => self.state.interrupt as u64,
@@ -136,7 +153,7 @@ impl Virtio {
     {
         match self.state.driver_select {
             0 => self.state.driver_low = value,
-            1 => self.state.driver_high = value,
+            HIGH_FEATURES => self.state.driver_high = value,
             _ => {}
         }
     }
@@ -146,7 +163,7 @@ impl Virtio {
     fn kept_status(&self, value: u32) -> u32
         ensures { result ≡ kept_status (device_of self.now) value }
     {
-        let takes = self.state.driver_low == 0 && self.state.driver_high == 1;
+        let takes = self.state.driver_low == 0 && self.state.driver_high == VERSION_1;
         let judged = if takes { value } else { value & !FEATURES_OK };
         if self.is_broken() {
             judged | NEEDS_RESET
@@ -170,7 +187,7 @@ impl Virtio {
     fn can_be_used(&self) -> bool
         ensures { result ≡ can_be_used (device_of self.now) }
     {
-        matches!(self.state.size, 1 | 2 | 4 | 8 | 16 | 32 | 64)
+        matches!(self.state.size, 1 | 2 | 4 | 8 | 16 | 32 | MOST_SIZE)
             && self.state.descriptors % DESCRIPTORS_ALIGN == 0
             && self.state.available % AVAILABLE_ALIGN == 0
             && self.state.used % USED_ALIGN == 0

@@ -5,8 +5,9 @@ ghost use Rattle.reference.specs.VirtioQueue.{used_gpa};
 ghost use Rattle.reference.specs.VirtioRequests.{piece_size, piece};
 ghost use Rattle.reference.specs.VirtioBeats.{is_last};
 ghost use Rattle.saved_machine.specs.VirtioStates.{part_at, last_place, disk_place, last_left, moves_left};
-ghost use Rattle.virtio_blk.specs.Held.{IsPlaced, IsOnDisk, IsSame, CanBeMade, first_move};
+ghost use Rattle.virtio_blk.specs.Held.{IsPlaced, IsOnDisk, IsSame, CanBeMade, first_move, tail_moves};
 ghost use Rattle.reference.specs.VirtioDevice.{index_values};
+ghost use Rattle.reference.specs.VirtioStores.{used_alignment};
 
 use crate::accept::{INDICES, RING_HEADER_BYTES, RING_INDEX_PLACE, USED_ENTRY_BYTES};
 use crate::requests::bytes_in;
@@ -85,7 +86,7 @@ fn used_entry(q: &VirtioRequest, accepted: u64) -> u64
     requires placed { IsPlaced q.now }
     requires accepted { accepted < index_values }
     ensures value { result ≡ used_gpa q.now.used q.now.size accepted }
-    ensures aligned { result % 4 ≡ 0 }
+    ensures aligned { result % used_alignment ≡ 0 }
     ensures small { result < 2 ^ 63 + 1024 }
 {
     q.used
@@ -94,12 +95,12 @@ fn used_entry(q: &VirtioRequest, accepted: u64) -> u64
 }
 
 // The next of the last moves, if there is one.
-#[tactic(auto, using(crate::proofs::Places::first_at, crate::proofs::Places::word_in_page))]
+#[tactic(auto, using(crate::proofs::Places::first_at, sv_types::proofs::InPages::word_in_page))]
 fn last_move(q: &VirtioRequest, accepted: u64) -> Option<VirtioMove>
     requires placed { IsPlaced q.now }
     requires accepted { accepted < index_values }
     ensures first { result ≡ first_move (last_left accepted q.now) }
-    ensures more { IsSome result → q.now.tail < 4 }
+    ensures more { IsSome result → q.now.tail < tail_moves }
     ensures made { (disk_size : ℕ) → IfSome result (CanBeMade disk_size) }
     ensures last { IfSome result (λ move. is_last move ≡ true) }
 {

@@ -10,6 +10,9 @@ ghost use Rattle.reference.specs.VirtioRequests.{bytes_in, lies_in, fits_type, a
 use processor::is_in_ram;
 use sv_types::{SECTOR_BYTES, VirtioPart, VirtioResult};
 
+/// A header and a result.
+const LEAST_PARTS: usize = 2;
+
 /// The bytes of a request's header, and of its result.
 const HEADER_BYTES: u32 = 16;
 
@@ -124,7 +127,7 @@ pub fn is_good(ram: &[u8], parts: &[VirtioPart]) -> bool
     ensures value { result ≡ is_good ram.now parts.now }
     ensures header { IsTrue result → HasHeader ram.now parts.now }
 {
-    if parts.len() < 2 {
+    if parts.len() < LEAST_PARTS {
         return false;
     }
     let last = parts[parts.len() - 1];

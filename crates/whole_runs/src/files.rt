@@ -3,7 +3,7 @@
 use crate::case::Case;
 use crate::edits::edit;
 use crate::values::{first_word, number};
-use guest_gen::{generate, image};
+use guest_gen::{MOST_CALLS, generate, image};
 use page_measure::{join_digests, page_digest};
 use std::alloc::{AllocError, Global};
 use text_numbers::digest_text;
@@ -32,8 +32,6 @@ fn edit_file(alloc: Global, case: &mut Case, order: &str, words: &str) -> Result
     };
     edit(alloc, bytes, order, words, case.measure.as_str())
 }
-
-const MOST_CALLS: u64 = 1_000_000;
 
 // Puts the image and the policy of the generated guest that calls its kernel so many times.
 fn put_generated(alloc: Global, case: &mut Case, calls: u64) -> Result<(), AllocError> {

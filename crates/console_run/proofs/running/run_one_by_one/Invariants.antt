@@ -1,5 +1,5 @@
 use Rattle.std.proofs.Common.{◌<◌, ◌≤◌, ◌+◌, ◌-◌, length, IsFalse}
-use Rattle.sv_types.specs.Limits.{most_events}
+use Rattle.sv_types.specs.Limits.{most_events, most_printed}
 use Rattle.sv_types.specs.Schedule.{first_events}
 use Rattle.reference.specs.Counting.{CountsAtMost}
 use Rattle.reference.specs.States.{State}
@@ -17,7 +17,7 @@ invariant-events g l = record {
   taken : HasTaken (g.O.Sink.state l.initial.out) (g.O.Sink.state l.out);
   few : l.left ≤ l.events;
   counts : CountsAtMost (most_events + (l.events - l.left)) l.machine.journal.counts;
-  room : length l.machine.journal.printed < 4096;
+  room : length l.machine.journal.printed < most_printed;
   rest : IsFalse (is_due l.machine.journal.printed);
 }
 

@@ -7,7 +7,7 @@ use Rattle.sv_types.specs.Steps.{◌>>=◌}
 use Rattle.elf64_sections.specs.Judged.{each}
 use Rattle.elf64_sections.specs.Sections.{Tables}
 use Rattle.elf64_sections.specs.Views.{tables_view}
-use Rattle.elf64_load.specs.Addresses as at_name
+use Rattle.elf64_sections.specs.NameTables as at_name
 use Rattle.elf64_load.specs.Exports.{address_of, export_at, export_of}
 use Rattle.elf64_load.specs.Refusals.{Judged, Refuses, as_answer}
 use Rattle.elf64_load.specs.declared.read.ElfRefusal.TheVariants.{Fault, Memory}
@@ -47,20 +47,20 @@ module _ (tables : Tables) (exports : List Export) (names : List (List ℕ)) (i 
 pub names-preserved : goal.names-preserved
 names-preserved c =
     let l = c.names in
-    export_more (tables_view c.args.tables.now) l.exports.items c.args.names.now l.name-index (at_name.address_by_name c.in_ok-addresses.addresses) c.push.new.self.items c.in_ok-export.export
+    export_more (tables_view c.args.tables.now) l.exports.items c.args.names.now l.name-index (at_name.number_by_name c.in_ok-addresses.addresses) c.push.new.self.items c.in_ok-export.export
     c.name-item.result c.names-test.true c.name-item.is c.in_ok-addresses.ensures c.in_ok-export.ensures c.in_ok-push.ensures.items l.invariant
 
 pub returns-clause-ok : goal.returns-clause-ok
 returns-clause-ok c =
     let l = c.names in
-    all_found (tables_view c.args.tables.now) l.exports.items c.args.names.now l.name-index (at_name.address_by_name c.in_ok-addresses.addresses) c.names-test.false l.invariant
+    all_found (tables_view c.args.tables.now) l.exports.items c.args.names.now l.name-index (at_name.number_by_name c.in_ok-addresses.addresses) c.names-test.false l.invariant
 
 pub returns-in_err-export-clause-refused : goal.returns-in_err-export-clause-refused
 returns-in_err-export-clause-refused c =
     let l = c.names in
     refusal_known (Refuses (each (export_of (tables_view c.args.tables.now)) [] c.args.names.now)) c.from_residual-in_err-export.result (Fault c.in_err-export.field-0.0)
     c.from_residual-in_err-export.ensures.1
-    (refused_next (tables_view c.args.tables.now) l.exports.items c.args.names.now l.name-index (at_name.address_by_name c.in_ok-addresses.addresses) c.in_err-export.field-0.0
+    (refused_next (tables_view c.args.tables.now) l.exports.items c.args.names.now l.name-index (at_name.number_by_name c.in_ok-addresses.addresses) c.in_err-export.field-0.0
     c.name-item.result c.names-test.true c.name-item.is c.in_ok-addresses.ensures c.in_err-export.ensures l.invariant)
 
 pub returns-in_err-push-clause-refused : goal.returns-in_err-push-clause-refused

@@ -1,4 +1,5 @@
 use Rattle.std.proofs.Common.{◌≡◌, ℕ, ◌+◌, ◌≤◌, List, [], ◌++◌, length, drop, true, refl, sym, ap, ◌∙◌, subst, rules}
+use Rattle.processor.specs.Bytes.{page_size}
 use Rattle.std.specs.List.{list_all}
 use Rattle.std.proofs.lemmas.List.{at_drop_all}
 use Rattle.elf64_sections.specs.declared.sections.SectionHeader.{SectionHeader}
@@ -31,8 +32,8 @@ sections-preserved c =
 
 pub push_zeros-requires : goal.push_zeros-requires
 push_zeros-requires c =
-    let P : ℕ → Type 0 = λ n. n ≤ 4096 in
-    subst P (sym c.padding-rest.ensures) (padding_small _ 4096 refl)
+    let P : ℕ → Type 0 = λ n. n ≤ page_size in
+    subst P (sym c.padding-rest.ensures) (padding_small _ page_size refl)
 
 pub returns : goal.returns
 unfolding text_of
@@ -45,5 +46,5 @@ returns c =
     ∙ ap (λ (ss : List SectionHeader). text_from o.file.now l.text.items (drop l.section-index ss)) c.deref-section-items.ensures.value
     ∙ l.invariant in
     c.in_ok-push_zeros.ensures
-    ∙ ap (λ (n : ℕ). l.text.items ++ zeros n) (c.padding-rest.ensures ∙ ap (λ (n : ℕ). padding n 4096) size)
+    ∙ ap (λ (n : ℕ). l.text.items ++ zeros n) (c.padding-rest.ensures ∙ ap (λ (n : ℕ). padding n page_size) size)
     ∙ ap whole_pages all

@@ -1,4 +1,5 @@
 use Rattle.std.proofs.Common.{◌≡◌, ℕ, ◌*◌, ◌/◌, ◌%◌, ◌≤◌, ◌∙◌, List, length, sym, ap, subst, arith}
+use Rattle.processor.specs.Bytes.{page_size}
 use Rattle.sv_types.specs.Views.{all_free}
 use Rattle.gstage_tables.specs.Blocks.{CountsTaken}
 use Rattle.gstage_tables.specs.Layout.{leaf_tables, tree_count, table_pages, table_size, sight_in, most_bound, root_word}
@@ -9,13 +10,13 @@ use Rattle.gstage_tables.proofs.Walks.{are_views}
 use Rattle.gstage_tables.proofs.Writes.{roots_filled, middles_filled}
 use Rattle.gstage_tables.proofs.Trees.new.Goals as goal
 
-pages_of : (size pages ram : ℕ) → ram ≡ pages → 4096 * pages ≡ size → size / 4096 ≡ ram
+pages_of : (size pages ram : ℕ) → ram ≡ pages → page_size * pages ≡ size → size / page_size ≡ ram
 pages_of size pages ram e f = omega arith
 
 pub fill_leaves-requires : goal.fill_leaves-requires
 fill_leaves-requires c =
     let pages : ℕ = c.of_pages-trees.result.ram_pages in
-    let whole : length c.args.mem.now.ram / 4096 ≡ pages = pages_of (length c.args.mem.now.ram) c.ram_pages.result pages c.of_pages-trees.ensures.pages c.ram_pages.ensures.value in
+    let whole : length c.args.mem.now.ram / page_size ≡ pages = pages_of (length c.args.mem.now.ram) c.ram_pages.result pages c.of_pages-trees.ensures.pages c.ram_pages.ensures.value in
     record {
       size = c.fill_middles.ensures.words.size ∙ c.fill_roots.ensures.words.size ∙ c.requires.size ∙ ap (λ (n : ℕ). table_size n (length c.args.bound.now)) whole
           ∙ ap (λ (list : List ℕ). table_size pages (length list)) (sym c.of_pages-trees.ensures.bound);
@@ -31,7 +32,7 @@ returns-clause-drawn c =
     let d : List ℕ = c.fill_middles.new.mem.tables in
     let roots : Wrote a b (2048 * tree_count (length bound)) (λ k. k) (λ k. root_word (tree_count (length bound)) (k / 2048) (k % 2048)) =
     subst (λ (trees : ℕ). Wrote a b (2048 * trees) (λ k. k) (λ k. root_word trees (k / 2048) (k % 2048))) count c.fill_roots.ensures.words in
-    let whole : length c.args.mem.now.ram / 4096 ≡ pages = pages_of (length c.args.mem.now.ram) c.ram_pages.result pages c.of_pages-trees.ensures.pages c.ram_pages.ensures.value in
+    let whole : length c.args.mem.now.ram / page_size ≡ pages = pages_of (length c.args.mem.now.ram) c.ram_pages.result pages c.of_pages-trees.ensures.pages c.ram_pages.ensures.value in
     record {
       holds = record {
         size = c.fill_leaves.ensures.size ∙ c.fill_middles.ensures.words.size ∙ roots.size ∙ c.requires.size ∙ ap (λ (n : ℕ). table_size n (length c.args.bound.now)) whole

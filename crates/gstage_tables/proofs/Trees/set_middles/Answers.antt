@@ -1,4 +1,5 @@
 use Rattle.std.proofs.Common.{◌≡◌, ◌≢◌, ℕ, ◌+◌, ◌*◌, ◌/◌, ◌<◌, ◌≤◌, ◌∙◌, length, refl, ap, subst, arith, rules}
+use Rattle.processor.specs.Bytes.{page_size}
 use Rattle.processor.specs.Regions.{Region}
 use Rattle.gstage_tables.specs.Layout.{leaf_tables, tree_count}
 use Rattle.gstage_tables.proofs.Writes.{wrote_next, wrote_all}
@@ -10,7 +11,7 @@ place_of cnt trees block tree e = omega arith
 apart : (trees block m tree : ℕ) → m < tree → 512 * (4 * trees + m) + block ≢ 512 * (4 * trees + tree) + block
 apart trees block m tree l = omega arith
 
-inside : (trees t tree block cnt size now : ℕ) → now ≡ size → size ≡ 4096 * (512 * ((5 * trees + trees * t + 511) / 512)) → cnt ≡ trees → tree < trees → block < 512
+inside : (trees t tree block cnt size now : ℕ) → now ≡ size → size ≡ page_size * (512 * ((5 * trees + trees * t + 511) / 512)) → cnt ≡ trees → tree < trees → block < 512
     → 8 * (2048 * cnt + block + 512 * tree) + 8 ≤ now
 inside trees t tree block cnt size now same is count l h = omega arith
 

@@ -1,4 +1,5 @@
 use Rattle.std.proofs.Common.{◌≡◌, ◌*◌, ◌∙◌, ap, rules, ℕ, replicate}
+use Rattle.processor.specs.Bytes.{page_size}
 use Rattle.processor.specs.Regions.{region_of}
 use Rattle.host_mem.proofs.ViewFacts.{zeros_seen}
 use Rattle.host_mem.proofs.HostMem.new.Goals as goal
@@ -6,4 +7,4 @@ use Rattle.host_mem.proofs.HostMem.new.Goals as goal
 pub returns : goal.returns
 returns c =
     let zeros : c.in_ok-bytes.bytes ≡ replicate {A = ℕ} c.in-Some.size 0 = search rules in
-    ap (region_of c.args.table_bytes) zeros ∙ zeros_seen c.args.table_bytes (4096 * c.args.ram_pages) c.in-Some.size (search rules)
+    ap (region_of c.args.table_bytes) zeros ∙ zeros_seen c.args.table_bytes (page_size * c.args.ram_pages) c.in-Some.size (search rules)

@@ -1,7 +1,7 @@
 use Rattle.std.proofs.Common.{◌≡◌, ℕ, ◌+◌, ◌-◌, ◌*◌, ◌/◌, ◌∙◌, length, ap, arith}
 use Rattle.std.specs.Prelude.{max, min, ◌&&◌, ◌==◌, if◌then◌else◌}
 use Rattle.std.specs.List.{slice_index_or}
-use Rattle.processor.specs.Bytes.{ram_place}
+use Rattle.processor.specs.Bytes.{ram_place, page_size}
 use Rattle.processor.specs.Regions.{Region}
 use Rattle.elf64_load.specs.Images.{segment_of}
 use Rattle.image_loader.specs.Whole.{has_byte}
@@ -18,12 +18,12 @@ returns-then-start-end-clause-bytes c = λ at.
     let end = c.min-end.result in
     let place = c.ram_place-place.result in
     let place_is : place ≡ ram_place c.args.segment.now.gpa = c.ram_place-place.ensures in
-    let start_is : start ≡ max (ram_place c.args.segment.now.gpa) (4096 * page) = c.max-start.ensures ∙ ap (λ n. max n (4096 * page)) place_is in
-    let end_is : end ≡ min (ram_place c.args.segment.now.gpa + memory) (4096 * page + 4096) =
-    c.min-end.ensures ∙ ap (λ n. min (n + memory) (4096 * page + 4096)) place_is in
+    let start_is : start ≡ max (ram_place c.args.segment.now.gpa) (page_size * page) = c.max-start.ensures ∙ ap (λ n. max n (page_size * page)) place_is in
+    let end_is : end ≡ min (ram_place c.args.segment.now.gpa + memory) (page_size * page + page_size) =
+    c.min-end.ensures ∙ ap (λ n. min (n + memory) (page_size * page + page_size)) place_is in
     let some = c.if-start-end.true in
     let inside = c.requires.page in
-    let b = at / 4096 == page && has_byte (segment_of c.args.segment.now) at in
+    let b = at / page_size == page && has_byte (segment_of c.args.segment.now) at in
     ap (λ (r : Region). slice_index_or r.ram at 0) c.put_part.ensures
     ∙ part_byte ram bytes place start (end - start) at (omega arith) (omega arith) b (in_piece (ram_place c.args.segment.now.gpa) memory page start end at start_is end_is some)
     ∙ ap (λ (n : ℕ). if b then slice_index_or bytes (at - n) 0 else slice_index_or ram at 0) place_is

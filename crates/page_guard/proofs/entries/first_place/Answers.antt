@@ -1,4 +1,4 @@
-use Rattle.std.proofs.Common.{rules, ◌≡◌, ◌≤◌, arith, true, false, refl, get_or, length, sym}
+use Rattle.std.proofs.Common.{rules, ◌≡◌, ◌≤◌, arith, false, refl, get_or, length, sym}
 use Rattle.std.specs.Prelude.{◌==◌}
 use Rattle.page_guard.proofs.Places.{is_not_among, missed_more, found_there, none_there}
 use Rattle.page_guard.proofs.entries.first_place.Goals as goal

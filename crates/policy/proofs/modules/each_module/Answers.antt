@@ -6,7 +6,8 @@ use Rattle.sv_types.specs.Limits.{most_sites}
 use Rattle.sv_types.specs.Policies.{ModuleRule, module_rule, sites_of}
 use Rattle.sv_types.specs.declared.policy.ModulePolicy.{ModulePolicy}
 use Rattle.policy.specs.Text.{module_of, each_module}
-use Rattle.policy.proofs.Lists.{each_item_next, sites_of_more}
+use Rattle.policy.proofs.Lists.{each_item_next}
+use Rattle.sv_types.proofs.PolicyLimits.{sites_of_more}
 use Rattle.policy.proofs.modules.each_module.Goals as goal
 
 pub returns-clause-ok : goal.returns-clause-ok

@@ -1,5 +1,5 @@
 use Rattle.std.specs.List.{list_all}
-use Rattle.policy_making.specs.WordRanges.{is_name, are_module_names}
+use Rattle.policy_making.specs.WordRanges.{are_module_names}
 use Rattle.secvisor_cli.specs.Plans.{digest_part, modules_part, no_modules, making_plan, measure_plan, Kernel}
 use Rattle.secvisor_cli.specs.Ready.{Prepares, Passes, MayStage, kernel_value, modules_value}
 use Rattle.secvisor_cli.specs.Words.{policy_value}
@@ -8,6 +8,7 @@ use Rattle.secvisor_cli.proofs.ReadyLemmas.{err_by}
 use Rattle.secvisor_cli.proofs.StageLemmas.{pass_ready}
 use Rattle.secvisor_cli.proofs.MakingLemmas.{modules_named}
 use Rattle.secvisor_cli.proofs.making.prepare_policy.Goals as goal
+use Rattle.sv_types.specs.Names.{name_within}
 
 pub measure_kernel-requires-clause-permitted : goal.measure_kernel-requires-clause-permitted
 unfolding measure_plan
@@ -35,7 +36,7 @@ read_modules-requires-clause-permitted g c =
 
 pub read_modules-requires-clause-names : goal.read_modules-requires-clause-names
 read_modules-requires-clause-names g c =
-    subst (λ (ws : List (Bor (List ℕ))). IsTrue (list_all (λ w. is_name w.now) ws)) (sym c.deref.ensures.value)
+    subst (λ (ws : List (Bor (List ℕ))). IsTrue (list_all (λ w. name_within w.now) ws)) (sym c.deref.ensures.value)
     (modules_named (λ (w : Bor (List ℕ)). w.now) c.args.asked.now.modules.items c.requires.names)
 
 pub make_ready-requires-clause-names : goal.make_ready-requires-clause-names

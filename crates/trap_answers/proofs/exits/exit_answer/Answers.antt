@@ -3,7 +3,7 @@ use Rattle.machine_model.specs.Served.{exit_answer}
 use Rattle.page_guard.specs.Sides.{entry_of}
 use Rattle.reference.specs.Turn.{bound_entry}
 use Rattle.trap_answers.proofs.Entered.{by_address}
-use Rattle.trap_answers.specs.Seen.{answer_at, seen_on}
+use Rattle.trap_answers.specs.Seen.{seen_on}
 use Rattle.trap_answers.proofs.exits.exit_answer.Goals as goal
 
 pub returns-clause-answer : goal.returns-clause-answer

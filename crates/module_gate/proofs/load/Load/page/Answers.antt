@@ -1,4 +1,5 @@
 use Rattle.std.proofs.Common.{rules, ◌≡◌, ◌&&◌, ◌+◌, ◌-◌, ◌*◌, ◌∙◌, sym, ap, subst, length, slice_get, arith, [], ◌∷◌, ◌++◌}
+use Rattle.processor.specs.Bytes.{page_size}
 use Rattle.std.specs.Prelude.{All, Some}
 use Rattle.sv_types.specs.Measure.{page_digest}
 use Rattle.sv_types.specs.Policies.{rules_of, module_rule}
@@ -37,8 +38,8 @@ returns-clause-counted c = λ hart.
     let pages : rule.pages ≡ c.self.inside.pages = ap pages_in_rule (sym there) ∙ c.requires.policy ∙ ap (λ (t : PageTurns). t.pages) (sym c.self.view_is) in
     let turns : n + c.self.inside.left ≡ c.self.inside.pages = c.self.invariant.turns in
     let number : n ≡ rule.pages - c.self.inside.left = omega (arith, pages, turns) in
-    let digested : c.masked_digest-digest.result ≡ page_digest (masked_text bytes (piece_sites (4096 * n) 4096 rule.sites)) = search rules in
-    let judged : c.fields_right-right.result ≡ fields_right law.exports (module_bases c.self.inside.about) (piece_sites (4096 * n) (length bytes) rule.sites) bytes = search rules in
+    let digested : c.masked_digest-digest.result ≡ page_digest (masked_text bytes (piece_sites (page_size * n) page_size rule.sites)) = search rules in
+    let judged : c.fields_right-right.result ≡ fields_right law.exports (module_bases c.self.inside.about) (piece_sites (page_size * n) (length bytes) rule.sites) bytes = search rules in
     let pushed : c.push_reserved.new.self.items ≡ c.self.inside.digests.items ++ c.masked_digest-digest.result ∷ [] = search rules in
     subst (λ (t : PageTurns). host_load hart (record inside { left = c.self.inside.left - 1; digests = c.push_reserved.new.self.items; right = c.self.inside.right && c.fields_right-right.result }) ≡ next_counted law bytes (host_load hart t) (slice_get law.modules t.about.id))
     c.self.view_is

@@ -27,14 +27,15 @@ invariant_of-result c =
     (subst (λ (list : List Protection). CountsTaken c.new-trees.result.counts c.ram_pages-pages.result (protection_at list)) (sym items) counts) in
     (pages ∙ sym size, (counted, (bits ∙ ap (map is_free) (sym items), rw size most)))
 
-pub returns-clause-theirs : goal.returns-clause-theirs
-returns-clause-theirs c =
+pub returns-clause-guards : goal.returns-clause-guards
+returns-clause-guards c =
     let items : c.in_ok-protections.protections.items ≡ replicate c.ram_pages-pages.result Free = search rules in
     let ram = ap (λ (ram : List ℕ). length ram) c.new-trees.ensures.ram in
     let pages : c.new-trees.result.ram_pages ≡ c.ram_pages-pages.result = omega (arith, c.new-trees.ensures.pages, c.ram_pages-pages.ensures.value, ram) in
     let bound = c.new-trees.result.bound in
-    subst (λ (list : List Protection). IsTheirs c.new-trees.new.mem (record { pages = list; bound = bound })) (sym items)
+    let theirs = subst (λ (list : List Protection). IsTheirs c.new-trees.new.mem (record { pages = list; bound = bound })) (sym items)
     (new_theirs c.new-trees.new.mem c.ram_pages-pages.result bound
     (omega (arith, c.new-trees.ensures.pages, pages))
     (subst (λ (n : ℕ). AreViews c.new-trees.new.mem.tables n bound all_free) pages c.new-trees.ensures.views)
-    (subst (λ (n : ℕ). HoldsTrees c.new-trees.new.mem.tables n bound all_free) pages c.new-trees.ensures.drawn.holds))
+    (subst (λ (n : ℕ). HoldsTrees c.new-trees.new.mem.tables n bound all_free) pages c.new-trees.ensures.drawn.holds)) in
+    record { bound = search rules; theirs = theirs }
