@@ -4,23 +4,7 @@
 //! `data/parts.cases` says what the orders are.
 #![tactic(auto)]
 
-mod answers;
-mod calls;
-mod case;
-mod edits;
-mod endless;
-mod files;
-mod folder;
-mod guests;
-mod live;
-mod memory;
-mod orders;
-mod values;
-
-use case::Case;
-use endless::{ENDLESS, refuse_endless};
-use guests::{compare_policies, run_guests};
-use orders::follow;
+use case_runs::{ENDLESS, compare_policies, follow_cases, refuse_endless, run_guests};
 use std::rt::Files;
 use std::sync::Wait;
 use std::thread::Threads;
@@ -60,9 +44,5 @@ fn run_list<R: Threads + Wait + Sync + Files + AllocGlobal + Print>(
     name: &str,
 ) -> io::Result<()> {
     let text = fs::read_to_string(rt, name)?;
-    let mut case = Case::new(rt.alloc());
-    for line in text.as_str().lines() {
-        follow(rt, parts, &mut case, line)?;
-    }
-    Ok(())
+    follow_cases(rt, parts, text.as_str())
 }

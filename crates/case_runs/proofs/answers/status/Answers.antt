@@ -3,7 +3,7 @@ use Rattle.resume_cli.proofs.AnswerLemmas.{resume_follows}
 use Rattle.secvisor_cli.proofs.TopLemmas.{words_follow}
 use Rattle.show_cli.proofs.AnswerLemmas.{may_ask}
 use Rattle.snap_cli.proofs.AnswerLemmas.{snap_follows}
-use Rattle.whole_runs.proofs.answers.status.Goals as goal
+use Rattle.case_runs.proofs.answers.status.Goals as goal
 
 pub secvisor_snap-requires-clause-permitted : goal.secvisor_snap-requires-clause-permitted
 secvisor_snap-requires-clause-permitted g c = λ κs lives. snap_follows _ _ (λ asked. refl) (λ saves. refl)

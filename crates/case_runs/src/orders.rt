@@ -10,8 +10,21 @@ use std::io;
 use std::sync::Wait;
 use std::thread::Threads;
 
-/// Follows an order. One to use a part is to follow the orders of that part.
-pub fn follow<R: Threads + Wait + Sync + AllocGlobal + Print>(
+/// Follows the orders of cases, a line each, over the parts that they use.
+pub fn follow_cases<R: Threads + Wait + Sync + AllocGlobal + Print>(
+    rt: &R,
+    parts: &str,
+    cases: &str,
+) -> io::Result<()> {
+    let mut case = Case::new(rt.alloc());
+    for line in cases.lines() {
+        follow(rt, parts, &mut case, line)?;
+    }
+    Ok(())
+}
+
+// Follows an order. One to use a part is to follow the orders of that part.
+fn follow<R: Threads + Wait + Sync + AllocGlobal + Print>(
     rt: &R,
     parts: &str,
     case: &mut Case,

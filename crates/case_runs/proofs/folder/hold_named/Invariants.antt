@@ -1,5 +1,5 @@
 use Rattle.std.proofs.Common.{◌≡◌}
-use Rattle.whole_runs.proofs.folder.hold_named.Given as goal
+use Rattle.case_runs.proofs.folder.hold_named.Given as goal
 
 -- neither a read nor a save failed
 abbrev pub invariant-loop-word : goal.invariant-loop-word
