@@ -49,7 +49,7 @@ pub fn run_guests<R: Threads + Sync + Files + AllocGlobal + Print>(
     let text = fs::read_to_string(rt, list)?;
     for line in text.as_str().lines() {
         if let Some((name, words)) = named_words(line) {
-            print_run(rt, name, &call_words(rt, name, words)?)?;
+            run_guest(rt, name, words)?;
         }
     }
     Ok(())
@@ -63,10 +63,28 @@ pub fn compare_policies<R: Threads + Sync + Files + AllocGlobal + Print>(
     let text = fs::read_to_string(rt, list)?;
     for line in text.as_str().lines() {
         if let Some((name, words)) = named_words(line) {
-            print_comparison(rt, name, &call_words(rt, name, words)?)?;
+            compare_policy(rt, name, words)?;
         }
     }
     Ok(())
+}
+
+fn run_guest<R: Threads + Sync + Files + AllocGlobal + Print>(
+    rt: &R,
+    name: &str,
+    words: &str,
+) -> io::Result<()> {
+    let left = call_words(rt, name, words)?;
+    print_run(rt, name, &left)
+}
+
+fn compare_policy<R: Threads + Sync + Files + AllocGlobal + Print>(
+    rt: &R,
+    name: &str,
+    words: &str,
+) -> io::Result<()> {
+    let left = call_words(rt, name, words)?;
+    print_comparison(rt, name, &left)
 }
 
 // The name at the start of a line, and the words behind it. A remark has none.

@@ -210,6 +210,19 @@ pub fn print_held<R: Threads + Wait + Sync + AllocGlobal + Print>(
     case: &mut Case,
     words: &str,
 ) -> io::Result<()> {
+    let left = live_held(rt, case, words)?;
+    keep_script(rt.alloc(), case, &left)?;
+    let is_early = events_before_a_key(&case.handed.script) <= HELD_EVENT;
+    println!(rt; "the first key is among the events so far: {is_early}")?;
+    print_again(rt, case, &left)
+}
+
+// The call behind its gate, whose waits are printed.
+fn live_held<R: Threads + Wait + Sync + AllocGlobal + Print>(
+    rt: &R,
+    case: &Case,
+    words: &str,
+) -> io::Result<Left> {
     let gate = Gate {
         begun: AtomicU64::new(0),
         sent: AtomicU64::new(0),
@@ -219,10 +232,7 @@ pub fn print_held<R: Threads + Wait + Sync + AllocGlobal + Print>(
     let line = line(rt.alloc(), case, words)?;
     let left = live_with_gate(rt, rt.alloc(), case, &line, &gate)?;
     print_gate(rt, &gate)?;
-    keep_script(rt.alloc(), case, &left)?;
-    let is_early = events_before_a_key(&case.handed.script) <= HELD_EVENT;
-    println!(rt; "the first key is among the events so far: {is_early}")?;
-    print_again(rt, case, &left)
+    Ok(left)
 }
 
 fn keep_script(alloc: Global, case: &mut Case, left: &Left) -> Result<(), AllocError> {

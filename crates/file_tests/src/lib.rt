@@ -1,4 +1,5 @@
-//! Tests of measures, of kernel images and module objects, and of the generated guest.
+//! Tests of measures, of kernel images and module objects, of the generated guest, of the events of scripts, and of the files
+//! of the operating system.
 #![tactic(auto)]
 
 #[cfg(test)]
@@ -13,3 +14,7 @@ mod loading;
 mod measures;
 #[cfg(test)]
 mod objects;
+#[cfg(test)]
+mod real;
+#[cfg(test)]
+mod scripts;

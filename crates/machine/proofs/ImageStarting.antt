@@ -1,5 +1,5 @@
 -- A kernel's image before the first event.
-use Rattle.std.proofs.Common.{get_or, ◌==◌, ◌^◌, ◌<◌, inl, inr, ◌≡◌, ℕ, suc, ◌-◌, ◌%◌, ◌≤◌, true, IsTrue, List, [], ◌∷◌, length, take, refl, sym, ◌∙◌, ap, arith, subst, length-append, length-take}
+use Rattle.std.proofs.Common.{get_or, ◌==◌, ◌^◌, ◌<◌, inl, inr, ◌≡◌, ℕ, suc, ◌%◌, ◌≤◌, true, IsTrue, List, [], ◌∷◌, length, take, refl, sym, ◌∙◌, ap, arith, subst, length-append, length-take}
 use Rattle.processor.specs.Bytes.{page_size}
 use Rattle.std.specs.Prelude.{Option, Some, None, find, flat_map}
 use Rattle.std.proofs.lemmas.Bool.Decides.{nat_tests}

@@ -119,11 +119,35 @@ fn assemble(
     ensures made { IfOk result (λ p. p ≡ image_machine p.region.tables (rules_of policy) image.now.entry (segments_of image.now) (port_disk port)) }
     ensures guarded { IfOk result IsGuarded }
 {
-    let bound = bound_pages(alloc, &policy)?;
-    let mut mem = image_region(alloc, image, policy.ram_pages, bound.len())?;
-    let guard = image_guard(alloc, &mut mem, image, policy.ram_pages, &bound)?;
+    let GuardedMem { mem, guard } = guarded_mem(alloc, image, &policy)?;
     let _tables = mem.table_bytes();
     Parts::at_boot(alloc, policy, mem, guard, port, image.entry)
+}
+
+// A region with the image's segments, and the guard of its pages.
+struct GuardedMem {
+    mem: HostMem,
+    guard: Guard,
+}
+
+// A region of a policy's RAM with the image's segments, its text approved and all other pages free. Made beside the policy,
+// which is owned where a machine is assembled.
+fn guarded_mem(
+    alloc: Global,
+    image: &KernelImage,
+    policy: &Policy,
+) -> Result<GuardedMem, AllocError>
+    requires within { IsTrue (rules_within (rules_of policy.now)) }
+    requires placed { ArePlaced policy.now.ram_pages (segments_of image.now) }
+    ensures ram { IfOk result (λ g. g.mem.ram ≡ segments_ram (segments_of image.now) policy.now.ram_pages) }
+    ensures guard { IfOk result (λ g. g.guard.pages ≡ image_protections policy.now.ram_pages (segments_of image.now)) }
+    ensures guards { IfOk result (λ g. Guards g.mem (bound_pages (rules_of policy.now)) g.guard) }
+    ensures number { IfOk result (λ g. length g.guard.pages ≡ policy.now.ram_pages) }
+{
+    let bound = bound_pages(alloc, policy)?;
+    let mut mem = image_region(alloc, image, policy.ram_pages, bound.len())?;
+    let guard = image_guard(alloc, &mut mem, image, policy.ram_pages, &bound)?;
+    Ok(GuardedMem { mem, guard })
 }
 
 // The page that each entry of a policy is bound to.

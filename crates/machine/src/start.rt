@@ -262,9 +262,9 @@ fn assemble(alloc: Global, pages: &[u8], wanted: Digest) -> Result<Parts, AllocE
     ensures start { IfOk result (λ p. p ≡ flat_machine p.region.tables pages.now wanted) }
     ensures guarded { IfOk result IsGuarded }
 {
-    let policy = flat_policy(alloc, wanted)?;
     let mut mem = flat_region(alloc, pages)?;
     let guard = approved_start(alloc, &mut mem, (pages.len() / PAGE_SIZE) as u32)?;
+    let policy = flat_policy(alloc, wanted)?;
     let _tables = mem.table_bytes();
     let port = Port::block(Vec::new(alloc));
     Parts::at_boot(alloc, policy, mem, guard, port, RAM_BASE)

@@ -1,5 +1,5 @@
 -- Modules, computed.
-use Rattle.std.proofs.Common.{◌≡◌, ℕ, refl, [], ◌∷◌, Bool, true, false}
+use Rattle.std.proofs.Common.{◌≡◌, refl, [], ◌∷◌, true, false}
 use Rattle.sv_types.specs.declared.event.Note.TheVariants.{Denied, Load, Unload}
 use Rattle.sv_types.specs.declared.sbi.SbiCode.TheVariants.{Success, InvalidParameter, RefusedByMeasure, InvalidAddress, Already, UnderWay}
 use Rattle.sha2.specs.Sha256.{sha256, first_words, schedule, rounds, compress, hash_after, digest_bytes}
@@ -12,15 +12,15 @@ use Rattle.reference_rows.specs.CallRows.{answer, error_answer}
 use Rattle.reference_rows.specs.ModuleRows.{ModuleRows, loaded_at, turned_at, cleared_digest, all_calls, beat_after_a_page, beat_before_the_call}
 use Rattle.reference_rows.proofs.Computing.{computing}
 
-its_calls_noted : all_calls.journal.notes ≡ Load 1 2 1 UnderWay ∷ Load 0 6 0 Success ∷ Load 0 7 0 Already ∷ Load 0 8 1 InvalidAddress ∷ Load 0 9 1 InvalidAddress ∷ Load 0 10 2 InvalidParameter ∷ Unload 0 11 1 InvalidParameter ∷ Unload 0 12 0 Success ∷ []
+its_calls_noted : all_calls.journal.notes ≡ Load 1 2 1 UnderWay ∷ Load 0 5 0 Success ∷ Load 0 6 0 Already ∷ Load 0 7 1 InvalidAddress ∷ Load 0 8 1 InvalidAddress ∷ Load 0 9 2 InvalidParameter ∷ Unload 0 10 1 InvalidParameter ∷ Unload 0 11 0 Success ∷ []
 unfolding computing load_step_of decide is_good is_as_measured masked_text fields_right field_right clear_field site_value measure sha256 first_words schedule rounds compress hash_after digest_bytes
 its_calls_noted = refl
 
-its_held_pages_are_not_written : beat_after_a_page.journal.notes ≡ Denied 0x80005000 ∷ Load 0 5 0 Success ∷ []
+its_held_pages_are_not_written : beat_after_a_page.journal.notes ≡ Denied 0x80005000 ∷ []
 unfolding computing load_step_of decide is_good is_as_measured masked_text fields_right field_right clear_field site_value measure sha256 first_words schedule rounds compress hash_after digest_bytes
 its_held_pages_are_not_written = refl
 
-its_bytes_written_before_count : beat_before_the_call.journal.notes ≡ Load 0 5 0 RefusedByMeasure ∷ []
+its_bytes_written_before_count : beat_before_the_call.journal.notes ≡ Load 0 4 0 RefusedByMeasure ∷ []
 unfolding computing load_step_of decide is_good is_as_measured masked_text fields_right field_right clear_field site_value measure sha256 first_words schedule rounds compress hash_after digest_bytes
 its_bytes_written_before_count = refl
 
@@ -28,24 +28,20 @@ its_right_address : (loaded_at 0x80005000).journal.notes ≡ Load 0 3 0 Success 
 unfolding computing load_step_of decide is_good is_as_measured masked_text fields_right field_right clear_field site_value measure sha256 first_words schedule rounds compress hash_after digest_bytes
 its_right_address = refl
 
-its_wrong_address : (loaded_at 0x80006000).journal.notes ≡ Load 0 3 0 RefusedByMeasure ∷ []
-unfolding computing load_step_of decide is_good is_as_measured masked_text fields_right field_right clear_field site_value measure sha256 first_words schedule rounds compress hash_after digest_bytes
-its_wrong_address = refl
-
 its_wrong_answer : answer (loaded_at 0x80006000) ≡ error_answer 4
 unfolding computing load_step_of decide is_good is_as_measured masked_text fields_right field_right clear_field site_value measure sha256 first_words schedule rounds compress hash_after digest_bytes
 its_wrong_answer = refl
 
-turned : (gpa : ℕ) (right : Bool) → HostLoad
-turned gpa right =
-    record { hart = 0; about = record { id = 0; gpa = gpa; va = 0x80008000; data_va = 0 }; left = 0; digests = cleared_digest ∷ []; right = right }
+turned : HostLoad
+turned =
+    record { hart = 0; about = record { id = 0; gpa = 0x80005000; va = 0x80008000; data_va = 0 }; left = 0; digests = cleared_digest ∷ []; right = true }
 
-its_right_page : turned_at 0x80005000 ≡ turned 0x80005000 true
+its_right_page : turned_at 0x80005000 ≡ turned
 unfolding computing load_step_of decide is_good is_as_measured masked_text fields_right field_right clear_field site_value measure sha256 first_words schedule rounds compress hash_after digest_bytes load_counted page_counted page_sites turned
 its_right_page = refl
 
-its_wrong_page : turned_at 0x80006000 ≡ turned 0x80006000 false
-unfolding computing load_step_of decide is_good is_as_measured masked_text fields_right field_right clear_field site_value measure sha256 first_words schedule rounds compress hash_after digest_bytes load_counted page_counted page_sites turned
+its_wrong_page : (turned_at 0x80006000).right ≡ false
+unfolding computing load_step_of decide is_good is_as_measured masked_text fields_right field_right clear_field site_value measure sha256 first_words schedule rounds compress hash_after digest_bytes load_counted page_counted page_sites
 its_wrong_page = refl
 
 pub module_rows : ModuleRows
@@ -65,9 +61,9 @@ module_rows = record {
   outside_ram = refl;
   calls_noted = its_calls_noted;
   held_pages_are_not_written = its_held_pages_are_not_written;
+  held_page_keeps_its_bytes = refl;
   bytes_written_before_count = its_bytes_written_before_count;
   right_address = its_right_address;
-  wrong_address = its_wrong_address;
   wrong_address_answered = its_wrong_answer;
   right_page_turned = its_right_page;
   wrong_page_turned = its_wrong_page;

@@ -40,14 +40,14 @@ at_8000 = record { va = 0x80008000; data_va = 0 }
 abbrev pub are_right : List ℕ → Bool
 are_right text = fields_right print_at at_8000 call_sites text
 
--- ---- modules: the first of three pages, each with one word, and the second of one
+-- ---- modules: the first of two pages, each with one word, and the second of one
 
 abbrev pub one_word_page : List ℕ
 one_word_page = page (words (0x00000073 ∷ []))
 
--- SHA-256 of the three pages' digests
-abbrev pub three_page_digest : List ℕ
-three_page_digest = 225 ∷ 21 ∷ 118 ∷ 203 ∷ 216 ∷ 47 ∷ 46 ∷ 149 ∷ 52 ∷ 141 ∷ 135 ∷ 78 ∷ 78 ∷ 120 ∷ 165 ∷ 250 ∷ 34 ∷ 111 ∷ 196 ∷ 33 ∷ 84 ∷ 58 ∷ 243 ∷ 123 ∷ 19 ∷ 58 ∷ 24 ∷ 104 ∷ 135 ∷ 61 ∷ 112 ∷ 7 ∷ []
+-- SHA-256 of the two pages' digests
+abbrev pub two_page_digest : List ℕ
+two_page_digest = 115 ∷ 189 ∷ 155 ∷ 218 ∷ 156 ∷ 85 ∷ 10 ∷ 89 ∷ 124 ∷ 146 ∷ 12 ∷ 12 ∷ 171 ∷ 91 ∷ 220 ∷ 22 ∷ 12 ∷ 140 ∷ 28 ∷ 134 ∷ 31 ∷ 106 ∷ 160 ∷ 144 ∷ 220 ∷ 134 ∷ 133 ∷ 4 ∷ 207 ∷ 106 ∷ 16 ∷ 134 ∷ []
 
 abbrev pub module_of : ℕ → List ℕ → ModuleRule
 module_of pages measure = record { name = []; pages = pages; measure = measure; sites = [] }
@@ -62,12 +62,12 @@ rules_with init = record {
   exports = [];
   kernel = [];
   init = init;
-  modules = module_of 3 three_page_digest ∷ module_of 1 [] ∷ [];
+  modules = module_of 2 two_page_digest ∷ module_of 1 [] ∷ [];
 }
 
 -- two pages of kernel text, whose words are ECALLs, and the first module's text from page 5 on
 abbrev pub memory : List ℕ
-memory = with_padding (page (words (0x00000073 ∷ 0x00000073 ∷ [])) ++ one_word_page ++ replicate 12288 0 ++ one_word_page ++ one_word_page ++ one_word_page) 32768
+memory = with_padding (page (words (0x00000073 ∷ 0x00000073 ∷ [])) ++ one_word_page ++ replicate 12288 0 ++ one_word_page ++ one_word_page) 32768
 
 abbrev pub begin : Option Span → State
 begin init = start (rules_with init) memory (0 ∷ 1 ∷ []) 0x80000000 (block_disk [])
@@ -87,7 +87,7 @@ abbrev pub under_way : State
 under_way = loads first 0 0 0x80005000
 
 abbrev pub decided_state : State
-decided_state = run (loads under_way 1 1 0x80005000) (replicate 4 (Turn 0))
+decided_state = run (loads under_way 1 1 0x80005000) (replicate 3 (Turn 0))
 
 abbrev pub all_calls : State
 all_calls = asks (asks (loads (loads (loads (loads decided_state 0 0 0x80005000) 0 1 0x80006000) 0 1 0x80008000) 0 2 0x80010000) 0 1 1 0 0) 0 1 0 0 0
@@ -97,10 +97,10 @@ abbrev pub with_transfer : State → State
 with_transfer r = record r { devices = record r.devices { disk = disk_with (busy_with DiskToMemory 0x80005000 0) } }
 
 abbrev pub beat_after_a_page : State
-beat_after_a_page = run (loads (with_transfer first) 0 0 0x80005000) (Turn 0 ∷ Beat ∷ Turn 0 ∷ Turn 0 ∷ Turn 0 ∷ [])
+beat_after_a_page = run (loads (with_transfer first) 0 0 0x80005000) (Turn 0 ∷ Beat ∷ [])
 
 abbrev pub beat_before_the_call : State
-beat_before_the_call = run (loads (step (with_transfer first) Beat) 0 0 0x80005000) (Turn 0 ∷ Turn 0 ∷ Turn 0 ∷ Turn 0 ∷ [])
+beat_before_the_call = run (loads (step (with_transfer first) Beat) 0 0 0x80005000) (Turn 0 ∷ Turn 0 ∷ Turn 0 ∷ [])
 
 -- the second module is loaded, and hart 1 runs in it
 abbrev pub with_second : State
@@ -161,7 +161,7 @@ pub record ModuleRows : Type 0 where
   pub cleared_call : masked_text (words (0xFFFFB097 ∷ 0x010080E7 ∷ [])) call_sites ≡ words (0x00000097 ∷ 0x000080E7 ∷ [])
   pub wrong_call_cleared : masked_text (words (0xFFFFB097 ∷ 0x014080E7 ∷ [])) call_sites ≡ words (0x00000097 ∷ 0x000080E7 ∷ [])
   -- ---- a load begins: its pages are held, and the hart stays at its call
-  pub held : under_way.held ≡ 5 ∷ 6 ∷ 7 ∷ []
+  pub held : under_way.held ≡ 5 ∷ 6 ∷ []
   pub stays_at_its_call : at_pc under_way ≡ 0x80000000 ∷ 0 ∷ []
   pub begun_without_a_note : under_way.journal.notes ≡ []
   pub takes_no_interrupt : (step (interruptible under_way) (Turn 0)).journal.counts.traps ≡ 0
@@ -169,23 +169,23 @@ pub record ModuleRows : Type 0 where
   pub crooked_place : answer (loads first 0 0 0x80005008) ≡ error_answer 5
   pub crooked_address : answer (asks first 0 0 0 0x80005000 0x80008004) ≡ error_answer 5
   pub in_kernel_text : answer (loads first 0 1 0x80001000) ≡ error_answer 5
-  pub outside_ram : answer (loads first 0 0 0x80006000) ≡ error_answer 5
+  pub outside_ram : answer (loads first 0 0 0x80007000) ≡ error_answer 5
   pub calls_noted : all_calls.journal.notes ≡
       Load 1 2 1 UnderWay
-      ∷ Load 0 6 0 Success
-      ∷ Load 0 7 0 Already
+      ∷ Load 0 5 0 Success
+      ∷ Load 0 6 0 Already
+      ∷ Load 0 7 1 InvalidAddress
       ∷ Load 0 8 1 InvalidAddress
-      ∷ Load 0 9 1 InvalidAddress
-      ∷ Load 0 10 2 InvalidParameter
-      ∷ Unload 0 11 1 InvalidParameter
-      ∷ Unload 0 12 0 Success
+      ∷ Load 0 9 2 InvalidParameter
+      ∷ Unload 0 10 1 InvalidParameter
+      ∷ Unload 0 11 0 Success
       ∷ []
   -- ---- bytes of the deciding moment
-  pub held_pages_are_not_written : beat_after_a_page.journal.notes ≡ Denied 0x80005000 ∷ Load 0 5 0 Success ∷ []
-  pub bytes_written_before_count : beat_before_the_call.journal.notes ≡ Load 0 5 0 RefusedByMeasure ∷ []
+  pub held_pages_are_not_written : beat_after_a_page.journal.notes ≡ Denied 0x80005000 ∷ []
+  pub held_page_keeps_its_bytes : beat_after_a_page.ram ≡ memory
+  pub bytes_written_before_count : beat_before_the_call.journal.notes ≡ Load 0 4 0 RefusedByMeasure ∷ []
   -- ---- a module with one field
   pub right_address : (loaded_at 0x80005000).journal.notes ≡ Load 0 3 0 Success ∷ []
-  pub wrong_address : (loaded_at 0x80006000).journal.notes ≡ Load 0 3 0 RefusedByMeasure ∷ []
   pub wrong_address_answered : answer (loaded_at 0x80006000) ≡ error_answer 4
   pub right_page_turned : turned_at 0x80005000 ≡ record {
     hart = 0;
@@ -194,16 +194,10 @@ pub record ModuleRows : Type 0 where
     digests = cleared_digest ∷ [];
     right = true;
   }
-  pub wrong_page_turned : turned_at 0x80006000 ≡ record {
-    hart = 0;
-    about = record { id = 0; gpa = 0x80006000; va = 0x80008000; data_va = 0 };
-    left = 0;
-    digests = cleared_digest ∷ [];
-    right = false;
-  }
+  pub wrong_page_turned : (turned_at 0x80006000).right ≡ false
   -- ---- unload and retire
   pub unload_demotes_who_runs_there : (step (asks running_in_it 0 1 1 0 0) (Turn 1)).journal.notes ≡ Unload 0 1 1 Success ∷ Demote 1 2 0x80004000 0x80004000 ∷ []
-  pub unload_while_a_load_is_under_way : answer (asks (record with_second { loading = Some (record { hart = 1; about = record { id = 0; gpa = 0x80005000; va = 0; data_va = 0 }; left = 3 }) }) 0 1 1 0 0) ≡ error_answer 7
+  pub unload_while_a_load_is_under_way : answer (asks (record with_second { loading = Some (record { hart = 1; about = record { id = 0; gpa = 0x80005000; va = 0; data_va = 0 }; left = 2 }) }) 0 1 1 0 0) ≡ error_answer 7
   pub unload_of_none : answer (asks first 0 1 1 0 0) ≡ error_answer 3
   pub retire : pages_of (asks with_init 0 2 0 0 0) ≡ 0 ∷ []
   pub retire_twice : (asks (asks with_init 0 2 0 0 0) 0 2 0 0 0).journal.notes ≡ Retire 0 1 Success ∷ Retire 0 2 Already ∷ []
