@@ -1,3 +1,3 @@
-pub mod Canonical
+pub mod Names
 pub mod PlainWords
 pub mod Walks

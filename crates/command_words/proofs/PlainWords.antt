@@ -1,5 +1,5 @@
 -- Words without a dash go to the positionals, whatever they are.
-use Rattle.std.proofs.Common.{◌≡◌, ◌∙◌, ◌⊎◌, inl, inr, ◌&&◌, Bool, true, false, cond, List, [], ◌∷◌, ◌++◌, Option, Some, None, refl, ap, ap₂, ◌==◌}
+use Rattle.std.proofs.Common.{◌≡◌, ◌∙◌, ◌⊎◌, inl, inr, ◌&&◌, Bool, true, false, cond, List, [], ◌∷◌, Option, Some, None, refl, ap, ap₂, ◌==◌}
 use Rattle.std.specs.List.{list_any, fold, find}
 use Rattle.std.specs.Option.{option_map_or}
 use Rattle.std.specs.Str.{bytes_eq}
@@ -7,7 +7,7 @@ use Rattle.std.proofs.lemmas.Bool.{or_parts}
 use Rattle.clap.specs.Words.{Rule, Shape, Text}
 use Rattle.clap.specs.Lexer.{long_of, short_of}
 use Rattle.clap.specs.Takes.{step_passes, turn_passes, walk_passes}
-use Rattle.clap.specs.Walk.{Names, Walk, idle, positional, value, walked, to_positional, arg_by_index, is_multiple}
+use Rattle.clap.specs.Walk.{Walk, idle, positional, value, walked, to_positional, arg_by_index, is_multiple}
 use Rattle.command_words.specs.Commands.{hyphen, has_dash}
 
 abbrev pub NoDash : Text → Type 0
@@ -103,12 +103,3 @@ pass_is s w (word ∷ rest) none on plain =
     let later : walk_passes s [] (walked s.rules [] w word) rest ≡ placed_pass s (walk_behind s.rules w word) rest =
     ap (λ v. walk_passes s [] v rest) (placed_is s.rules w word on parts.0) ∙ pass_is s (walk_behind s.rules w word) rest none (placed_on s.rules w word none on) parts.1 in
     ap₂ (λ a b. a && b) (turn_is s w word on parts.0) later
-
--- ---- behind the name of a subcommand
-
--- the words behind it are left to it
-pub stopped_pass : (s : Shape) (names : Names) (w : Walk) (name : Text) (seen words : List Text)
-    → walk_passes s names (record w { stopped = Some (name, seen) }) words ≡ true
-unfolding walk_passes walked
-stopped_pass s names w name seen [] = refl
-stopped_pass s names w name seen (x ∷ xs) = stopped_pass s names w name (seen ++ x ∷ []) xs

@@ -1,212 +1,205 @@
--- What `clap` makes of the words of a command.
-use Rattle.std.proofs.Common.{◌≡◌, ◌∙◌, ◌≤◌, ◌&&◌, Bool, true, false, List, [], ◌∷◌, ◌++◌, length, Option, Some, refl, sym, ap, ap₂, codes, inl, nat_le, append_assoc, append-nil, arith}
-use Rattle.std.specs.List.{fold, find, list_all, list_any}
-use Rattle.std.specs.Option.{unwrap_or, is_some}
-use Rattle.clap.specs.Words.{Rule, Shape, Text, built, is_simple, new_rule, subcommand_of, takes}
-use Rattle.clap.specs.Lexer.{usize_max}
-use Rattle.clap.specs.Simple.{names_of, label_of, entered, rows_at}
-use Rattle.clap.specs.Takes.{value_passes, walk_passes, level_passes, entered_passes, settle_passes, default_passes, is_valid}
-use Rattle.clap.specs.Walk.{Names, Walk, answers_to, arg_by_index, positional, settled, finished, nothing_held, walk, walk_from, walked}
-use Rattle.std.proofs.lemmas.Bool.{le-leb}
-use Rattle.clap.proofs.OnLiterals.{clap_on_literals}
-use Rattle.clap.proofs.WalkLemmas.{walk_stopped}
+-- What `clap` makes of the words behind the name of a command.
+use Rattle.std.proofs.Common.{◌≡◌, ◌∙◌, ◌+◌, ◌&&◌, ℕ, Bool, true, false, true≢false, List, [], ◌∷◌, ◌++◌, Option, Some, None, drop, refl, sym, subst, ap, ap₂, codes, inl, append_assoc, if◌then◌else◌}
+use Rattle.std.specs.List.{fold, list_all, list_any}
+use Rattle.std.specs.Option.{is_some}
+use Rattle.clap.specs.Words.{App, Row, Rule, Shape, Text, built, is_simple, matches_of, takes, reading_of}
+use Rattle.clap.specs.Simple.{argument_words, entered, names_of}
+use Rattle.clap.specs.Takes.{built_takes, entered_passes, settle_passes, default_passes, is_valid}
+use Rattle.clap.specs.Walk.{Walk, positional, rows_after, settled, finished, nothing_held, walk_from}
+use Rattle.clap.specs.declared.builder.value_parser.ValueParser.TheVariants as vp
+use Rattle.clap.specs.declared.parser.matches.ValueSource.TheVariants.{CommandLine}
+use Rattle.clap.proofs.WalkLemmas.{both}
 use Rattle.command_words.specs.declared.command.DiskKind.{DiskKind}
-use Rattle.command_words.specs.Commands.{Split, Flat, Gen, Run, Measure, Convert, has_dash}
-use Rattle.command_words.specs.Parsing.{whole_app, split_found}
-use Rattle.command_words.proofs.PlainWords.{IsOn, NoneTrails, walk_behind, placed_pass, pass_is, stopped_pass, walk_is}
+use Rattle.command_words.specs.declared.name.CommandName.{CommandName}
+use Rattle.command_words.specs.declared.name.CommandName.TheVariants as command
+use Rattle.command_words.specs.Commands.{Split, flat_split, gen_split, run_split, measure_split, convert_split, has_dash}
+use Rattle.command_words.specs.Parsing.{HasWords, Want, app_of_wants, bare_app, rule_of_want, flat_wants, gen_wants, run_wants, measure_wants, convert_wants, wants_of, split_as, found_as, flat_found, gen_found, run_found, measure_found, convert_found}
+use Rattle.command_words.proofs.PlainWords.{IsOn, NoneTrails, walk_behind, placed_pass, pass_is, walk_is}
 
-pub simple : is_simple whole_app ≡ true
-unfolding clap_on_literals
-simple = refl
-
-abbrev top : Shape
-top = (built whole_app).top
-
-abbrev names : Names
-names = names_of (built whole_app)
+-- ---- the words of any command
 
 abbrev start : Walk
 start = walk_from nothing_held
 
-abbrev leaf : Text → Option Shape
-leaf name = find (λ s. answers_to name (label_of s)) (built whole_app).subs
-
 start_on : IsOn start
 start_on = record { waiting = inl refl; is_trailing = refl; stopped = refl }
 
--- the word is the name of a subcommand with this shape
-record IsNamed (name : Text) (s : Shape) : Type 0 where
-  met : walked top.rules names start name ≡ record start { stopped = Some (name, []) }
-  found : leaf name ≡ Some s
+-- a command of this shape without subcommands
+abbrev alone : Shape → App
+alone s = record { top = s; subs = [] }
+
+-- the command is built to this shape
+record IsAlone (wants : List Want) (s : Shape) : Type 0 where
+  simple : is_simple (app_of_wants wants) ≡ true
+  shape : built (app_of_wants wants) ≡ alone s
+  bare : (app_of_wants wants).top.no_binary_name ≡ true
   trails : NoneTrails s.rules
-  turn : (words : List Text) → walk_passes top names start (name ∷ words) ≡ walk_passes top names (walked top.rules names start name) words
 
-module _ (name : Text) (s : Shape) (is : IsNamed name s) (words : List Text) where
-  behind : walk top.rules names nothing_held (name ∷ words) ≡ record start { stopped = Some (name, words) }
-  behind = ap (λ (w : Walk). fold (walked top.rules names) w words) is.met ∙ sym (walk_stopped top.rules names start name [] words)
+-- `clap` takes the words, and what it finds is the split
+pub record IsRead (wants : List Want) (found : List Row → Split) (words : List Text) (split : Option Split) : Type 0 where
+  pub taken : takes (app_of_wants wants) words ≡ true
+  pub has : (rows : List Row) → rows ≡ matches_of (app_of_wants wants) words → HasWords wants rows
+  pub is : (rows : List Row) (s : Split) → rows ≡ matches_of (app_of_wants wants) words → s ≡ found rows → split ≡ Some s
 
-  passes_behind : walk_passes top names start (name ∷ words) ≡ true
-  passes_behind = is.turn words ∙ ap (λ (w : Walk). walk_passes top names w words) is.met ∙ stopped_pass top names start name [] words
+pub takes_simple : (app : App) (words : List Text) → takes app words ≡ true → is_simple app ≡ true
+takes_simple app words taken = (both (is_simple app) (built_takes (built app) nothing_held (argument_words app words)) taken).0
 
-  -- the rows of the subcommand
-  rows_behind : list_any has_dash words ≡ false
-      → subcommand_of whole_app (name ∷ words) ≡ Some (s.name, finished s.rules (fold (walk_behind s.rules) start words).held)
-  rows_behind plain =
-      let entering : subcommand_of whole_app (name ∷ words) ≡ entered (built whole_app) (Some (name, words)) =
-      ap (λ (w : Walk). entered (built whole_app) w.stopped) behind in
-      let leaving : entered (built whole_app) (Some (name, words)) ≡ Some (rows_at s words) =
-      ap (λ (o : Option Shape). Rattle.std.specs.Prelude.option_map (λ t. rows_at t words) o) is.found in
-      entering ∙ leaving ∙ ap (λ (w : Walk). Some (s.name, finished s.rules w.held)) (walk_is s.rules start words is.trails start_on plain)
+module _ (wants : List Want) (s : Shape) (is : IsAlone wants s) (words : List Text) where
+  abbrev app : App
+  app = app_of_wants wants
+
+  -- behind the words
+  abbrev end : Walk
+  end = fold (walk_behind s.rules) start words
 
   abbrev ends_well : Bool → Walk → Bool
-  ends_well passes end = passes && (settle_passes s.rules s.args_override_self end.held
-      && (list_all default_passes s.rules && is_valid s (finished s.rules end.held) false))
+  ends_well passes w = entered_passes (alone s) w.stopped && (passes && (settle_passes s.rules s.args_override_self w.held
+      && (list_all default_passes s.rules && is_valid s (finished s.rules w.held) (is_some (entered (alone s) w.stopped)))))
 
-  -- the subcommand takes its words
-  level_behind : list_any has_dash words ≡ false
-      → level_passes s [] nothing_held words false ≡ ends_well (placed_pass s start words) (fold (walk_behind s.rules) start words)
-  level_behind plain = ap₂ ends_well (pass_is s start words is.trails start_on plain) (walk_is s.rules start words is.trails start_on plain)
+  taken_is : list_any has_dash words ≡ false → takes app words ≡ ends_well (placed_pass s start words) end
+  taken_is plain =
+      let first : takes app words ≡ built_takes (built app) nothing_held (argument_words app words) =
+      ap (λ b. b && built_takes (built app) nothing_held (argument_words app words)) is.simple in
+      let second : built_takes (built app) nothing_held (argument_words app words) ≡ built_takes (alone s) nothing_held (argument_words app words) =
+      ap (λ (a : App). built_takes a nothing_held (argument_words app words)) is.shape in
+      let third : built_takes (alone s) nothing_held (argument_words app words) ≡ built_takes (alone s) nothing_held words =
+      ap (λ b. built_takes (alone s) nothing_held (if b then words else drop 1 words)) is.bare in
+      first ∙ second ∙ third ∙ ap₂ ends_well (pass_is s start words is.trails start_on plain) (walk_is s.rules start words is.trails start_on plain)
 
-  abbrev starts_well : Bool → Walk → Bool
-  starts_well passes end = entered_passes (built whole_app) end.stopped && (passes && (settle_passes top.rules top.args_override_self end.held
-      && (list_all default_passes top.rules && is_valid top (finished top.rules end.held) (is_some (entered (built whole_app) end.stopped)))))
+  matches_are : list_any has_dash words ≡ false → matches_of app words ≡ finished s.rules end.held
+  matches_are plain =
+      let first : matches_of app words ≡ rows_after s.rules [] (argument_words app words) =
+      ap (λ (a : App). rows_after a.top.rules (names_of a) (argument_words app words)) is.shape in
+      let second : rows_after s.rules [] (argument_words app words) ≡ rows_after s.rules [] words =
+      ap (λ b. rows_after s.rules [] (if b then words else drop 1 words)) is.bare in
+      first ∙ second ∙ ap (λ (w : Walk). finished s.rules w.held) (walk_is s.rules start words is.trails start_on plain)
 
-  abbrev enters_well : Option Shape → Bool
-  enters_well found = Rattle.std.specs.Option.option_map_or (λ t. level_passes t [] nothing_held words false) found true
-      && is_valid top [] (is_some (Rattle.std.specs.Prelude.option_map (λ t. rows_at t words) found))
+  read_by : (found : List Row → Split) (split : Option Split) → list_any has_dash words ≡ false
+      → ends_well (placed_pass s start words) end ≡ true
+      → HasWords wants (finished s.rules end.held)
+      → split ≡ Some (found (finished s.rules end.held))
+      → IsRead wants found words split
+  read_by found split plain ends has finds = record {
+    taken = taken_is plain ∙ ends;
+    has = λ rows e. subst (HasWords wants) (sym (e ∙ matches_are plain)) has;
+    is = λ rows x e f. finds ∙ ap (λ r. Some (found r)) (sym (e ∙ matches_are plain)) ∙ ap Some (sym f);
+  }
 
-  taken_behind : level_passes s [] nothing_held words false ≡ true → takes whole_app (name ∷ words) ≡ true
-  taken_behind level =
-      let first : takes whole_app (name ∷ words) ≡ (is_simple whole_app && starts_well (walk_passes top names start (name ∷ words)) (walk top.rules names nothing_held (name ∷ words))) = refl in
-      let second : starts_well (walk_passes top names start (name ∷ words)) (walk top.rules names nothing_held (name ∷ words))
-      ≡ starts_well true (record start { stopped = Some (name, words) }) = ap₂ starts_well passes_behind behind in
-      let third : starts_well true (record start { stopped = Some (name, words) }) ≡ enters_well (Some s) = ap enters_well is.found in
-      first ∙ ap₂ (λ a b. a && b) simple (second ∙ third) ∙ ap (λ b. b && true) level
+-- the rule of the argument at this place, as it is built
+abbrev built_rule : ℕ → Rule → Rule
+built_rule place rule = record rule {
+  index = Some place;
+  range = Some (record { start_inclusive = 1; end_inclusive = 1 });
+  parser = Some vp.String;
+}
 
-abbrev shape_named : Text → Shape
-shape_named name = unwrap_or (leaf name) top
+abbrev built_rules : ℕ → List Want → List Rule
+built_rules place [] = []
+built_rules place (want ∷ rest) = built_rule place (rule_of_want want) ∷ built_rules (place + 1) rest
 
-flat_is : IsNamed (codes "flat") (shape_named (codes "flat"))
-unfolding clap_on_literals
-flat_is = record { met = refl; found = refl; trails = refl; turn = λ words. refl }
+abbrev shape_of_wants : List Want → Shape
+shape_of_wants wants = record bare_app.top { rules = built_rules 1 wants; disable_help_subcommand = true; is_built = true }
 
-gen_is : IsNamed (codes "gen") (shape_named (codes "gen"))
-unfolding clap_on_literals
-gen_is = record { met = refl; found = refl; trails = refl; turn = λ words. refl }
+flat_is : IsAlone flat_wants (shape_of_wants flat_wants)
+flat_is = record { simple = refl; shape = refl; bare = refl; trails = refl }
 
-run_is : IsNamed (codes "run") (shape_named (codes "run"))
-unfolding clap_on_literals
-run_is = record { met = refl; found = refl; trails = refl; turn = λ words. refl }
+gen_is : IsAlone gen_wants (shape_of_wants gen_wants)
+gen_is = record { simple = refl; shape = refl; bare = refl; trails = refl }
 
-vrun_is : IsNamed (codes "vrun") (shape_named (codes "vrun"))
-unfolding clap_on_literals
-vrun_is = record { met = refl; found = refl; trails = refl; turn = λ words. refl }
+run_is : IsAlone run_wants (shape_of_wants run_wants)
+run_is = record { simple = refl; shape = refl; bare = refl; trails = refl }
 
-measure_is : IsNamed (codes "measure") (shape_named (codes "measure"))
-unfolding clap_on_literals
-measure_is = record { met = refl; found = refl; trails = refl; turn = λ words. refl }
+measure_is : IsAlone measure_wants (shape_of_wants measure_wants)
+measure_is = record { simple = refl; shape = refl; bare = refl; trails = refl }
 
-convert_is : IsNamed (codes "convert") (shape_named (codes "convert"))
-unfolding clap_on_literals
-convert_is = record { met = refl; found = refl; trails = refl; turn = λ words. refl }
+convert_is : IsAlone convert_wants (shape_of_wants convert_wants)
+convert_is = record { simple = refl; shape = refl; bare = refl; trails = refl }
 
 -- ---- the words of each command
 
--- `clap` takes the words, and what it finds is the split
-pub record IsRead (words : List Text) (split : Split) : Type 0 where
-  pub taken : takes whole_app words ≡ true
-  pub found : split_found (subcommand_of whole_app words) ≡ Some split
+flat_read : (words : List Text) → is_some (flat_split words) ≡ true → list_any has_dash words ≡ false
+    → IsRead flat_wants flat_found words (flat_split words)
+flat_read (a ∷ b ∷ c ∷ []) known plain = read_by _ _ flat_is _ _ _ plain refl (refl, (refl, (refl, tt))) refl
+flat_read _ known plain = absurd (true≢false (sym known))
 
-read_by : (name : Text) (s : Shape) (is : IsNamed name s) (words : List Text) (split : Split) → list_any has_dash words ≡ false
-    → ends_well name s is words (placed_pass s start words) (fold (walk_behind s.rules) start words) ≡ true
-    → split_found (Some (s.name, finished s.rules (fold (walk_behind s.rules) start words).held)) ≡ Some split
-    → IsRead (name ∷ words) split
-read_by name s is words split plain ends found = record {
-  taken = taken_behind name s is words (level_behind name s is words plain ∙ ends);
-  found = ap split_found (rows_behind name s is words plain) ∙ found;
-}
+gen_read : (words : List Text) → is_some (gen_split words) ≡ true → list_any has_dash words ≡ false
+    → IsRead gen_wants gen_found words (gen_split words)
+gen_read (a ∷ []) known plain = read_by _ _ gen_is _ _ _ plain refl (refl, tt) refl
+gen_read _ known plain = absurd (true≢false (sym known))
 
-pub flat_read : (a b c : Text) → list_any has_dash (a ∷ b ∷ c ∷ []) ≡ false
-    → IsRead (codes "flat" ∷ a ∷ b ∷ c ∷ []) (Flat (record { file = a; wanted = b; events = c }))
-unfolding clap_on_literals split_found
-flat_read a b c plain = read_by _ _ flat_is _ _ plain refl refl
+run_read : (kind : DiskKind) (words : List Text) → is_some (run_split kind words) ≡ true → list_any has_dash words ≡ false
+    → IsRead run_wants (run_found kind) words (run_split kind words)
+run_read kind (a ∷ b ∷ c ∷ d ∷ e ∷ f ∷ []) known plain = read_by _ _ run_is _ _ _ plain refl (refl, (refl, (refl, (refl, (refl, (refl, tt)))))) refl
+run_read kind _ known plain = absurd (true≢false (sym known))
 
-pub gen_read : (a : Text) → list_any has_dash (a ∷ []) ≡ false → IsRead (codes "gen" ∷ a ∷ []) (Gen a)
-unfolding clap_on_literals split_found
-gen_read a plain = read_by _ _ gen_is _ _ plain refl refl
-
-pub run_read : (a b c d e f : Text) → list_any has_dash (a ∷ b ∷ c ∷ d ∷ e ∷ f ∷ []) ≡ false
-    → IsRead (codes "run" ∷ a ∷ b ∷ c ∷ d ∷ e ∷ f ∷ [])
-    (Run (record { kind = DiskKind.Block; image = a; policy = b; disk = c; script = d; events = e; save = f }))
-unfolding clap_on_literals split_found
-run_read a b c d e f plain = read_by _ _ run_is _ _ plain refl refl
-
-pub vrun_read : (a b c d e f : Text) → list_any has_dash (a ∷ b ∷ c ∷ d ∷ e ∷ f ∷ []) ≡ false
-    → IsRead (codes "vrun" ∷ a ∷ b ∷ c ∷ d ∷ e ∷ f ∷ [])
-    (Run (record { kind = DiskKind.Virtio; image = a; policy = b; disk = c; script = d; events = e; save = f }))
-unfolding clap_on_literals split_found
-vrun_read a b c d e f plain = read_by _ _ vrun_is _ _ plain refl refl
-
-pub convert_read : (a b c : Text) → list_any has_dash (a ∷ b ∷ c ∷ []) ≡ false
-    → IsRead (codes "convert" ∷ a ∷ b ∷ c ∷ []) (Convert (record { kernel = a; given = b; out = c }))
-unfolding clap_on_literals split_found
-convert_read a b c plain = read_by _ _ convert_is _ _ plain refl refl
+convert_read : (words : List Text) → is_some (convert_split words) ≡ true → list_any has_dash words ≡ false
+    → IsRead convert_wants convert_found words (convert_split words)
+convert_read (a ∷ b ∷ c ∷ []) known plain = read_by _ _ convert_is _ _ _ plain refl (refl, (refl, (refl, tt))) refl
+convert_read _ known plain = absurd (true≢false (sym known))
 
 -- ---- any number of modules
 
 abbrev measure_shape : Shape
-measure_shape = shape_named (codes "measure")
+measure_shape = shape_of_wants measure_wants
 
-abbrev modules_rule : Rule
-modules_rule = unwrap_or (arg_by_index measure_shape.rules 7) (new_rule [])
-
-all_pass : (words : List Text) → list_all (value_passes modules_rule) words ≡ true
-all_pass [] = refl
-all_pass (word ∷ rest) = all_pass rest
-
-all_three : (x y z : Bool) → x ≡ true → y ≡ true → z ≡ true → (x && (y && z)) ≡ true
-all_three true true true ex ey ez = refl
-all_three true true false ex ey ez = ez
-all_three true false z ex ey ez = ey
-all_three false y z ex ey ez = ex
+abbrev modules_row : List Text → Row
+modules_row modules = record {
+  id = codes "MODULES";
+  values = modules;
+  count = None;
+  source = Some CommandLine;
+  reading = reading_of vp.String;
+}
 
 module _ (a b c d e f : Text) where
   -- behind the six words that are wanted
   abbrev six : Walk
   six = fold (walk_behind measure_shape.rules) start (a ∷ b ∷ c ∷ d ∷ e ∷ f ∷ [])
 
-  -- behind these modules
-  abbrev behind_modules : List Text → Walk
-  behind_modules seen = record six {
-    held = record (settled measure_shape.rules six.held) { pending = Some (codes "MODULES", seen) };
+  abbrev rows_with : List Text → List Row
+  rows_with modules = (settled measure_shape.rules six.held).rows ++ modules_row modules ∷ []
+
+  -- behind these modules and one more, which is pending
+  abbrev behind_modules : List Text → Text → Walk
+  behind_modules seen last = record six {
+    held = record { rows = rows_with seen; pending = Some (codes "MODULES", last ∷ []); skip = 0 };
     waiting = positional;
   }
 
-  more_modules : (seen words : List Text) → fold (walk_behind measure_shape.rules) (behind_modules seen) words ≡ behind_modules (seen ++ words)
-  more_modules seen [] = ap behind_modules (sym (append-nil seen))
-  more_modules seen (word ∷ rest) = more_modules (seen ++ word ∷ []) rest ∙ ap behind_modules (append_assoc seen (word ∷ []) rest)
+  abbrev end_of_modules : List Text → Text → List Text → Walk
+  end_of_modules seen last words = fold (walk_behind measure_shape.rules) (behind_modules seen last) words
 
-  more_pass : (seen words : List Text) → placed_pass measure_shape (behind_modules seen) words ≡ true
-  more_pass seen [] = refl
-  more_pass seen (word ∷ rest) = more_pass (seen ++ word ∷ []) rest
+  ends : (seen : List Text) (last : Text) (words : List Text)
+      → ends_well measure_wants measure_shape measure_is [] (placed_pass measure_shape (behind_modules seen last) words) (end_of_modules seen last words) ≡ true
+  ends seen last [] = refl
+  ends seen last (word ∷ rest) = ends (seen ++ last ∷ []) word rest
 
-  abbrev split : List Text → Split
-  split modules = Measure (record { out = a; kernel = b; ram = c; harts = d; entries = e; init = f; modules = modules })
+  rows : (seen : List Text) (last : Text) (words : List Text)
+      → finished measure_shape.rules (end_of_modules seen last words).held ≡ rows_with (seen ++ last ∷ words)
+  rows seen last [] = refl
+  rows seen last (word ∷ rest) = rows (seen ++ last ∷ []) word rest ∙ ap rows_with (append_assoc seen (last ∷ []) (word ∷ rest))
 
-  settles_well : (first : Text) (words : List Text) → length (first ∷ words) ≤ usize_max
-      → settle_passes measure_shape.rules measure_shape.args_override_self (behind_modules (first ∷ words)).held ≡ true
-  settles_well first words short = all_three (nat_le 0 (length (first ∷ words))) (nat_le (length (first ∷ words)) usize_max) (list_all (value_passes modules_rule) (first ∷ words))
-      (le-leb 0 (length (first ∷ words)) (omega arith)) (le-leb (length (first ∷ words)) usize_max short) (all_pass (first ∷ words))
+  modules_read : (modules : List Text) → list_any has_dash (a ∷ b ∷ c ∷ d ∷ e ∷ f ∷ modules) ≡ false
+      → IsRead measure_wants measure_found (a ∷ b ∷ c ∷ d ∷ e ∷ f ∷ modules) (measure_split (a ∷ b ∷ c ∷ d ∷ e ∷ f ∷ modules))
+  modules_read [] plain = read_by _ _ measure_is _ _ _ plain refl (refl, (refl, (refl, (refl, (refl, (refl, tt)))))) refl
+  modules_read (first ∷ []) plain = read_by _ _ measure_is _ _ _ plain refl (refl, (refl, (refl, (refl, (refl, (refl, tt)))))) refl
+  modules_read (first ∷ second ∷ words) plain =
+      let found = rows (first ∷ []) second words in
+      read_by _ _ measure_is _ _ _ plain (ends (first ∷ []) second words)
+      (subst (HasWords measure_wants) (sym found) (refl, (refl, (refl, (refl, (refl, (refl, tt)))))))
+      (ap (λ (r : List Row). Some (measure_found r)) (sym found))
 
-  end_well : (first : Text) (words : List Text) → length (first ∷ words) ≤ usize_max
-      → ends_well (codes "measure") measure_shape measure_is [] true (behind_modules (first ∷ words)) ≡ true
-  end_well first words short = all_three true (settle_passes measure_shape.rules measure_shape.args_override_self (behind_modules (first ∷ words)).held) true
-      refl (settles_well first words short) refl
+measure_read : (words : List Text) → is_some (measure_split words) ≡ true → list_any has_dash words ≡ false
+    → IsRead measure_wants measure_found words (measure_split words)
+measure_read (a ∷ b ∷ c ∷ d ∷ e ∷ f ∷ modules) known plain = modules_read a b c d e f modules plain
+measure_read _ known plain = absurd (true≢false (sym known))
 
-  pub measure_read : (modules : List Text) → length modules ≤ usize_max → list_any has_dash (a ∷ b ∷ c ∷ d ∷ e ∷ f ∷ modules) ≡ false
-      → IsRead (codes "measure" ∷ a ∷ b ∷ c ∷ d ∷ e ∷ f ∷ modules) (split modules)
-  unfolding clap_on_literals split_found
-  measure_read [] short plain = read_by _ _ measure_is _ _ plain refl refl
-  measure_read (first ∷ words) short plain = read_by _ _ measure_is _ _ plain
-      (ap₂ (ends_well (codes "measure") measure_shape measure_is []) (more_pass (first ∷ []) words) (more_modules (first ∷ []) words) ∙ end_well first words short)
-      (ap (λ (w : Walk). split_found (Some (codes "measure", finished measure_shape.rules w.held))) (more_modules (first ∷ []) words))
+-- ---- by the name of the command
+
+pub words_read : (name : CommandName) (words : List Text) → is_some (split_as name words) ≡ true → list_any has_dash words ≡ false
+    → IsRead (wants_of name) (found_as name) words (split_as name words)
+words_read command.Flat words known plain = flat_read words known plain
+words_read command.Generated words known plain = gen_read words known plain
+words_read (command.Run kind) words known plain = run_read kind words known plain
+words_read command.Measure words known plain = measure_read words known plain
+words_read command.Convert words known plain = convert_read words known plain

@@ -1,151 +1,142 @@
 -- The commands as `clap` is told them, and the words that it gives back.
-use Rattle.std.specs.Prelude.{true, List, [], ◌∷◌, fold, Option, Some, None, codes, if◌then◌else◌, option_map, option_and_then, unwrap_or}
+use Rattle.std.specs.Prelude.{IsTrue, ⊤, true, List, [], ◌∷◌, fold, Option, Some, None, codes, is_some, if◌then◌else◌, unwrap_or}
 use Rattle.std.specs.Str.{bytes_eq}
-use Rattle.clap.specs.Words.{App, Row, Rule, Text, new_app, new_rule, with_rule, with_subcommand, first_of, all_of}
+use Rattle.clap.specs.Words.{App, Row, Rule, Text, new_app, new_rule, with_rule, first_of, all_of}
 use Rattle.clap.specs.Simple.{on_top}
-use Rattle.clap.specs.Lexer.{usize_max}
 use Rattle.clap.specs.declared.builder.ArgAction.TheVariants.{Set, Append}
 use Rattle.command_words.specs.declared.command.DiskKind.{DiskKind}
-use Rattle.command_words.specs.Commands.{Split, Flat, Gen, Run, Measure, Convert}
+use Rattle.command_words.specs.declared.name.CommandName.{CommandName}
+use Rattle.command_words.specs.declared.name.CommandName.TheVariants as command
+use Rattle.command_words.specs.declared.commands.Argument.{Argument}
+use Rattle.command_words.specs.declared.commands.Argument.TheVariants as argument
+use Rattle.command_words.specs.Commands.{Split, Flat, Gen, Run, Measure, Convert, flat_split, gen_split, run_split, measure_split, convert_split}
 
 -- ---- the commands
 
--- a word that the command wants
-abbrev pub wanted_rule : Text → Rule
-wanted_rule name = record (new_rule name) { required = true; action = Some Set }
+abbrev pub name_of : Text → Option CommandName
+name_of name =
+    if bytes_eq name (codes "flat") then Some command.Flat
+    else if bytes_eq name (codes "gen") then Some command.Generated
+    else if bytes_eq name (codes "run") then Some (command.Run DiskKind.Block)
+    else if bytes_eq name (codes "vrun") then Some (command.Run DiskKind.Virtio)
+    else if bytes_eq name (codes "measure") then Some command.Measure
+    else if bytes_eq name (codes "convert") then Some command.Convert
+    else None
 
--- any number of words, none too
-abbrev pub list_rule : Text → Rule
-list_rule name = record (new_rule name) {
-  action = Some Append;
-  range = Some (record { start_inclusive = 0; end_inclusive = usize_max });
-}
+-- the words behind the name of the command
+abbrev pub split_as : CommandName → List Text → Option Split
+split_as command.Flat words = flat_split words
+split_as command.Generated words = gen_split words
+split_as (command.Run kind) words = run_split kind words
+split_as command.Measure words = measure_split words
+split_as command.Convert words = convert_split words
 
-abbrev pub with_wanted : App → Text → App
-with_wanted app name = with_rule app (wanted_rule name)
+-- what a command has under a name
+pub data Want : Type 0 where
+  -- one word
+  One : Text → Want
+  -- any number of words, none too
+  Any : Text → Want
 
--- a command that wants a word under each of the names
-abbrev pub app_of_names : Text → List Text → App
-app_of_names name names = fold with_wanted (new_app name) names
+abbrev pub want_of : Argument → Want
+want_of (argument.One name) = One name.now
+want_of (argument.Any name) = Any name.now
 
-abbrev pub flat_names : List Text
-flat_names = codes "FILE" ∷ codes "MEASURE" ∷ codes "EVENTS" ∷ []
+abbrev pub flat_wants : List Want
+flat_wants = One (codes "FILE") ∷ One (codes "MEASURE") ∷ One (codes "EVENTS") ∷ []
 
-abbrev pub gen_names : List Text
-gen_names = codes "N" ∷ []
+abbrev pub gen_wants : List Want
+gen_wants = One (codes "N") ∷ []
 
-abbrev pub run_names : List Text
-run_names = codes "IMAGE" ∷ codes "POLICY" ∷ codes "DISK" ∷ codes "SCRIPT" ∷ codes "EVENTS" ∷ codes "SAVE" ∷ []
+abbrev pub run_wants : List Want
+run_wants = One (codes "IMAGE") ∷ One (codes "POLICY") ∷ One (codes "DISK") ∷ One (codes "SCRIPT") ∷ One (codes "EVENTS") ∷ One (codes "SAVE") ∷ []
 
-abbrev pub measure_names : List Text
-measure_names = codes "OUT" ∷ codes "KERNEL" ∷ codes "RAM" ∷ codes "HARTS" ∷ codes "ENTRIES" ∷ codes "INIT" ∷ []
+abbrev pub measure_wants : List Want
+measure_wants =
+    One (codes "OUT") ∷ One (codes "KERNEL") ∷ One (codes "RAM") ∷ One (codes "HARTS") ∷ One (codes "ENTRIES") ∷ One (codes "INIT") ∷ Any (codes "MODULES") ∷ []
 
-abbrev pub convert_names : List Text
-convert_names = codes "KERNEL" ∷ codes "IN" ∷ codes "OUT" ∷ []
+abbrev pub convert_wants : List Want
+convert_wants = One (codes "KERNEL") ∷ One (codes "IN") ∷ One (codes "OUT") ∷ []
 
-abbrev pub flat_app : App
-flat_app = app_of_names (codes "flat") flat_names
+abbrev pub wants_of : CommandName → List Want
+wants_of command.Flat = flat_wants
+wants_of command.Generated = gen_wants
+wants_of (command.Run kind) = run_wants
+wants_of command.Measure = measure_wants
+wants_of command.Convert = convert_wants
 
-abbrev pub gen_app : App
-gen_app = app_of_names (codes "gen") gen_names
+-- ---- as `clap` is told them
 
-abbrev pub run_app : App
-run_app = app_of_names (codes "run") run_names
+abbrev pub rule_of_want : Want → Rule
+rule_of_want (One name) = record (new_rule name) { required = true; action = Some Set }
+rule_of_want (Any name) = record (new_rule name) { action = Some Append }
 
-abbrev pub vrun_app : App
-vrun_app = app_of_names (codes "vrun") run_names
+abbrev pub with_want : App → Want → App
+with_want app want = with_rule app (rule_of_want want)
 
-abbrev pub measure_app : App
-measure_app = with_rule (app_of_names (codes "measure") measure_names) (list_rule (codes "MODULES"))
-
-abbrev pub convert_app : App
-convert_app = app_of_names (codes "convert") convert_names
-
--- the words begin with the name of a command, and nothing asks for help
+-- the words stand behind the name of the command, and nothing asks for help
 abbrev pub bare_app : App
-bare_app = on_top (λ s. record s {
-  no_binary_name = true;
-  disable_help_flag = true;
-  disable_help_subcommand = true;
-  subcommand_required = true;
-}) (new_app (codes "secvisor"))
+bare_app = on_top (λ s. record s { no_binary_name = true; disable_help_flag = true }) (new_app (codes "secvisor"))
 
-abbrev pub whole_app : App
-whole_app =
-    with_subcommand (with_subcommand (with_subcommand (with_subcommand (with_subcommand (with_subcommand bare_app flat_app.top) gen_app.top)
-    run_app.top) vrun_app.top) measure_app.top) convert_app.top
+abbrev pub app_of_wants : List Want → App
+app_of_wants wants = fold with_want bare_app wants
 
 -- ---- the words under their names
 
-abbrev pub flat_found : List Row → Option Split
-flat_found rows = option_and_then (λ file. option_and_then (λ wanted. option_map (λ events.
-    Flat (record { file = file; wanted = wanted; events = events }))
-    (first_of (codes "EVENTS") rows))
-    (first_of (codes "MEASURE") rows))
-    (first_of (codes "FILE") rows)
+-- each name of one word has it
+abbrev pub HasWords : List Want → List Row → Type 0
+HasWords [] rows = ⊤
+HasWords (One name ∷ rest) rows = IsTrue (is_some (first_of name rows)) × HasWords rest rows
+HasWords (Any name ∷ rest) rows = HasWords rest rows
 
-abbrev pub gen_found : List Row → Option Split
-gen_found rows = option_map Gen (first_of (codes "N") rows)
+abbrev pub word_of : Text → List Row → Text
+word_of name rows = unwrap_or (first_of name rows) []
 
-abbrev pub run_found : DiskKind → List Row → Option Split
-run_found kind rows = option_and_then (λ image. option_and_then (λ policy. option_and_then (λ disk. option_and_then (λ script.
-    option_and_then (λ events. option_map (λ save. Run (record {
-      kind = kind;
-      image = image;
-      policy = policy;
-      disk = disk;
-      script = script;
-      events = events;
-      save = save;
-    }))
-    (first_of (codes "SAVE") rows))
-    (first_of (codes "EVENTS") rows))
-    (first_of (codes "SCRIPT") rows))
-    (first_of (codes "DISK") rows))
-    (first_of (codes "POLICY") rows))
-    (first_of (codes "IMAGE") rows)
+abbrev pub flat_found : List Row → Split
+flat_found rows = Flat (record {
+  file = word_of (codes "FILE") rows;
+  wanted = word_of (codes "MEASURE") rows;
+  events = word_of (codes "EVENTS") rows;
+})
+
+abbrev pub gen_found : List Row → Split
+gen_found rows = Gen (word_of (codes "N") rows)
+
+abbrev pub run_found : DiskKind → List Row → Split
+run_found kind rows = Run (record {
+  kind = kind;
+  image = word_of (codes "IMAGE") rows;
+  policy = word_of (codes "POLICY") rows;
+  disk = word_of (codes "DISK") rows;
+  script = word_of (codes "SCRIPT") rows;
+  events = word_of (codes "EVENTS") rows;
+  save = word_of (codes "SAVE") rows;
+})
 
 abbrev pub modules_found : List Row → List Text
 modules_found rows = unwrap_or (all_of (codes "MODULES") rows) []
 
-abbrev pub measure_around : List Row → List Text → Option Split
-measure_around rows modules = option_and_then (λ out. option_and_then (λ kernel. option_and_then (λ ram. option_and_then (λ harts.
-    option_and_then (λ entries. option_map (λ init. Measure (record {
-      out = out;
-      kernel = kernel;
-      ram = ram;
-      harts = harts;
-      entries = entries;
-      init = init;
-      modules = modules;
-    }))
-    (first_of (codes "INIT") rows))
-    (first_of (codes "ENTRIES") rows))
-    (first_of (codes "HARTS") rows))
-    (first_of (codes "RAM") rows))
-    (first_of (codes "KERNEL") rows))
-    (first_of (codes "OUT") rows)
+abbrev pub measure_found : List Row → Split
+measure_found rows = Measure (record {
+  out = word_of (codes "OUT") rows;
+  kernel = word_of (codes "KERNEL") rows;
+  ram = word_of (codes "RAM") rows;
+  harts = word_of (codes "HARTS") rows;
+  entries = word_of (codes "ENTRIES") rows;
+  init = word_of (codes "INIT") rows;
+  modules = modules_found rows;
+})
 
-abbrev pub measure_found : List Row → Option Split
-measure_found rows = measure_around rows (modules_found rows)
+abbrev pub convert_found : List Row → Split
+convert_found rows = Convert (record {
+  kernel = word_of (codes "KERNEL") rows;
+  given = word_of (codes "IN") rows;
+  out = word_of (codes "OUT") rows;
+})
 
-abbrev pub convert_found : List Row → Option Split
-convert_found rows = option_and_then (λ kernel. option_and_then (λ given. option_map (λ out.
-    Convert (record { kernel = kernel; given = given; out = out }))
-    (first_of (codes "OUT") rows))
-    (first_of (codes "IN") rows))
-    (first_of (codes "KERNEL") rows)
-
-abbrev pub named_found : Text × List Row → Option Split
-named_found found =
-    if bytes_eq found.0 (codes "flat") then flat_found found.1
-    else if bytes_eq found.0 (codes "gen") then gen_found found.1
-    else if bytes_eq found.0 (codes "run") then run_found DiskKind.Block found.1
-    else if bytes_eq found.0 (codes "vrun") then run_found DiskKind.Virtio found.1
-    else if bytes_eq found.0 (codes "measure") then measure_found found.1
-    else if bytes_eq found.0 (codes "convert") then convert_found found.1
-    else None
-
--- the words of the command that was met
-unfoldable pub split_found : Option (Text × List Row) → Option Split
-split_found found = option_and_then named_found found
+abbrev pub found_as : CommandName → List Row → Split
+found_as command.Flat rows = flat_found rows
+found_as command.Generated rows = gen_found rows
+found_as (command.Run kind) rows = run_found kind rows
+found_as command.Measure rows = measure_found rows
+found_as command.Convert rows = convert_found rows

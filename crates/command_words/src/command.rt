@@ -1,7 +1,7 @@
 // The words of a command by their names.
 
 /// Which block device a machine has.
-#[derive(Clone, Copy, PartialEq, Eq, Drop)]
+#[derive(Clone, Copy, Drop)]
 pub enum DiskKind {
     /// The one of five registers.
     Block,

@@ -5,6 +5,7 @@ mod command;
 mod commands;
 mod dash;
 mod found;
+mod name;
 mod reading;
 
 pub use command::{CommandWords, ConvertWords, DiskKind, FlatWords, MeasureWords, RunWords};
