@@ -1,3 +1,4 @@
 pub mod ReadLists
 pub mod ReadRegisters
+pub mod ReadRows
 pub mod WholeRead

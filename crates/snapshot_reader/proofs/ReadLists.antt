@@ -20,7 +20,7 @@ behind front x = Ok (front ++ x.0, x.1)
 abbrev pub with_front : {A : Type 0} → List A → Taken (List A) → Taken (List A)
 with_front front read = read >>= behind front
 
-regroup : {A : Type 0} (front : List A) (a : A) (read : Taken (List A)) → with_front front (read >>= put_first a) ≡ with_front (front ++ a ∷ []) read
+pub regroup : {A : Type 0} (front : List A) (a : A) (read : Taken (List A)) → with_front front (read >>= put_first a) ≡ with_front (front ++ a ∷ []) read
 regroup {A = A} front a (Ok x) = ap (λ (values : List A). values_and_rest values x.1) (sym (append_assoc front (a ∷ []) x.0))
 regroup front a (Err e) = refl
 

@@ -4,18 +4,16 @@ ghost use Rattle.std.specs.Prelude.{◌≡◌, ◌<◌, ◌==◌, ◌^◌};
 ghost use Rattle.snapshot_reader.specs.Reading.{Gives};
 ghost use Rattle.snapshot_form.specs.DeviceForms.{block, busy, goes_with, has_beats, holds_transfer, standing_status, status_of, transfer};
 
-use crate::values::{in_range, read_number};
+use crate::row::{Range, read_row};
+use crate::values::{read_at_most, read_number};
 use snapshot_form::SnapRefusal;
 use sv_types::{BEAT_BYTES, BlockCommand, BlockState, BlockStatus, MOST_DISK_BYTES, SECTOR_BYTES};
 
-#[tactic(auto, unfolding(snapshot_form::specs::DeviceForms::block))]
 pub(crate) fn read_block(bytes: &[u8]) -> Result<(BlockState, &[u8]), SnapRefusal>
     ensures { Gives (λ x. (x.0, x.1.now)) result (block.taken bytes.now) }
 {
-    let (sector, rest) = read_number(bytes)?;
-    let (gpa, rest) = read_number(rest)?;
-    let (count, rest) = read_number(rest)?;
-    in_range(count < 1 << 32)?;
+    let ranges = [Range::Any, Range::Any, Range::Below(1 << 32)];
+    let ([sector, gpa, count], rest) = read_row(bytes, ranges)?;
     let (status, rest) = read_standing(rest, gpa, count)?;
     Ok((
         BlockState {
@@ -72,12 +70,16 @@ fn read_transfer(bytes: &[u8], gpa: u64, count: u64) -> Result<(Transfer, &[u8])
     requires { count < 2 ^ 32 }
     ensures { Gives (λ x. ((x.0.command, (x.0.status, x.0.done)), x.1.now)) result ((transfer gpa count).taken bytes.now) }
 {
-    let (command, rest) = read_number(bytes)?;
-    in_range(command <= u64::from(BlockCommand::MemoryToDisk.number()))?;
+    let most = u64::from(BlockCommand::MemoryToDisk.number());
+    let (command, rest) = read_at_most(bytes, most)?;
     let (status, rest) = read_number(rest)?;
-    in_range(goes_with(gpa, count, command, status))?;
+    if !goes_with(gpa, count, command, status) {
+        return Err(SnapRefusal::OutOfRange);
+    }
     let (done, rest) = read_number(rest)?;
-    in_range(has_beats(count, status, done))?;
+    if !has_beats(count, status, done) {
+        return Err(SnapRefusal::OutOfRange);
+    }
     Ok((
         Transfer {
             command,

@@ -1,13 +1,14 @@
 // The bytes of the devices: the console's input, the block device and its disk.
 
 ghost use Rattle.sv_types.specs.declared.port.PortState.{PortState};
+ghost use Rattle.snapshot_form.specs.Forms.{plain};
 ghost use Rattle.snapshot_form.specs.DeviceForms.{console, devices, disk, port};
 ghost use Rattle.snapshot_reader.specs.Reading.{Gives, Reads};
 ghost use Rattle.snapshot_reader.specs.Views.{devices_parts};
 
 use crate::block::{holds_transfer, read_block};
 use crate::read_error::ReadError;
-use crate::values::{in_range, read_number, read_plain};
+use crate::values::{read_at_most, read_number, read_plain};
 use snapshot_form::SnapRefusal;
 use std::alloc::Global;
 use sv_types::{BlockState, MOST_QUEUED};
@@ -50,10 +51,8 @@ fn read_port(bytes: &[u8]) -> Result<(BlockState, &[u8]), SnapRefusal>
 fn read_console(alloc: Global, bytes: &[u8]) -> Result<(Vec<u8>, &[u8]), ReadError>
     ensures { Reads (λ x. (x.0.items, x.1.now)) result (console.taken bytes.now) }
 {
-    let (count, rest) = read_number(bytes)?;
-    in_range(count <= MOST_QUEUED as u64)?;
-    let (waiting, rest) = read_plain(rest, count)?;
-    Ok((waiting.to_vec(alloc)?, rest))
+    let (count, rest) = read_at_most(bytes, MOST_QUEUED as u64)?;
+    read_bytes(alloc, rest, count)
 }
 
 #[tactic(auto, unfolding(snapshot_form::specs::DeviceForms::disk))]
@@ -65,7 +64,20 @@ fn read_disk<'a>(
     ensures { Reads (λ x. (x.0.items, x.1.now)) result ((disk block.now).taken bytes.now) }
 {
     let (size, rest) = read_number(bytes)?;
-    in_range(holds_transfer(block, size))?;
-    let (content, rest) = read_plain(rest, size)?;
+    if !holds_transfer(block, size) {
+        return Err(ReadError::Refused(SnapRefusal::OutOfRange));
+    }
+    read_bytes(alloc, rest, size)
+}
+
+/// So many bytes as they are.
+pub(crate) fn read_bytes(
+    alloc: Global,
+    bytes: &[u8],
+    count: u64,
+) -> Result<(Vec<u8>, &[u8]), ReadError>
+    ensures { Reads (λ x. (x.0.items, x.1.now)) result ((plain count).taken bytes.now) }
+{
+    let (content, rest) = read_plain(bytes, count)?;
     Ok((content.to_vec(alloc)?, rest))
 }

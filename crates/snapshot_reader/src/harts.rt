@@ -6,7 +6,7 @@ ghost use Rattle.snapshot_reader.specs.Reading.{Gives, Reads};
 
 use crate::read_error::ReadError;
 use crate::supervisor::read_status;
-use crate::values::{in_range, read_flag, read_number, read_pc, read_place};
+use crate::values::{read_flag, read_number, read_pc, read_place};
 use processor::{Mode, PAGE_BYTES, REGISTERS, RESERVED_BYTES, is_in_ram};
 use saved_machine::SavedHart;
 use snapshot_form::SnapRefusal;
@@ -42,21 +42,33 @@ fn read_hart(bytes: &[u8], ram_pages: u32) -> Result<(SavedHart, &[u8]), SnapRef
     let (status, rest) = read_status(rest)?;
     let (reservation, rest) = read_reservation(rest, ram_pages)?;
     let (timer, rest) = read_number(rest)?;
+    let [
+        sstatus,
+        sie,
+        stvec,
+        scounteren,
+        sscratch,
+        sepc,
+        scause,
+        stval,
+        sip,
+        satp,
+    ] = status;
     let hart = SavedHart {
         started,
         mode,
         pc,
         registers,
-        sstatus: status.sstatus,
-        sie: status.sie,
-        stvec: status.stvec,
-        scounteren: status.scounteren,
-        sscratch: status.sscratch,
-        sepc: status.trap.sepc,
-        scause: status.trap.scause,
-        stval: status.trap.stval,
-        sip: status.trap.sip,
-        satp: status.trap.satp,
+        sstatus,
+        sie,
+        stvec,
+        scounteren,
+        sscratch,
+        sepc,
+        scause,
+        stval,
+        sip,
+        satp,
         reservation,
         entry,
         timer,
@@ -71,9 +83,13 @@ fn read_side(bytes: &[u8]) -> Result<((bool, Mode, Option<u8>), &[u8]), SnapRefu
 {
     let (started, rest) = read_flag(bytes)?;
     let (mode, rest) = read_mode(rest)?;
-    in_range(may_have_mode(started, mode))?;
+    if !may_have_mode(started, mode) {
+        return Err(SnapRefusal::OutOfRange);
+    }
     let (entry, rest) = read_place(rest)?;
-    in_range(may_have_entry(started, mode, entry))?;
+    if !may_have_entry(started, mode, entry) {
+        return Err(SnapRefusal::OutOfRange);
+    }
     Ok(((started, mode, entry), rest))
 }
 
@@ -125,9 +141,11 @@ fn read_reservation(bytes: &[u8], ram_pages: u32) -> Result<(Option<u64>, &[u8])
 {
     let (n, rest) = read_number(bytes)?;
     let ram_bytes = PAGE_BYTES * u64::from(ram_pages);
-    in_range(n == 0 || (is_in_ram(n, 1, ram_bytes) && n % RESERVED_BYTES == 0))?;
     if n == 0 {
         return Ok((None, rest));
+    }
+    if !is_in_ram(n, 1, ram_bytes) || n % RESERVED_BYTES != 0 {
+        return Err(SnapRefusal::OutOfRange);
     }
     Ok((Some(n), rest))
 }

@@ -10,6 +10,7 @@ mod modules;
 mod notes;
 mod pages;
 mod read_error;
+mod row;
 mod supervisor;
 mod values;
 mod verdict;

@@ -7,11 +7,11 @@ ghost use Rattle.snapshot_form.specs.PageForms.{gate, is_above, last_id, load, l
 ghost use Rattle.snapshot_reader.specs.Reading.{Gives, Reads};
 ghost use Rattle.snapshot_reader.specs.Views.{gate_parts};
 
-use crate::pages::is_above;
 use crate::read_error::ReadError;
-use crate::values::{in_range, read_aligned, read_flag, read_number};
+use crate::row::{Range, read_row};
+use crate::values::{read_at_most, read_flag, read_number};
 use policy_limits::{MOST_MODULE_PAGES, MOST_MODULES};
-use processor::{Mode, PAGE_BYTES};
+use processor::Mode;
 use saved_machine::{SavedHart, SavedLoad};
 use snapshot_form::SnapRefusal;
 use std::alloc::Global;
@@ -51,8 +51,7 @@ pub(crate) fn read_gate<'a>(
 fn read_modules(alloc: Global, bytes: &[u8]) -> Result<(Vec<SavedModule>, &[u8]), ReadError>
     ensures { Reads (λ x. (x.0.items, x.1.now)) result (modules.taken bytes.now) }
 {
-    let (count, rest) = read_number(bytes)?;
-    in_range(count <= MOST_MODULES as u64)?;
+    let (count, rest) = read_at_most(bytes, MOST_MODULES as u64)?;
     read_loaded(alloc, rest, count)
 }
 
@@ -81,15 +80,16 @@ fn last_id(before: &[SavedModule]) -> Option<u64>
 }
 
 // A module whose id is above the last one.
-#[tactic(auto, unfolding(snapshot_form::specs::PageForms::module_within))]
 fn read_module(bytes: &[u8], last: Option<u64>) -> Result<(SavedModule, &[u8]), SnapRefusal>
     ensures { Gives (λ x. (x.0, x.1.now)) result ((module_within (is_above last)).taken bytes.now) }
 {
-    let (id, rest) = read_number(bytes)?;
-    in_range(is_above(last, id))?;
-    let (gpa, rest) = read_aligned(rest, PAGE_BYTES)?;
-    let (va, rest) = read_aligned(rest, PAGE_BYTES)?;
-    let (data_va, rest) = read_number(rest)?;
+    let ranges = [
+        Range::Above(last),
+        Range::PageStart,
+        Range::PageStart,
+        Range::Any,
+    ];
+    let ([id, gpa, va, data_va], rest) = read_row(bytes, ranges)?;
     Ok((
         SavedModule {
             id,
@@ -124,8 +124,7 @@ fn read_load<'a>(bytes: &'a [u8], harts: &[SavedHart]) -> Result<(SavedLoad, &'a
 {
     let (hart, rest) = read_loading_hart(bytes, harts)?;
     let (loaded, rest) = read_module(rest, None)?;
-    let (left, rest) = read_number(rest)?;
-    in_range(left <= u64::from(MOST_MODULE_PAGES))?;
+    let (left, rest) = read_at_most(rest, u64::from(MOST_MODULE_PAGES))?;
     Ok((
         SavedLoad {
             hart,
@@ -149,6 +148,8 @@ fn read_loading_hart<'a>(
         return Err(SnapRefusal::OutOfRange);
     }
     let hart = harts[n as usize];
-    in_range(hart.started && hart.mode == Mode::Kernel)?;
+    if !hart.started || hart.mode != Mode::Kernel {
+        return Err(SnapRefusal::OutOfRange);
+    }
     Ok((n as u8, rest))
 }

@@ -6,7 +6,8 @@ ghost use Rattle.snapshot_form.specs.JournalForms.{answer, code, codes_known, de
 ghost use Rattle.snapshot_reader.specs.Reading.{Gives, Reads};
 
 use crate::read_error::ReadError;
-use crate::values::{in_range, read_hart_number, read_number, read_pc};
+use crate::row::{Range, read_row};
+use crate::values::read_number;
 use snapshot_form::SnapRefusal;
 use snapshot_form::note_kind::{DEMOTE, DENIED, LOAD, RETIRE, UNLOAD};
 use std::alloc::Global;
@@ -23,7 +24,9 @@ pub(crate) fn read_notes(
     ensures { Reads (λ x. (x.0.items, x.1.now)) result ((notes harts all).taken bytes.now) }
 {
     let (count, rest) = read_number(bytes)?;
-    in_range(count == (MOST_NOTES as u64).min(all))?;
+    if count != (MOST_NOTES as u64).min(all) {
+        return Err(ReadError::Refused(SnapRefusal::OutOfRange));
+    }
     read_kept(alloc, rest, count, harts)
 }
 
@@ -50,7 +53,9 @@ fn read_note(bytes: &[u8], harts: u8) -> Result<(Note, &[u8]), SnapRefusal>
     ensures { Gives (λ x. (x.0, x.1.now)) result ((note harts).taken bytes.now) }
 {
     let (kind, rest) = read_number(bytes)?;
-    in_range(DEMOTE <= kind && kind <= RETIRE)?;
+    if kind < DEMOTE || RETIRE < kind {
+        return Err(SnapRefusal::OutOfRange);
+    }
     read_note_behind(rest, harts, kind)
 }
 
@@ -72,17 +77,19 @@ fn read_note_behind(bytes: &[u8], harts: u8, kind: u64) -> Result<(Note, &[u8]),
     }
 }
 
-#[tactic(auto, unfolding(snapshot_form::specs::JournalForms::demote))]
 fn read_demote(bytes: &[u8], harts: u8) -> Result<(Note, &[u8]), SnapRefusal>
     ensures { Gives (λ x. (x.0, x.1.now)) result ((demote harts).taken bytes.now) }
 {
-    let (hart, rest) = read_hart_number(bytes, harts)?;
-    let (turn, rest) = read_number(rest)?;
-    let (pc, rest) = read_pc(rest)?;
-    let (gpa, rest) = read_number(rest)?;
+    let ranges = [
+        Range::Below(u64::from(harts)),
+        Range::Any,
+        Range::InstructionPlace,
+        Range::Any,
+    ];
+    let ([hart, turn, pc, gpa], rest) = read_row(bytes, ranges)?;
     Ok((
         Note::Demote {
-            hart,
+            hart: hart as u8,
             turn,
             pc,
             gpa,
@@ -131,26 +138,30 @@ fn read_unload(bytes: &[u8], harts: u8) -> Result<(Note, &[u8]), SnapRefusal>
     ))
 }
 
-#[tactic(auto, unfolding(snapshot_form::specs::JournalForms::retire))]
 fn read_retire(bytes: &[u8], harts: u8) -> Result<(Note, &[u8]), SnapRefusal>
     ensures { Gives (λ x. (x.0, x.1.now)) result ((retire harts).taken bytes.now) }
 {
-    let (hart, rest) = read_hart_number(bytes, harts)?;
-    let (turn, rest) = read_number(rest)?;
+    let ranges = [Range::Below(u64::from(harts)), Range::Any];
+    let ([hart, turn], rest) = read_row(bytes, ranges)?;
     let (code, rest) = read_code(rest)?;
-    Ok((Note::Retire { hart, turn, code }, rest))
+    Ok((
+        Note::Retire {
+            hart: hart as u8,
+            turn,
+            code,
+        },
+        rest,
+    ))
 }
 
 // The answer to a load or an unload: hart, turn, module and code.
-#[tactic(auto, unfolding(snapshot_form::specs::JournalForms::answer))]
 fn read_answer(bytes: &[u8], harts: u8) -> Result<((u8, u64, u64, SbiCode), &[u8]), SnapRefusal>
     ensures { Gives (λ x. ((x.0.0, (x.0.1, (x.0.2, x.0.3))), x.1.now)) result ((answer harts).taken bytes.now) }
 {
-    let (hart, rest) = read_hart_number(bytes, harts)?;
-    let (turn, rest) = read_number(rest)?;
-    let (id, rest) = read_number(rest)?;
+    let ranges = [Range::Below(u64::from(harts)), Range::Any, Range::Any];
+    let ([hart, turn, id], rest) = read_row(bytes, ranges)?;
     let (code, rest) = read_code(rest)?;
-    Ok(((hart, turn, id, code), rest))
+    Ok(((hart as u8, turn, id, code), rest))
 }
 
 #[tactic(auto, unfolding(snapshot_form::specs::JournalForms::code))]

@@ -7,7 +7,7 @@ ghost use Rattle.snapshot_reader.specs.Reading.{Gives, Reads};
 ghost use Rattle.snapshot_reader.specs.Views.{pages_parts};
 
 use crate::read_error::ReadError;
-use crate::values::{in_range, read_byte, read_number};
+use crate::values::{read_at_most, read_byte, read_number};
 use snapshot_form::protection_number::{APPROVED, FREE, HELD};
 use snapshot_form::{SnapRefusal, TextPage};
 use std::alloc::Global;
@@ -71,8 +71,7 @@ fn read_text(
 ) -> Result<(Vec<TextPage>, &[u8]), ReadError>
     ensures { Reads (λ x. (x.0.items, x.1.now)) result ((text ram_pages).taken bytes.now) }
 {
-    let (count, rest) = read_number(bytes)?;
-    in_range(count <= u64::from(ram_pages))?;
+    let (count, rest) = read_at_most(bytes, u64::from(ram_pages))?;
     read_text_pages(alloc, rest, count, ram_pages)
 }
 
@@ -104,7 +103,9 @@ fn read_text_page<'a>(
     ensures { Gives (λ x. (x.0, x.1.now)) result ((text_page ram_pages before.now).taken bytes.now) }
 {
     let (page, rest) = read_number(bytes)?;
-    in_range(page < u64::from(ram_pages) && is_above(last_page(before), page))?;
+    if page >= u64::from(ram_pages) || !is_above(last_page(before), page) {
+        return Err(SnapRefusal::OutOfRange);
+    }
     let Some((digest, rest)) = rest.split_first_chunk::<DIGEST_BYTES>() else {
         return Err(SnapRefusal::OtherLength);
     };

@@ -1,11 +1,9 @@
 // A value at the front of some bytes, and the bytes behind it.
 
-ghost use Rattle.std.specs.Prelude.{◌≡◌, ◌<◌, Ok, Err, if◌then◌else◌};
+ghost use Rattle.std.specs.Prelude.{nat_le};
 ghost use Rattle.processor.specs.Bytes.{instruction_size};
-ghost use Rattle.snapshot_form.specs.Forms.{byte, number, plain};
+ghost use Rattle.snapshot_form.specs.Forms.{byte, number, plain, within};
 ghost use Rattle.snapshot_form.specs.HartForms.{multiple_of, flag, place};
-ghost use Rattle.snapshot_form.specs.JournalForms.{hart_number};
-ghost use Rattle.snapshot_form.specs.declared.refusal.SnapRefusal.TheVariants.{OutOfRange};
 ghost use Rattle.snapshot_reader.specs.Reading.{Gives};
 
 use policy_limits::MOST_ENTRIES;
@@ -45,43 +43,30 @@ pub(crate) fn read_plain(bytes: &[u8], count: u64) -> Result<(&[u8], &[u8]), Sna
     Ok(bytes.split_at(count as usize))
 }
 
-// A value is refused that isn't in its range.
-pub(crate) fn in_range(is: bool) -> Result<(), SnapRefusal>
-    ensures { result ≡ (if is then Ok tt else Err OutOfRange) }
+// A number that is no more than another.
+pub(crate) fn read_at_most(bytes: &[u8], most: u64) -> Result<(u64, &[u8]), SnapRefusal>
+    ensures { Gives (λ x. (x.0, x.1.now)) result ((within (λ n. nat_le n most) number).taken bytes.now) }
 {
-    if is {
-        Ok(())
-    } else {
-        Err(SnapRefusal::OutOfRange)
+    let (n, rest) = read_number(bytes)?;
+    if n > most {
+        return Err(SnapRefusal::OutOfRange);
     }
+    Ok((n, rest))
 }
 
 #[tactic(auto, unfolding(snapshot_form::specs::HartForms::flag))]
 pub(crate) fn read_flag(bytes: &[u8]) -> Result<(bool, &[u8]), SnapRefusal>
     ensures { Gives (λ x. (x.0, x.1.now)) result (flag.taken bytes.now) }
 {
-    let (n, rest) = read_number(bytes)?;
-    in_range(n <= 1)?;
+    let (n, rest) = read_at_most(bytes, 1)?;
     Ok((n == 1, rest))
-}
-
-// A multiple of a size.
-#[tactic(auto, unfolding(snapshot_form::specs::HartForms::multiple_of))]
-pub(crate) fn read_aligned(bytes: &[u8], size: u64) -> Result<(u64, &[u8]), SnapRefusal>
-    requires { 0 < size }
-    ensures { Gives (λ x. (x.0, x.1.now)) result ((multiple_of size).taken bytes.now) }
-{
-    let (n, rest) = read_number(bytes)?;
-    in_range(n % size == 0)?;
-    Ok((n, rest))
 }
 
 #[tactic(auto, unfolding(snapshot_form::specs::HartForms::place))]
 pub(crate) fn read_place(bytes: &[u8]) -> Result<(Option<u8>, &[u8]), SnapRefusal>
     ensures { Gives (λ x. (x.0, x.1.now)) result (place.taken bytes.now) }
 {
-    let (n, rest) = read_number(bytes)?;
-    in_range(n <= MOST_ENTRIES as u64)?;
+    let (n, rest) = read_at_most(bytes, MOST_ENTRIES as u64)?;
     if n == 0 {
         return Ok((None, rest));
     }
@@ -89,18 +74,13 @@ pub(crate) fn read_place(bytes: &[u8]) -> Result<(Option<u8>, &[u8]), SnapRefusa
 }
 
 // An instruction's address.
+#[tactic(auto, unfolding(snapshot_form::specs::HartForms::multiple_of))]
 pub(crate) fn read_pc(bytes: &[u8]) -> Result<(u64, &[u8]), SnapRefusal>
     ensures { Gives (λ x. (x.0, x.1.now)) result ((multiple_of instruction_size).taken bytes.now) }
 {
-    read_aligned(bytes, INSTRUCTION_BYTES)
-}
-
-// A hart that is there.
-#[tactic(auto, unfolding(snapshot_form::specs::JournalForms::hart_number))]
-pub(crate) fn read_hart_number(bytes: &[u8], harts: u8) -> Result<(u8, &[u8]), SnapRefusal>
-    ensures { Gives (λ x. (x.0, x.1.now)) result ((hart_number harts).taken bytes.now) }
-{
     let (n, rest) = read_number(bytes)?;
-    in_range(n < u64::from(harts))?;
-    Ok((n as u8, rest))
+    if n % INSTRUCTION_BYTES != 0 {
+        return Err(SnapRefusal::OutOfRange);
+    }
+    Ok((n, rest))
 }

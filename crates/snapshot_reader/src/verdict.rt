@@ -3,7 +3,8 @@
 ghost use Rattle.snapshot_form.specs.JournalForms.{stopped_entry, stopped_write, verdict, verdict_behind};
 ghost use Rattle.snapshot_reader.specs.Reading.{Gives};
 
-use crate::values::{in_range, read_hart_number, read_number, read_pc};
+use crate::row::{Range, read_row};
+use crate::values::read_at_most;
 use snapshot_form::SnapRefusal;
 use snapshot_form::verdict_kind::{RUNNING, SHUTDOWN, STOPPED_ENTRY, STOPPED_WRITE};
 use sv_types::{Rule, Verdict};
@@ -12,8 +13,7 @@ use sv_types::{Rule, Verdict};
 pub(crate) fn read_verdict(bytes: &[u8], harts: u8) -> Result<(Verdict, &[u8]), SnapRefusal>
     ensures { Gives (λ x. (x.0, x.1.now)) result ((verdict harts).taken bytes.now) }
 {
-    let (kind, rest) = read_number(bytes)?;
-    in_range(kind <= STOPPED_WRITE)?;
+    let (kind, rest) = read_at_most(bytes, STOPPED_WRITE)?;
     read_verdict_behind(rest, harts, kind)
 }
 
@@ -33,25 +33,33 @@ fn read_verdict_behind(bytes: &[u8], harts: u8, kind: u64) -> Result<(Verdict, &
     }
 }
 
-#[tactic(auto, unfolding(snapshot_form::specs::JournalForms::stopped_entry))]
 fn read_stopped_entry(bytes: &[u8], harts: u8) -> Result<(Verdict, &[u8]), SnapRefusal>
     ensures { Gives (λ x. (x.0, x.1.now)) result ((stopped_entry harts).taken bytes.now) }
 {
-    let (target, rest) = read_number(bytes)?;
-    let (hart, rest) = read_hart_number(rest, harts)?;
-    let (turn, rest) = read_number(rest)?;
-    let rule = Rule::Entry { target };
-    Ok((Verdict::Stopped { rule, hart, turn }, rest))
+    let ranges = [Range::Any, Range::Below(u64::from(harts)), Range::Any];
+    let ([target, hart, turn], rest) = read_row(bytes, ranges)?;
+    let stopped = Verdict::Stopped {
+        rule: Rule::Entry { target },
+        hart: hart as u8,
+        turn,
+    };
+    Ok((stopped, rest))
 }
 
-#[tactic(auto, unfolding(snapshot_form::specs::JournalForms::stopped_write))]
 fn read_stopped_write(bytes: &[u8], harts: u8) -> Result<(Verdict, &[u8]), SnapRefusal>
     ensures { Gives (λ x. (x.0, x.1.now)) result ((stopped_write harts).taken bytes.now) }
 {
-    let (pc, rest) = read_pc(bytes)?;
-    let (gpa, rest) = read_number(rest)?;
-    let (hart, rest) = read_hart_number(rest, harts)?;
-    let (turn, rest) = read_number(rest)?;
-    let rule = Rule::Write { pc, gpa };
-    Ok((Verdict::Stopped { rule, hart, turn }, rest))
+    let ranges = [
+        Range::InstructionPlace,
+        Range::Any,
+        Range::Below(u64::from(harts)),
+        Range::Any,
+    ];
+    let ([pc, gpa, hart, turn], rest) = read_row(bytes, ranges)?;
+    let stopped = Verdict::Stopped {
+        rule: Rule::Write { pc, gpa },
+        hart: hart as u8,
+        turn,
+    };
+    Ok((stopped, rest))
 }

@@ -1,20 +1,19 @@
 // The bytes of a whole snapshot.
 
-ghost use Rattle.std.specs.Prelude.{◌≡◌, ◌≤◌, ◌*◌, true, Ok, IfOk};
-ghost use Rattle.processor.specs.Bytes.{page_size};
+ghost use Rattle.std.specs.Prelude.{◌≡◌, ◌≤◌, true, Ok, IfOk};
 ghost use Rattle.sv_types.specs.Limits.{most_harts};
-ghost use Rattle.snapshot_form.specs.Forms.{plain};
-ghost use Rattle.snapshot_form.specs.Snapshots.{Contents, magic_form, body, contents, hart_count, header, magic, page_count, snapshot, snapshot_read, whole_of};
+ghost use Rattle.snapshot_form.specs.Snapshots.{Contents, magic_form, body, contents, header, magic, snapshot, snapshot_read, whole_of};
 ghost use Rattle.snapshot_reader.specs.Reading.{Gives, Reads};
+ghost use Rattle.snapshot_reader.specs.Rows.{header_numbers};
 ghost use Rattle.snapshot_reader.specs.Views.{body_parts, header_view};
 
-use crate::devices::{Devices, read_devices};
+use crate::devices::{Devices, read_bytes, read_devices};
 use crate::harts::read_harts;
 use crate::journal::{Recorded, read_journal};
 use crate::modules::{Gate, read_gate};
 use crate::pages::{Pages, read_pages};
 use crate::read_error::ReadError;
-use crate::values::{in_range, read_number, read_plain};
+use crate::row::{Range, read_row};
 use policy_limits::{FEWEST_RAM_PAGES, MOST_RAM_PAGES};
 use processor::PAGE_BYTES;
 use saved_machine::{Saved, SavedHart};
@@ -120,16 +119,25 @@ fn read_header(bytes: &[u8]) -> Result<(Header, &[u8]), SnapRefusal>
     ensures header { Gives (λ x. (header_view x.0, x.1.now)) result (header.taken bytes.now) }
 {
     let rest = read_magic(bytes)?;
-    let (events, rest) = read_number(rest)?;
-    in_range(events <= MOST_EVENTS)?;
-    let (harts, rest) = read_hart_count(rest)?;
-    let (ram_pages, rest) = read_page_count(rest)?;
-    let (time, rest) = read_number(rest)?;
+    read_header_numbers(rest)
+}
+
+fn read_header_numbers(bytes: &[u8]) -> Result<(Header, &[u8]), SnapRefusal>
+    ensures range { IfOk result (λ x. x.0.harts ≤ most_harts) }
+    ensures numbers { Gives (λ x. ((x.0.events, (x.0.harts, (x.0.ram_pages, x.0.time))), x.1.now)) result (header_numbers.taken bytes.now) }
+{
+    let ranges = [
+        Range::AtMost(MOST_EVENTS),
+        Range::Between(1, u64::from(MOST_HARTS)),
+        Range::Between(u64::from(FEWEST_RAM_PAGES), u64::from(MOST_RAM_PAGES)),
+        Range::Any,
+    ];
+    let ([events, harts, ram_pages, time], rest) = read_row(bytes, ranges)?;
     Ok((
         Header {
             events,
-            harts,
-            ram_pages,
+            harts: harts as u8,
+            ram_pages: ram_pages as u32,
             time,
         },
         rest,
@@ -147,23 +155,6 @@ fn read_magic(bytes: &[u8]) -> Result<&[u8], SnapRefusal>
         return Err(SnapRefusal::OtherBeginning);
     }
     Ok(rest)
-}
-
-fn read_hart_count(bytes: &[u8]) -> Result<(u8, &[u8]), SnapRefusal>
-    ensures range { IfOk result (λ x. x.0 ≤ most_harts) }
-    ensures count { Gives (λ x. (x.0, x.1.now)) result (hart_count.taken bytes.now) }
-{
-    let (n, rest) = read_number(bytes)?;
-    in_range(1 <= n && n <= u64::from(MOST_HARTS))?;
-    Ok((n as u8, rest))
-}
-
-fn read_page_count(bytes: &[u8]) -> Result<(u32, &[u8]), SnapRefusal>
-    ensures { Gives (λ x. (x.0, x.1.now)) result (page_count.taken bytes.now) }
-{
-    let (n, rest) = read_number(bytes)?;
-    in_range(u64::from(FEWEST_RAM_PAGES) <= n && n <= u64::from(MOST_RAM_PAGES))?;
-    Ok((n as u32, rest))
 }
 
 /// What stands behind the header.
@@ -187,7 +178,7 @@ fn read_body(alloc: Global, bytes: &[u8], header: Header) -> Result<(Body, &[u8]
     let (gate, rest) = read_gate(alloc, rest, &harts)?;
     let (devices, rest) = read_devices(alloc, rest)?;
     let (recorded, rest) = read_journal(alloc, rest, header.events, header.harts)?;
-    let (ram, rest) = read_ram(alloc, rest, header.ram_pages)?;
+    let (ram, rest) = read_bytes(alloc, rest, PAGE_BYTES * u64::from(header.ram_pages))?;
     Ok((
         Body {
             harts,
@@ -199,11 +190,4 @@ fn read_body(alloc: Global, bytes: &[u8], header: Header) -> Result<(Body, &[u8]
         },
         rest,
     ))
-}
-
-fn read_ram(alloc: Global, bytes: &[u8], ram_pages: u32) -> Result<(Vec<u8>, &[u8]), ReadError>
-    ensures { Reads (λ x. (x.0.items, x.1.now)) result ((plain (page_size * ram_pages)).taken bytes.now) }
-{
-    let (ram, rest) = read_plain(bytes, PAGE_BYTES * u64::from(ram_pages))?;
-    Ok((ram.to_vec(alloc)?, rest))
 }
