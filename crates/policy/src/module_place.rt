@@ -5,6 +5,7 @@ ghost use Rattle.sv_types.specs.Limits.{most_exports};
 
 use crate::first::{first_refused, refuses};
 use crate::modules::{MODULE_KEYS, each_module, key_measure, key_name, key_pages};
+use crate::place::list_key;
 use crate::refusal::PolicyRefusal;
 use crate::sites::{Bounds, each_site};
 use crate::values::{first_unknown, items, members, optional};
@@ -80,7 +81,7 @@ fn item_place(
             let key = key_place(alloc, exports, sites_before, table)?;
             Ok(Some(format!(in alloc; "key module[{i}].{key}")?))
         }
-        Err(_) => Ok(Some(format!(in alloc; "key module[{i}]")?)),
+        Err(_) => list_key(alloc, "module", Some(i)),
     }
 }
 

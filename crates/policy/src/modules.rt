@@ -63,7 +63,6 @@ fn unrepeated_module(
     Ok(candidate)
 }
 
-#[tactic(auto, unfolding(crate::specs::Text::module_of_members), using(crate::proofs::Judging::refused_on))]
 fn module_of_members(
     alloc: Global,
     exports: usize,
@@ -114,7 +113,6 @@ fn module(
     module_of_members(alloc, exports, before, sites_before, table)
 }
 
-#[tactic(auto, using(crate::proofs::Judging::refused_on))]
 pub(crate) fn each_module(
     alloc: Global,
     exports: usize,

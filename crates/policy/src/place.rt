@@ -11,6 +11,7 @@ use crate::values::{first_unknown, items, members, optional};
 use policy_limits::{MOST_ENTRIES, MOST_EXPORTS};
 use std::alloc::{AllocError, Global};
 use std::str;
+use toml::de::Error;
 use toml::{Table, Value};
 
 /// Where a text is refused, for a person: the line and column where it isn't TOML, and else the key, as
@@ -21,14 +22,17 @@ pub fn refused_place(alloc: Global, bytes: &[u8]) -> Result<Option<String>, Allo
     };
     match toml::table_from_str(alloc, text) {
         Ok(table) => table_place(alloc, &table),
-        Err(error) => {
-            if error.is_memory() {
-                return Err(AllocError);
-            }
-            let told = format!(in alloc; "{error}")?;
-            Ok(Some(told.as_str().trim_end().replace(alloc, "\n", ": ")?))
-        }
+        Err(error) => error_text(alloc, &error),
     }
+}
+
+// Why a text isn't TOML, in one line.
+fn error_text(alloc: Global, error: &Error) -> Result<Option<String>, AllocError> {
+    if error.is_memory() {
+        return Err(AllocError);
+    }
+    let told = format!(in alloc; "{error}")?;
+    Ok(Some(told.as_str().trim_end().replace(alloc, "\n", ": ")?))
 }
 
 fn table_place(alloc: Global, table: &Table) -> Result<Option<String>, AllocError> {
@@ -74,10 +78,14 @@ fn key(alloc: Global, key: &str) -> Result<Option<String>, AllocError> {
 }
 
 // A list, or one of its items.
-fn list_key(alloc: Global, key: &str, item: Option<usize>) -> Result<Option<String>, AllocError> {
+pub(crate) fn list_key(
+    alloc: Global,
+    list: &str,
+    item: Option<usize>,
+) -> Result<Option<String>, AllocError> {
     match item {
-        Some(i) => Ok(Some(format!(in alloc; "key {key}[{i}]")?)),
-        None => Ok(Some(format!(in alloc; "key {key}")?)),
+        Some(i) => Ok(Some(format!(in alloc; "key {list}[{i}]")?)),
+        None => key(alloc, list),
     }
 }
 

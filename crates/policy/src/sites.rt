@@ -39,10 +39,7 @@ fn kind(value: &Value) -> Result<RelocationKind, PolicyFault>
     ensures { result ≡ spec.kind_of (view value.now) }
 {
     let number = natural(value)?;
-    match RelocationKind::of(number) {
-        Some(kind) => Ok(kind),
-        None => Err(PolicyFault::BeyondLimit),
-    }
+    RelocationKind::of(number).ok_or(PolicyFault::BeyondLimit)
 }
 
 fn fitting_kind(kind: RelocationKind, offset: u32) -> Result<RelocationKind, PolicyFault>

@@ -122,7 +122,6 @@ fn read_behind(
     })
 }
 
-#[tactic(auto, unfolding(crate::specs::Text::rules_of_members), using(crate::proofs::Judging::refused_on))]
 fn read_table(alloc: Global, table: &Table) -> Result<Policy, PolicyRefusal>
     ensures ok { IfOk result (λ policy. spec.rules_of_members (table_view table.now) ≡ Ok (rules_of policy)) }
     ensures refused { IfErr result (Refuses (spec.rules_of_members (table_view table.now))) }

@@ -1,6 +1,6 @@
 // Values of a policy's table.
 
-ghost use Rattle.std.specs.Prelude.{◌≡◌, option_map, map};
+ghost use Rattle.std.specs.Prelude.{◌≡◌, is_some, option_map, map};
 ghost use Rattle.std.specs.List.{list_any};
 ghost use Rattle.std.specs.Str.{bytes_eq};
 ghost use Rattle.toml.specs.Data.{get_member};
@@ -24,28 +24,19 @@ pub fn optional<'a>(table: &'a Table, key: &str) -> Option<&'a Value>
 pub fn required_member<'a>(table: &'a Table, key: &str) -> Result<&'a Value, PolicyFault>
     ensures { judged_map (λ v. view v.now) result ≡ spec.required_member key.now (table_view table.now) }
 {
-    match optional(table, key) {
-        Some(value) => Ok(value),
-        None => Err(PolicyFault::MissingKey),
-    }
+    optional(table, key).ok_or(PolicyFault::MissingKey)
 }
 
 pub fn integer(value: &Value) -> Result<i64, PolicyFault>
     ensures { result ≡ spec.integer_of (view value.now) }
 {
-    match value.as_integer() {
-        Some(number) => Ok(number),
-        None => Err(PolicyFault::WrongKind),
-    }
+    value.as_integer().ok_or(PolicyFault::WrongKind)
 }
 
 fn text(value: &Value) -> Result<&str, PolicyFault>
     ensures { judged_map (λ t. t.now) result ≡ spec.text_of (view value.now) }
 {
-    match value.as_str() {
-        Some(text) => Ok(text),
-        None => Err(PolicyFault::WrongKind),
-    }
+    value.as_str().ok_or(PolicyFault::WrongKind)
 }
 
 pub fn items(value: &Value) -> Result<&[Value], PolicyFault>
@@ -60,10 +51,7 @@ pub fn items(value: &Value) -> Result<&[Value], PolicyFault>
 pub fn members(value: &Value) -> Result<&Table, PolicyFault>
     ensures { judged_map (λ m. table_view m.now) result ≡ spec.members_in (view value.now) }
 {
-    match value.as_table() {
-        Some(table) => Ok(table),
-        None => Err(PolicyFault::WrongKind),
-    }
+    value.as_table().ok_or(PolicyFault::WrongKind)
 }
 
 /// A number that is not negative.
@@ -81,20 +69,14 @@ pub fn name(value: &Value) -> Result<Name, PolicyFault>
     ensures { result ≡ spec.name_of (view value.now) }
 {
     let text = text(value)?;
-    match Name::new(text) {
-        Some(name) => Ok(name),
-        None => Err(PolicyFault::BeyondLimit),
-    }
+    Name::new(text).ok_or(PolicyFault::BeyondLimit)
 }
 
 pub fn address(value: &Value) -> Result<u64, PolicyFault>
     ensures { result ≡ spec.address_of (view value.now) }
 {
     let text = text(value)?;
-    match address_of(text) {
-        Some(address) => Ok(address),
-        None => Err(PolicyFault::BadHexadecimal),
-    }
+    address_of(text).ok_or(PolicyFault::BadHexadecimal)
 }
 
 /// An instruction's address.
@@ -113,10 +95,7 @@ pub fn measure(value: &Value) -> Result<Digest, PolicyFault>
     ensures { result ≡ spec.measure_of (view value.now) }
 {
     let text = text(value)?;
-    match digest_of(text) {
-        Some(digest) => Ok(digest),
-        None => Err(PolicyFault::BadHexadecimal),
-    }
+    digest_of(text).ok_or(PolicyFault::BadHexadecimal)
 }
 
 fn is_among(keys: &[&str], key: &str) -> bool
@@ -130,20 +109,11 @@ fn is_among(keys: &[&str], key: &str) -> bool
     false
 }
 
-#[tactic(auto, using(crate::proofs::Tables::has_unknown_of_keys))]
-fn has_unknown(keys: &[&str], table: &Table) -> bool
-    ensures { result ≡ spec.has_unknown (map (λ k. k.now) keys.now) (table_view table.now) }
-{
-    for key in table.keys() {
-        if !is_among(keys, key.as_str()) {
-            return true;
-        }
-    }
-    false
-}
-
 /// The first key that is none of these.
-pub(crate) fn first_unknown<'a>(keys: &[&str], table: &'a Table) -> Option<&'a str> {
+#[tactic(auto, using(crate::proofs::Tables::has_unknown_of_keys))]
+pub(crate) fn first_unknown<'a>(keys: &[&str], table: &'a Table) -> Option<&'a str>
+    ensures { is_some result ≡ spec.has_unknown (map (λ k. k.now) keys.now) (table_view table.now) }
+{
     for key in table.keys() {
         let key = key.as_str();
         if !is_among(keys, key) {
@@ -151,6 +121,12 @@ pub(crate) fn first_unknown<'a>(keys: &[&str], table: &'a Table) -> Option<&'a s
         }
     }
     None
+}
+
+fn has_unknown(keys: &[&str], table: &Table) -> bool
+    ensures { result ≡ spec.has_unknown (map (λ k. k.now) keys.now) (table_view table.now) }
+{
+    first_unknown(keys, table).is_some()
 }
 
 /// The members, if each key is one of these.

@@ -6,7 +6,8 @@ use Rattle.sv_types.specs.Limits.{most_sites}
 use Rattle.sv_types.specs.Policies.{ModuleRule, module_rule, sites_of}
 use Rattle.sv_types.specs.declared.policy.ModulePolicy.{ModulePolicy}
 use Rattle.policy.specs.Text.{module_of, each_module}
-use Rattle.policy.proofs.Lists.{each_item_next}
+use Rattle.policy.proofs.Judging.{refuses_on}
+use Rattle.policy.proofs.Lists.{each_item_next, each_item_refused}
 use Rattle.sv_types.proofs.PolicyLimits.{sites_of_more}
 use Rattle.policy.proofs.modules.each_module.Goals as goal
 
@@ -15,6 +16,15 @@ returns-clause-ok c =
     let l = c.loop-item in
     sym l.invariant.rest
     ∙ at_drop_all (λ (vs : List Value). each_module c.args.exports (map module_rule l.modules.items) (items_view vs)) c.args.items.now l.item-index c.loop-item-test.false
+
+pub returns-in_err-module-clause-refused : goal.returns-in_err-module-clause-refused
+returns-in_err-module-clause-refused c =
+    let l = c.loop-item in
+    let v = c.item-item.result in
+    let before = map module_rule l.modules.items in
+    let same = ap (λ (ms : List ModulePolicy). module_of c.args.exports (map module_rule ms) (view v)) (sym c.as_slice.ensures.value) in
+    refuses_on c.from_residual.result _ _ c.in_err-module.field-0.0 c.from_residual.ensures.1 c.in_err-module.ensures.refused (λ fault bad.
+    sym l.invariant.rest ∙ each_item_refused (module_of c.args.exports) before c.args.items.now l.item-index v fault c.loop-item-test.true c.item-item.is (same ∙ bad))
 
 pub loop-item-preserved : goal.loop-item-preserved
 loop-item-preserved c =

@@ -2,7 +2,7 @@ use Rattle.std.proofs.Common.{◌≡◌, not, map, string_bytes}
 use Rattle.std.specs.List.{list_any}
 use Rattle.std.specs.Str.{bytes_eq}
 use Rattle.std.specs.Map.{keys_of}
-use Rattle.policy.proofs.values.has_unknown.Given as goal
+use Rattle.policy.proofs.values.first_unknown.Given as goal
 
 -- each key before is known
 abbrev pub invariant-loop-key : goal.invariant-loop-key
