@@ -6,7 +6,7 @@ ghost use Rattle.elf64_reloc.specs.ObjectFaults.{object_fault_number};
 use sv_types::HeaderFault;
 
 /// What is wrong with a module's object.
-#[derive(Clone, Copy, Debug, PartialEq, Eq, Drop)]
+#[derive(Clone, Copy, Debug, Drop)]
 pub enum ObjectFault {
     /// The file's header has a fault.
     Header(HeaderFault),

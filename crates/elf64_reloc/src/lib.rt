@@ -4,6 +4,7 @@
 
 mod asked;
 mod fault;
+mod gathered;
 mod kind_names;
 mod layout;
 mod names;

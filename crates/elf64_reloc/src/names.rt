@@ -71,7 +71,6 @@ pub fn names_in_order(alloc: Global, names: &BTreeMap<&str, Name>) -> Result<Vec
     names.values().copied().collect(alloc)
 }
 
-#[tactic(auto, using(crate::proofs::RefusedOn::refused_on))]
 fn each_joined(
     alloc: Global,
     tables: &SymbolTables,

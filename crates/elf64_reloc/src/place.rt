@@ -5,14 +5,15 @@ ghost use Rattle.std.specs.List.{list_all};
 ghost use Rattle.sv_types.specs.Limits.{most_exports};
 ghost use Rattle.elf64_reloc.specs.Objects.{is_good_part};
 
+use crate::gathered::gather;
 use crate::kind_names::kind_name;
 use crate::layout::{PlacedSection, Space, is_good_alignment, lay_out};
 use crate::object::{Object, read_object};
 use crate::refusal::RelocRefusal;
-use crate::relocations::{Relocation, all_relocations};
+use crate::relocations::Relocation;
 use crate::section_names::section_name;
-use crate::sites::{Judging, fields_judged, high_parts};
-use crate::symbols::{Names, export_bases};
+use crate::sites::{Judging, fields_judged};
+use crate::symbols::Names;
 use elf64_sections::{name_at, symbol_at, symbol_count};
 use std::alloc::{AllocError, Global};
 use sv_types::Export;
@@ -53,7 +54,6 @@ fn object_place(
     relocation_place(alloc, object, &layout.sections, exports)
 }
 
-// The first relocation that is refused.
 fn relocation_place(
     alloc: Global,
     object: &Object,
@@ -63,22 +63,32 @@ fn relocation_place(
     requires few { length exports.now ≤ most_exports }
     requires parts { IsTrue (list_all (is_good_part object.now.file.now) object.now.sections.items) }
 {
-    let relocations = all_relocations(alloc, object.file, placed, &object.sections)?;
-    let highs = high_parts(alloc, &relocations)?;
-    let bases = export_bases(alloc, exports)?;
-    let tables = object.tables;
-    let judging = Judging {
-        names: Names {
-            tables,
-            placed,
-            bases: &bases,
-        },
-        highs: &highs,
-    };
-    match first_refused(&judging, &relocations) {
+    match refused_relocation(alloc, object, placed, exports)? {
         Some(relocation) => Ok(Some(relocation_text(alloc, object, placed, &relocation)?)),
         None => Ok(None),
     }
+}
+
+// The first relocation that is refused.
+fn refused_relocation(
+    alloc: Global,
+    object: &Object,
+    placed: &[PlacedSection],
+    exports: &[Export],
+) -> Result<Option<Relocation>, AllocError>
+    requires few { length exports.now ≤ most_exports }
+    requires parts { IsTrue (list_all (is_good_part object.now.file.now) object.now.sections.items) }
+{
+    let gathered = gather(alloc, object, placed, exports)?;
+    let judging = Judging {
+        names: Names {
+            tables: object.tables,
+            placed,
+            bases: &gathered.bases,
+        },
+        highs: &gathered.highs,
+    };
+    Ok(first_refused(&judging, &gathered.relocations))
 }
 
 fn first_refused(judging: &Judging, relocations: &[Relocation]) -> Option<Relocation> {
@@ -97,20 +107,35 @@ fn is_home(section: &PlacedSection, relocation: &Relocation) -> bool {
         && section.size == relocation.size
 }
 
+// The section that holds the relocated field, or else the first one.
+fn home_of(placed: &[PlacedSection], relocation: &Relocation) -> usize {
+    placed
+        .iter()
+        .position(|section| is_home(section, relocation))
+        .unwrap_or(0)
+}
+
 fn relocation_text(
     alloc: Global,
     object: &Object,
     placed: &[PlacedSection],
     relocation: &Relocation,
 ) -> Result<String, AllocError> {
-    let home = placed
-        .iter()
-        .position(|section| is_home(section, relocation));
-    let section = section_text(alloc, object, home.unwrap_or(0))?;
-    let offset = relocation.offset;
+    let section = section_text(alloc, object, home_of(placed, relocation))?;
+    text_behind(alloc, object, &section, relocation)
+}
+
+// A relocation behind its section's name.
+fn text_behind(
+    alloc: Global,
+    object: &Object,
+    section: &str,
+    relocation: &Relocation,
+) -> Result<String, AllocError> {
     let kind = kind_text(alloc, relocation.kind)?;
-    let symbol = symbol_text(alloc, object, relocation.symbol)?;
-    format!(in alloc; "{section}, offset 0x{offset:x}, {kind}{symbol}")
+    let offset = relocation.offset;
+    let (word, symbol) = symbol_words(object, relocation.symbol);
+    format!(in alloc; "{section}, offset 0x{offset:x}, {kind}{word}{symbol}")
 }
 
 // A kind by its name and its number.
@@ -129,15 +154,15 @@ fn section_text(alloc: Global, object: &Object, section: usize) -> Result<String
     }
 }
 
-// A symbol by its name, where it has one.
-fn symbol_text(alloc: Global, object: &Object, symbol: u32) -> Result<String, AllocError> {
+// The word for a symbol, and its name. Both are empty where it has none.
+fn symbol_words<'a>(object: &Object<'a>, symbol: u32) -> (&'static str, &'a str) {
     let tables = object.tables;
     let symbol = symbol as usize;
     if symbol >= symbol_count(tables.symbols) {
-        return Ok(String::new(alloc));
+        return ("", "");
     }
     match name_at(tables.strings, symbol_at(tables.symbols, symbol).name) {
-        Some(name) => format!(in alloc; ", symbol {name}"),
-        None => Ok(String::new(alloc)),
+        Some(name) => (", symbol ", name),
+        None => ("", ""),
     }
 }

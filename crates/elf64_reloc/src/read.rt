@@ -13,13 +13,14 @@ ghost use Rattle.elf64_reloc.specs.Refusals.{Refuses};
 ghost use Rattle.elf64_reloc.specs.Views.{names_view, object_view};
 
 use crate::fault::ObjectFault;
+use crate::gathered::gather;
 use crate::layout::{PlacedSection, are_good_alignments, lay_out};
 use crate::object::{Object, read_object};
 use crate::order::{fields_overlap, ordered_sites};
 use crate::refusal::RelocRefusal;
-use crate::relocations::{Relocation, all_relocations};
-use crate::sites::{Judging, all_fields, high_parts};
-use crate::symbols::{Names, export_bases};
+use crate::relocations::Relocation;
+use crate::sites::{Judging, all_fields};
+use crate::symbols::Names;
 use crate::text::text_of;
 use policy_limits::{MOST_MODULE_PAGES, MOST_MODULE_SITES};
 use processor::PAGE_BYTES;
@@ -63,16 +64,13 @@ fn sites_of(
     ensures ok { IfOk result (λ sites. spec.sites_of exports.now (object_view object.now) ≡ Ok sites.items) }
     ensures refused { IfErr result (Refuses (spec.sites_of exports.now (object_view object.now))) }
 {
-    let relocations = all_relocations(alloc, object.file, placed, &object.sections)?;
-    let highs = high_parts(alloc, &relocations)?;
-    let bases = export_bases(alloc, exports)?;
-    let tables = object.tables;
+    let gathered = gather(alloc, object, placed, exports)?;
     let names = Names {
-        tables,
+        tables: object.tables,
         placed,
-        bases: &bases,
+        bases: &gathered.bases,
     };
-    fields_by(alloc, &names, &highs, &relocations)
+    fields_by(alloc, &names, &gathered.highs, &gathered.relocations)
 }
 
 // The module of good fields, or the first fault of the whole.
