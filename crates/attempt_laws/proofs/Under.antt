@@ -17,7 +17,7 @@ use Rattle.processor.specs.declared.mode.Mode.{Mode}
 use Rattle.processor.specs.declared.mode.Mode.TheVariants.{Kernel, User}
 use Rattle.sv_types.specs.declared.view.View.TheVariants as View
 use Rattle.sv_types.specs.Policies.{Rules}
-use Rattle.view_laws.proofs.Views.{two_stages_under_view}
+use Rattle.attempt_laws.proofs.Views.{two_stages_under_view}
 use Rattle.reference.specs.States.{State, Hart, Binding, binding_of, binding_at, protection_in, protection_by, is_approved_in, is_protected, has_number}
 use Rattle.reference.specs.Requests.{settings_of}
 use Rattle.machine_model.specs.StandsFor.{Unseen, IsRightFor, hregs_in, bound_pages}

@@ -1,12 +1,17 @@
 //! The registers of a hart under a hypervisor, as the hardware keeps them with V = 1: what the guest reads and writes by
-//! a register's number, and what an exit leaves for the hypervisor.
+//! a register's number, and what an exit leaves for the hypervisor; which interrupt is taken, entry into the guest's kernel
+//! and its return, and exits to the hypervisor.
 #![tactic(auto)]
 
 mod csrs;
+mod entry;
 mod hypervisor;
+mod interrupt;
 mod masks;
 
 pub use csrs::{Csrs, at_guest_places, at_hypervisor_places};
+pub use entry::{into_guest, into_hypervisor, return_to_guest, target};
+pub use interrupt::pending;
 pub use masks::{
     INTERRUPT_BITS, MISALIGNED, MXR_PLACE, SATP_BITS, SIE, SIE_PLACE, SOFTWARE_INTERRUPT, SPIE,
     SPIE_PLACE, SPP, SPP_PLACE, STATUS_BITS, SUM_PLACE, TIME_ENABLE, TVEC_RESERVED,

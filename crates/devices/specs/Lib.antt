@@ -1,2 +1,3 @@
 pub mod BlockRegisters
 pub mod Bus
+pub mod Ports

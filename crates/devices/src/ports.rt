@@ -6,7 +6,7 @@ ghost use Rattle.devices.specs.Bus.{port_named};
 use sv_types::{CONSOLE_BASE, DISK_BASE, DISK_END};
 
 /// A device and an offset in its registers.
-#[derive(Clone, Copy, PartialEq, Eq, Drop)]
+#[derive(Clone, Copy, Drop)]
 pub enum Place {
     /// The console's registers.
     Console(u64),

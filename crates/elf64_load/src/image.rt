@@ -12,7 +12,7 @@ use processor::{PAGE_BYTES, ram_place};
 use std::alloc::{AllocError, Global};
 
 /// A segment that is loaded: its bytes, which stay in the file, and zeros behind them up to the size in memory.
-#[derive(Clone, Copy, PartialEq, Eq, Drop)]
+#[derive(Clone, Copy, Drop)]
 pub struct Segment<'a> {
     /// The virtual address.
     pub va: u64,

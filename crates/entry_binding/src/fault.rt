@@ -9,7 +9,7 @@ use sv_types::Digest;
 use thiserror::Error;
 
 /// What is wrong with a policy, or with one of its entries.
-#[derive(Clone, Copy, Debug, PartialEq, Eq, Drop)]
+#[derive(Clone, Copy, Debug, Drop)]
 pub enum ConvertFault {
     /// The policy's format isn't 1.
     OtherFormat,

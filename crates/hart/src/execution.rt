@@ -21,11 +21,11 @@ use crate::system::{
 use crate::trap::{interrupt, plain_exception, raise};
 use crate::wires::Wires;
 use crate::words::{Decoded, Words};
+use csr_file::pending;
 use gstage_cache::Cache;
 use host_mem::HostMem;
 use processor::{Access, Cause, Effect, HRegs, INSTRUCTION_BYTES, Interrupt, Outcome};
 use rv64_exec::effect;
-use trap_entry::pending;
 
 /// What `Cpu::attempt` does, without the count.
 #[tactic(auto, using(gstage_cache::specs::Fills::nothing_filled, gstage_cache::specs::Fills::filled_further), unfolding(processor::specs::HardwareAttempt::attempt, processor::specs::HardwareAttempt::after_pending))]

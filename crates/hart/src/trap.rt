@@ -9,8 +9,8 @@ ghost use Rattle.hart.specs.Conditions.{MayStep};
 ghost use Rattle.processor.specs.Bytes.{instruction_size};
 
 use crate::hart::Core;
+use csr_file::{into_guest, into_hypervisor};
 use processor::{Cause, Exception, Exit, ExitCause, HRegs, Interrupt, Mode, Outcome, has_bit};
-use trap_entry::{into_guest, into_hypervisor};
 
 /// An exception that is no guest-page fault.
 pub(crate) fn plain_exception(cause: Cause, tval: u64) -> Exception

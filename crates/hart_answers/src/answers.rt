@@ -14,12 +14,11 @@ ghost use Rattle.hart_answers.specs.Trapped.{in_handler, back_from_handler};
 ghost use Rattle.hart.specs.declared.hart.Hart.{Hart as Kept};
 ghost use Rattle.processor.specs.Bytes.{instruction_size};
 
-use csr_file::Csrs;
+use csr_file::{Csrs, into_guest, return_to_guest, target};
 use hart::Hart;
 use page_guard::{Entries, Forbidden, Guard, Side};
 use processor::{A0, A1, ExitCause, INSTRUCTION_BYTES, Mode};
 use rv64_exec::Regs;
-use trap_entry::{into_guest, return_to_guest, target};
 
 /// A trap of the guest: its cause, and the value that `stval` takes.
 #[derive(Clone, Copy, Drop)]

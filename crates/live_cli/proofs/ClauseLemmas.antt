@@ -14,7 +14,7 @@ use Rattle.outside.specs.Outside.{FilesState, after_taking}
 use Rattle.console_run.proofs.Standing.{stands_disk}
 use Rattle.live_keys.specs.Keys.{KeysState}
 use Rattle.live_keys.specs.Placed.{keys_among}
-use Rattle.live_drive.specs.Inputs.{WasRead}
+use Rattle.live_cli.specs.Inputs.{WasRead}
 use Rattle.secvisor_cli.specs.declared.refusal.Refusal.{Refusal}
 use Rattle.secvisor_cli.specs.declared.refusal.Refusal.TheVariants.{NoCommand, OutOfRange, ReadFault, File, Measure, Entry}
 use Rattle.outside.specs.declared.trouble.Trouble.{Trouble}

@@ -1,7 +1,10 @@
-pub mod WordLemmas
-pub mod ReadyLemmas
-pub mod LiveLemmas
 pub mod AnswerLemmas
-pub mod PlanLemmas
-pub mod ReplayLemmas
 pub mod ClauseLemmas
+pub mod DrawnEvents
+pub mod LiveLemmas
+pub mod MadeEvents
+pub mod PlanLemmas
+pub mod ReadyLemmas
+pub mod ReplayLemmas
+pub mod SettledKeys
+pub mod WordLemmas

@@ -28,11 +28,11 @@ use Rattle.live_keys.specs.Keys.{KeysState}
 use Rattle.live_keys.specs.Placed.{autos_between, events_between, keys_among, others_among}
 use Rattle.live_keys.specs.declared.live_key.LiveKey.{LiveKey}
 use Rattle.live_keys.proofs.Events.{numbers_join}
-use Rattle.live_drive.specs.Drives.{GoesOn, Breaks, HasBroken}
-use Rattle.live_drive.specs.Inputs.{HasKeys}
-use Rattle.live_drive.specs.LiveRuns.{harts_of, events_made, IsUnderWay}
-use Rattle.live_drive.specs.declared.live_run.LiveRun.{LiveRun}
-use Rattle.live_drive.specs.declared.threads.LiveEnd.{LiveEnd}
+use Rattle.live_cli.specs.Drives.{GoesOn, Breaks, HasBroken}
+use Rattle.live_cli.specs.Inputs.{HasKeys}
+use Rattle.live_cli.specs.LiveRuns.{harts_of, events_made, IsUnderWay}
+use Rattle.live_cli.specs.declared.live_run.LiveRun.{LiveRun}
+use Rattle.live_cli.specs.declared.threads.LiveEnd.{LiveEnd}
 use Rattle.outside.specs.declared.trouble.Trouble.{Trouble}
 use Rattle.outside.specs.declared.trouble.Trouble.TheVariants.{Write}
 use Rattle.secvisor_cli.specs.Answers.{Writes}

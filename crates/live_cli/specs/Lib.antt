@@ -1,4 +1,7 @@
-pub mod LiveWords
-pub mod LiveReady
+pub mod Drives
+pub mod Inputs
 pub mod LiveAnswers
+pub mod LiveReady
+pub mod LiveRuns
+pub mod LiveWords
 pub mod Replays

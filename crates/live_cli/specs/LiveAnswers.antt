@@ -14,10 +14,10 @@ use Rattle.outside.specs.Outside.{FilesState, SinkState, after_taking, TookPrefi
 use Rattle.live_keys.specs.Keys.{KeysState}
 use Rattle.live_keys.specs.Placed.{keys_among, others_among}
 use Rattle.console_run.specs.Standing.{Stands, machine_output}
-use Rattle.live_drive.specs.declared.threads.LiveEnd.{LiveEnd}
-use Rattle.live_drive.specs.declared.live_run.LiveRun.{LiveRun}
-use Rattle.live_drive.specs.Inputs.{HasKeys}
-use Rattle.live_drive.specs.LiveRuns.{harts_of, events_made}
+use Rattle.live_cli.specs.declared.threads.LiveEnd.{LiveEnd}
+use Rattle.live_cli.specs.declared.live_run.LiveRun.{LiveRun}
+use Rattle.live_cli.specs.Inputs.{HasKeys}
+use Rattle.live_cli.specs.LiveRuns.{harts_of, events_made}
 use Rattle.secvisor_cli.specs.declared.refusal.Refusal.{Refusal}
 use Rattle.outside.specs.declared.trouble.Trouble.{Trouble}
 use Rattle.outside.specs.declared.trouble.Trouble.TheVariants.{Write, Memory}

@@ -4,7 +4,7 @@ use Rattle.sv_types.specs.Limits.{most_events}
 use Rattle.sv_types.specs.Schedule.{first_events}
 use Rattle.machine_model.specs.Reaches.{IsNew}
 use Rattle.outside.specs.Outside.{FilesState}
-use Rattle.live_drive.specs.LiveRuns.{harts_of, IsUnderWay}
+use Rattle.live_cli.specs.LiveRuns.{harts_of, IsUnderWay}
 use Rattle.secvisor_cli.specs.declared.refusal.Refusal.{Refusal}
 use Rattle.secvisor_cli.specs.declared.ready.Stop.{Stop}
 use Rattle.secvisor_cli.specs.declared.ready.Stop.TheVariants.{Refused, Memory}

@@ -7,7 +7,7 @@ ghost use Rattle.reference.specs.States.{State};
 ghost use Rattle.machine_model.specs.Reaches.{IsNew};
 ghost use Rattle.sv_types.specs.Output.{run_status};
 ghost use Rattle.console_run.specs.Standing.{machine_output};
-ghost use Rattle.live_drive.specs.LiveRuns.{harts_of, events_made, IsUnderWay};
+ghost use Rattle.live_cli.specs.LiveRuns.{harts_of, events_made, IsUnderWay};
 ghost use Rattle.secvisor_cli.specs.Answers.{Writes, AfterSave};
 ghost use Rattle.secvisor_cli.specs.Plans.{Exactly};
 ghost use Rattle.secvisor_cli.specs.Reading.{MayFollow, IsNamed};
@@ -20,8 +20,9 @@ ghost use Rattle.live_cli.specs.Replays.{LiveLine, live_line, HasEnded, Replays}
 ghost use Rattle.outside.specs.Outside.{MayWrite, MaySaveUnder};
 ghost use Rattle.processor.specs.Counters.{CanCount};
 
+use crate::live_run::LiveRun;
 use crate::ready::{LiveReady, prepare_live};
-use live_drive::{LiveEnd, LiveRun};
+use crate::threads::LiveEnd;
 use live_keys::{Keys, Pace, journal_text};
 use outside::{Files, Sink};
 use secvisor_cli::{Bench, Status, Stop, Trouble, finish, refuse, status_of_end};

@@ -1,8 +1,12 @@
-//! The command `live`: a run whose keys are read while the machine runs, and which is saved as a script.
+//! The command `live`: a machine that is run while a second thread reads its keys, and whose events are saved as a script.
 #![tactic(auto)]
 
 mod answer;
+mod driving;
+mod live_run;
+mod making;
 mod ready;
+mod threads;
 mod words;
 
 pub use answer::secvisor_live;

@@ -5,8 +5,9 @@ ghost use Rattle.live_cli.specs.LiveWords.{live_judged, live_plan};
 ghost use Rattle.live_cli.specs.LiveReady.{PreparesLive, out_of};
 ghost use Rattle.processor.specs.Counters.{CanCount};
 
+use crate::live_run::LiveRun;
+use crate::threads::KeySource;
 use crate::words::read_live;
-use live_drive::{KeySource, LiveRun};
 use live_keys::{Journal, KeyLine};
 use outside::Files;
 use secvisor_cli::{Booted, Ready, Stop, prepare_run};

@@ -8,8 +8,8 @@ use Rattle.hart_answers.proofs.Hosts.{hosts_set, hosts_updated}
 use Rattle.hart_answers.specs.Hosts.{host_at, hosts_of}
 use Rattle.hart_answers.specs.declared.seats.Seat.{Seat}
 use Rattle.machine.specs.Attempts.{hart_in}
-use Rattle.hart_caches.specs.Usable.{IsUsable, AreUsable}
-use Rattle.hart_caches.specs.declared.caches.HartCaches.{HartCaches}
+use Rattle.reach.specs.Usable.{IsUsable, AreUsable}
+use Rattle.reach.specs.declared.caches.HartCaches.{HartCaches}
 use Rattle.sv_types.proofs.SetElements.{set_or_there}
 
 pub host_there : (seats : List Seat) (h : ℕ) (d : Seat) → h < length seats → hart_in (hosts_of seats) h ≡ host_at (slice_index_or seats h d)

@@ -17,7 +17,7 @@ use Rattle.page_guard.specs.Sides.{entry_of, mode_of}
 use Rattle.hart_answers.proofs.Hosts.{hosts_length, hosts_set, hosts_same}
 use Rattle.hart_answers.specs.Hosts.{host_at, hosts_of}
 use Rattle.hart_answers.specs.declared.seats.Seat.{Seat}
-use Rattle.access_answers.specs.Accessed.{with_devices}
+use Rattle.trap_answers.specs.Accessed.{with_devices}
 use Rattle.trap_answers.specs.Answered.{with_hart}
 use Rattle.trap_answers.specs.Possible.{IsPossible}
 use Rattle.machine.proofs.Hosts.{host_there, started_there}

@@ -23,9 +23,9 @@ use Rattle.sv_types.specs.declared.module.Span.{Span}
 use Rattle.sv_types.specs.declared.protection.Protection.{Protection}
 use Rattle.sv_types.specs.declared.protection.Protection.TheVariants.{Free}
 use Rattle.resumed_parts.proofs.Regions.{length_both, tables_sized}
-use Rattle.hart_caches.specs.Usable.{nothing_kept, IsUsable, AreUsable}
-use Rattle.hart_caches.specs.declared.caches.HartCaches.{HartCaches}
-use Rattle.hart_caches.proofs.Emptied.{nothing_usable}
+use Rattle.reach.specs.Usable.{nothing_kept, IsUsable, AreUsable}
+use Rattle.reach.specs.declared.caches.HartCaches.{HartCaches}
+use Rattle.reach.proofs.Emptied.{nothing_usable}
 use Rattle.reference.proofs.Runs.{all_free_at}
 
 -- ---- harts

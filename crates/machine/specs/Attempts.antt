@@ -1,6 +1,6 @@
 -- What an attempt of a hart asks for, and what turns of a hart among all do. This project's own.
 use Rattle.std.specs.Prelude.{◌≡◌, ◌<◌, ◌%◌, ℕ, true, false, List, length, replicate, None, slice_index_or}
-use Rattle.hart_caches.specs.Usable.{AreUsable}
+use Rattle.reach.specs.Usable.{AreUsable}
 use Rattle.processor.specs.HardwareAttempt.{attempt}
 use Rattle.processor.specs.HypervisorRegisters.{registers_at_boot}
 use Rattle.processor.specs.Regions.{Region}
@@ -12,7 +12,7 @@ use Rattle.processor.specs.declared.mode.Mode.TheVariants.{Kernel}
 use Rattle.hart.specs.Conditions.{KeepsMode}
 use Rattle.machine_model.specs.Machine.{HostHart}
 use Rattle.machine_model.specs.StandsFor.{hregs_in}
-use Rattle.hart_caches.specs.declared.caches.HartCaches.{HartCaches}
+use Rattle.reach.specs.declared.caches.HartCaches.{HartCaches}
 use Rattle.processor.specs.Bytes.{instruction_size}
 
 -- a stopped hart, past the end of all harts

@@ -9,7 +9,7 @@ use Rattle.page_guard.specs.Guarded.{IsTheirs}
 use Rattle.hart_answers.specs.Hosts.{hosts_of}
 use Rattle.module_answers.specs.Conditions.{AreJoined}
 use Rattle.module_answers.specs.Parts.{loading_of}
-use Rattle.hart_caches.specs.Usable.{AreUsable}
+use Rattle.reach.specs.Usable.{AreUsable}
 use Rattle.machine.specs.declared.parts.Parts.TheInside.{Inside}
 
 abbrev pub machine_of_parts : Inside → Machine

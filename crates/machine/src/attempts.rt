@@ -6,14 +6,14 @@ ghost use Rattle.processor.specs.HardwareAttempt.{attempt};
 ghost use Rattle.machine_model.specs.Machine.{with_core, update, all_forget};
 ghost use Rattle.hart_answers.specs.Hosts.{host_at, hosts_of};
 ghost use Rattle.machine.specs.Attempts.{hart_in, IsReady, KeepsTurns, MayTakeTurns};
-ghost use Rattle.hart_caches.specs.Usable.{IsUsable};
+ghost use Rattle.reach.specs.Usable.{IsUsable};
 ghost use Rattle.processor.specs.Bytes.{instruction_size};
 
 use hart::{Cpu, Wires};
 use hart_answers::{Seat, forget};
-use hart_caches::HartCaches;
 use host_mem::HostMem;
 use processor::Outcome;
+use reach::HartCaches;
 
 // An attempt of a hart on its side, with its caches.
 #[inline(always)]

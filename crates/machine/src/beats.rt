@@ -5,8 +5,7 @@ ghost use Rattle.reference.specs.Disk.{disk_beat, is_writable};
 ghost use Rattle.dma_guard.specs.Transfers.{beat_of, after_move};
 ghost use Rattle.machine.specs.Beats.{ToldInRam};
 
-use devices::Devices;
-use disk_port::Port;
+use devices::{Devices, Port};
 use dma_guard::{Beaten, DmaGuard};
 use host_mem::HostMem;
 

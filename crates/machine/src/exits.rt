@@ -19,16 +19,16 @@ ghost use Rattle.machine.specs.Attempts.{hart_in};
 ghost use Rattle.machine.specs.Turns.{IsGuarded, MayServe, MayTrap, answered_exit, asked_of, left_entry};
 
 use crate::parts::Parts;
-use access_answers::{Load, Store, device_load, device_store};
 use call_answers::law_starts;
 use hart_answers::{Asked, Trap};
-use hart_caches::fence;
 use machine_model::ExitAnswer;
 use module_answers::{give_pages, module_answer};
 use processor::Exit;
+use reach::fence;
 use reference::Answer;
 use trap_answers::{
-    exit_answer, guest_demotion, guest_return, guest_trap, leave_entry, stop_at_write,
+    Load, Store, device_load, device_store, exit_answer, guest_demotion, guest_return, guest_trap,
+    leave_entry, stop_at_write,
 };
 
 /// The answer asks for a second attempt.

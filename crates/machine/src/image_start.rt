@@ -15,14 +15,14 @@ ghost use Rattle.reference.specs.States.{has_number};
 ghost use Rattle.reference.specs.Soundness.{IsSoundDisk};
 ghost use Rattle.machine_model.specs.Reaches.{IsNew};
 ghost use Rattle.machine_model.specs.StandsFor.{bound_pages};
-ghost use Rattle.disk_port.specs.Ports.{port_disk};
+ghost use Rattle.devices.specs.Ports.{port_disk};
 ghost use Rattle.standing_laws.specs.Starts.{image_machine, image_protections, journal_at_boot, IsGuarded};
 ghost use Rattle.machine.specs.Boot.{IsImageOf, image_text, RefusesFlat, RefusesImage};
 
 use crate::boot::BootRefusal;
 use crate::parts::Parts;
 use crate::start::judge_measure;
-use disk_port::Port;
+use devices::Port;
 use elf64_load::KernelImage;
 use gstage_tables::Trees;
 use host_mem::HostMem;

@@ -10,14 +10,14 @@ ghost use Rattle.reference.specs.Start.{flat_start, image_start, boot_start, vir
 ghost use Rattle.reference.specs.States.{has_number};
 ghost use Rattle.reference.specs.Soundness.{IsSoundDisk};
 ghost use Rattle.machine_model.specs.Reaches.{IsNew};
-ghost use Rattle.disk_port.specs.Ports.{port_disk};
+ghost use Rattle.devices.specs.Ports.{port_disk};
 ghost use Rattle.standing_laws.specs.Starts.{journal_at_boot};
 ghost use Rattle.machine.specs.Boot.{IsImageOf, IsRead, image_text, RefusesFlat, RefusesImage};
 
 use crate::boot::BootRefusal;
 use crate::machine::Machine;
 use crate::parts::Parts;
-use disk_port::Port;
+use devices::Port;
 use elf64_load::KernelImage;
 use std::alloc::Global;
 use std::thread::Threads;

@@ -10,7 +10,7 @@ ghost use Rattle.standing_laws.specs.Starts.{IsGuarded};
 ghost use Rattle.resumption.specs.Judgements.{resume_refusal};
 ghost use Rattle.resumption.specs.ResumedStates.{resumed_state};
 ghost use Rattle.resumed_start.specs.Resuming.{resumed_machine};
-ghost use Rattle.hart_caches.specs.Usable.{nothing_kept};
+ghost use Rattle.reach.specs.Usable.{nothing_kept};
 ghost use Rattle.machine.specs.Resumed.{RefusesSnapshot};
 ghost use Rattle.machine.specs.declared.resume.ResumeFailure.TheVariants.{Memory};
 
@@ -19,8 +19,8 @@ use crate::machine::Machine;
 use crate::parts::Parts;
 use crate::start::Idle;
 use hart::Cpu;
-use hart_caches::HartCaches;
 use quick_turns::Words;
+use reach::HartCaches;
 use resume_laws::law_resumed_sound;
 use resumed_parts::{ResumedParts, resume_parts};
 use resumed_start::law_resumed_start;

@@ -13,21 +13,21 @@ ghost use Rattle.quick_turns.specs.Ends.{turns_of};
 ghost use Rattle.quick_turns.specs.Rows.{EndsBy};
 ghost use Rattle.quick_turns.specs.declared.leaving.Leaving.TheVariants.{Returns};
 ghost use Rattle.machine.specs.Attempts.{hart_in, IsReady, KeepsTurns, MayTakeTurns};
-ghost use Rattle.hart_caches.specs.Usable.{IsUsable};
+ghost use Rattle.reach.specs.Usable.{IsUsable};
 ghost use Rattle.machine.specs.Limits.{most_counts};
 ghost use Rattle.machine.specs.Rows.{AnswersLeaving, AreFree, EndsRow, WalksUnderRoot, IsQuietAt, counted_leaving, counted_row, MayRow};
 ghost use Rattle.machine.specs.Turns.{MayTrap};
 ghost use Rattle.processor.specs.Bytes.{instruction_size};
 
 use crate::parts::Parts;
+use csr_file::pending;
 use hart_answers::{Seat, Trap};
-use hart_caches::HartCaches;
 use host_mem::HostMem;
 use journal_records::Journal;
 use processor::{Cause, ExitCause};
 use quick_turns::{Leaving, Row, Words, quick_turns};
+use reach::HartCaches;
 use sv_types::Verdict;
-use trap_entry::pending;
 
 // Turns of a hart on its side, with its caches.
 #[inline(always)]

@@ -12,8 +12,7 @@ ghost use Rattle.machine.specs.Keeping.{gpa_behind, AreKeepable, IsKeepable, kep
 use crate::machine::Machine;
 use crate::parts::Parts;
 use csr_file::at_guest_places;
-use devices::Devices;
-use disk_port::Port;
+use devices::{Devices, Port};
 use hart_answers::Seat;
 use module_answers::Modules;
 use processor::RAM_BASE;

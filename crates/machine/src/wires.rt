@@ -4,8 +4,7 @@ ghost use Rattle.std.specs.Prelude.{◌<◌};
 ghost use Rattle.sv_types.specs.Limits.{most_harts};
 ghost use Rattle.reference.specs.Devices.{lines_at};
 
-use devices::Devices;
-use disk_port::Port;
+use devices::{Devices, Port};
 use hart::Wires;
 use processor::Lines;
 

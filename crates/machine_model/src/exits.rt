@@ -3,7 +3,7 @@
 use processor::ExitCause;
 
 /// The answer to an exit.
-#[derive(Clone, Copy, PartialEq, Eq, Drop)]
+#[derive(Clone, Copy, Drop)]
 pub enum ExitAnswer {
     /// The hart traps, with the value that `stval` takes.
     Traps {

@@ -1,10 +1,9 @@
 // Which interrupt is taken, by delegation, mode and SIE; and a trap with its return.
 
 use crate::modes::{hypervisor_registers, registers_after};
-use csr_file::Csrs;
+use csr_file::{Csrs, into_guest, pending, return_to_guest};
 use processor::{ExitCause, Interrupt, Lines, Mode};
 use std::process::Abort;
-use trap_entry::{into_guest, pending, return_to_guest};
 
 // What is enabled and what waits, and the first that a mode takes.
 struct Waiting {

@@ -9,7 +9,7 @@ use std::alloc::AllocError;
 use sv_types::{Failed, Status};
 
 /// What ends an answer before its status stands.
-#[derive(Clone, Copy, PartialEq, Eq, Drop)]
+#[derive(Clone, Copy, Drop)]
 pub enum Trouble {
     /// A write or a save failed.
     Write,

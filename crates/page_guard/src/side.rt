@@ -49,7 +49,7 @@ impl Model for Side {
 }
 
 /// The target of a trap from user mode that isn't a permitted entry.
-#[derive(Clone, Copy, PartialEq, Eq, Drop)]
+#[derive(Clone, Copy, Drop)]
 pub struct Forbidden {
     pub target: u64,
 }

@@ -4,7 +4,7 @@ ghost use Rattle.std.specs.Prelude.{◌≡◌};
 ghost use Rattle.policy_limits.specs.PolicyFaults.{policy_fault_number};
 
 /// What is wrong with the text of a policy, or with its values.
-#[derive(Clone, Copy, Debug, PartialEq, Eq, Drop)]
+#[derive(Clone, Copy, Debug, Drop)]
 pub enum PolicyFault {
     /// It is no TOML text.
     NotToml,

@@ -11,7 +11,7 @@ use sv_types::ImageFault;
 use thiserror::Error;
 
 /// What is wrong with the files of a policy.
-#[derive(Clone, Copy, Debug, PartialEq, Eq, Drop)]
+#[derive(Clone, Copy, Debug, Drop)]
 pub enum MakingFault {
     /// The first fault of the kernel's image, or of the exports that are wanted of it.
     Image(ImageFault),
@@ -22,7 +22,7 @@ pub enum MakingFault {
 }
 
 /// Why no policy is made.
-#[derive(Clone, Copy, Debug, PartialEq, Eq, Drop, Error)]
+#[derive(Clone, Copy, Debug, Drop, Error)]
 pub enum MakingRefusal {
     /// The first fault.
     #[error("a fault of the files")]

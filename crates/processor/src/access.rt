@@ -1,7 +1,7 @@
 // Accesses to memory.
 
 /// A kind of access to memory.
-#[derive(Clone, Copy, PartialEq, Eq, Drop)]
+#[derive(Clone, Copy, Drop)]
 pub enum Access {
     Fetch,
     Load,

@@ -27,7 +27,7 @@ const SATP: u16 = 0x180;
 const TIME: u16 = 0xC01;
 
 /// A supervisor register of the register table in `specs/Registers.antt`, or the time.
-#[derive(Clone, Copy, PartialEq, Eq, Drop)]
+#[derive(Clone, Copy, Drop)]
 pub enum Csr {
     Sstatus,
     Sie,

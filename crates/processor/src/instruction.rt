@@ -1,7 +1,7 @@
 // Decoded instructions. The fields' values are those of the instruction table in `specs/Instructions.antt`.
 
 /// A conditional branch.
-#[derive(Clone, Copy, Debug, PartialEq, Eq, Drop)]
+#[derive(Clone, Copy, Debug, Drop)]
 pub enum BranchOp {
     Beq,
     Bne,
@@ -12,7 +12,7 @@ pub enum BranchOp {
 }
 
 /// A load, by its width; the names with U zero-extend.
-#[derive(Clone, Copy, Debug, PartialEq, Eq, Drop)]
+#[derive(Clone, Copy, Debug, Drop)]
 pub enum LoadOp {
     Lb,
     Lh,
@@ -24,7 +24,7 @@ pub enum LoadOp {
 }
 
 /// A store, by its width.
-#[derive(Clone, Copy, Debug, PartialEq, Eq, Drop)]
+#[derive(Clone, Copy, Debug, Drop)]
 pub enum StoreOp {
     Sb,
     Sh,
@@ -33,7 +33,7 @@ pub enum StoreOp {
 }
 
 /// A computation on a register and an immediate.
-#[derive(Clone, Copy, Debug, PartialEq, Eq, Drop)]
+#[derive(Clone, Copy, Debug, Drop)]
 pub enum OpImmOp {
     Addi,
     Slti,
@@ -47,7 +47,7 @@ pub enum OpImmOp {
 }
 
 /// A computation on the low 32 bits of a register and an immediate.
-#[derive(Clone, Copy, Debug, PartialEq, Eq, Drop)]
+#[derive(Clone, Copy, Debug, Drop)]
 pub enum OpImm32Op {
     Addiw,
     Slliw,
@@ -56,7 +56,7 @@ pub enum OpImm32Op {
 }
 
 /// A computation on two registers.
-#[derive(Clone, Copy, Debug, PartialEq, Eq, Drop)]
+#[derive(Clone, Copy, Debug, Drop)]
 pub enum OpOp {
     Add,
     Sll,
@@ -79,7 +79,7 @@ pub enum OpOp {
 }
 
 /// A computation on the low 32 bits of two registers.
-#[derive(Clone, Copy, Debug, PartialEq, Eq, Drop)]
+#[derive(Clone, Copy, Debug, Drop)]
 pub enum Op32Op {
     Addw,
     Sllw,
@@ -94,7 +94,7 @@ pub enum Op32Op {
 }
 
 /// An access to a control and status register; the names with I take an immediate.
-#[derive(Clone, Copy, Debug, PartialEq, Eq, Drop)]
+#[derive(Clone, Copy, Debug, Drop)]
 pub enum CsrOp {
     Csrrw,
     Csrrs,
@@ -105,7 +105,7 @@ pub enum CsrOp {
 }
 
 /// An atomic memory operation.
-#[derive(Clone, Copy, Debug, PartialEq, Eq, Drop)]
+#[derive(Clone, Copy, Debug, Drop)]
 pub enum AmoOp {
     Amoswap,
     Amoadd,
@@ -119,7 +119,7 @@ pub enum AmoOp {
 }
 
 /// A hypervisor instruction: a load or a store through the guest's translation, or a fence.
-#[derive(Clone, Copy, Debug, PartialEq, Eq, Drop)]
+#[derive(Clone, Copy, Debug, Drop)]
 pub enum HyperOp {
     HlvB,
     HlvBu,

@@ -1,7 +1,7 @@
 // What a hart sees from outside.
 
 /// The wires that a hart sees.
-#[derive(Clone, Copy, PartialEq, Eq, Drop)]
+#[derive(Clone, Copy, Drop)]
 pub struct Lines {
     pub time: u64,
     pub external: bool,

@@ -50,7 +50,7 @@ pub enum Fault {
 }
 
 /// The guest-physical address that the second stage refuses.
-#[derive(Clone, Copy, PartialEq, Eq, Drop)]
+#[derive(Clone, Copy, Drop)]
 pub struct GuestFault {
     pub gpa: u64,
 }

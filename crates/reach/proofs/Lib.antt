@@ -1,4 +1,5 @@
+pub mod Emptied
+pub mod Holding
 pub mod Levels
 pub mod Stages
-pub mod Holding
 pub mod Tagged

@@ -10,7 +10,7 @@ use sv_types::{
 };
 
 /// An extension of SBI. The first four are legacy calls.
-#[derive(Clone, Copy, PartialEq, Eq, Drop)]
+#[derive(Clone, Copy, Drop)]
 pub enum Extension {
     SetTimer,
     PutChar,

@@ -1,7 +1,10 @@
-pub mod Resumed
 pub mod Continues
+pub mod DiskKinds
+pub mod DiskMoves
+pub mod EventCounts
 pub mod Keepable
+pub mod Resumed
 pub mod ResumedSound
-pub mod SavedResumes
 pub mod SavedAccepted
 pub mod SavedForm
+pub mod SavedResumes

@@ -1,4 +1,5 @@
-//! The laws of a run that goes on from a saved state: which pages are approved, and what it prints.
+//! The laws of a run that goes on from a saved state: which pages are approved, and what it prints; and what a run tells of
+//! itself: how many events were made while the machine ran, and which device its disk is behind.
 #![tactic(auto)]
 
 ghost use Rattle.resume_laws.specs.Resumed.{ResumedLaw};
@@ -8,6 +9,8 @@ ghost use Rattle.resume_laws.specs.SavedForm.{SavedFormLaw};
 ghost use Rattle.resume_laws.specs.SavedResumes.{SavedResumesLaw};
 ghost use Rattle.resume_laws.specs.Continues.{AlikeLaw, ContinuesLaw};
 ghost use Rattle.resume_laws.specs.Keepable.{KeepableLaw, KeepsLaw};
+ghost use Rattle.resume_laws.specs.EventCounts.{CountedLaw};
+ghost use Rattle.resume_laws.specs.DiskKinds.{KindLaw};
 
 /// From any sound state, and not from a start alone: each approved page is the kernel's text, as it was there and not
 /// retired, or a loaded module's; and digests that are kept of the text stay right.
@@ -61,4 +64,14 @@ pub fn law_saved_accepted()
 /// go together, and no count is above the number of events.
 pub fn law_saved_form()
     ensures { SavedFormLaw }
+{}
+
+/// The counts of the four kinds of events rise by as many as are made while the machine runs.
+pub fn law_counted()
+    ensures { CountedLaw }
+{}
+
+/// The disk stays behind the device that it was behind.
+pub fn law_kind()
+    ensures { KindLaw }
 {}

@@ -5,12 +5,11 @@ ghost use Rattle.sv_types.specs.Console.{most_queued};
 ghost use Rattle.sv_types.specs.Limits.{most_harts};
 ghost use Rattle.saved_machine.specs.SavedStates.{disk_of};
 ghost use Rattle.snapshot_form.specs.DeviceForms as form;
-ghost use Rattle.disk_port.specs.Ports.{port_disk};
+ghost use Rattle.devices.specs.Ports.{port_disk};
 ghost use Rattle.resumption.specs.ResumedStates.{timers_of};
 ghost use Rattle.resumed_parts.specs.Timing.{timer_in};
 
-use devices::{Block, Devices, NEVER};
-use disk_port::Port;
+use devices::{Block, Devices, NEVER, Port};
 use saved_machine::SavedHart;
 use sv_types::{MOST_HARTS, PortState};
 

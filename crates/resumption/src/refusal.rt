@@ -6,7 +6,7 @@ ghost use Rattle.resumption.specs.Judgements.{refusal_number};
 use thiserror::Error;
 
 /// Why a machine can't go on from a snapshot under a policy: the first judgement that fails.
-#[derive(Clone, Copy, Debug, PartialEq, Eq, Drop, Error)]
+#[derive(Clone, Copy, Debug, Drop, Error)]
 pub enum ResumeRefusal {
     /// Harts, RAM, an entry, a loaded module or the load under way aren't the policy's, or a module's pages aren't in RAM.
     #[error("the snapshot is of a machine under another policy")]

@@ -10,7 +10,7 @@ use snapshot_form::SnapRefusal;
 use sv_types::ImageFault;
 
 /// A file by what it is for.
-#[derive(Clone, Copy, PartialEq, Eq, Drop)]
+#[derive(Clone, Copy, Drop)]
 pub enum Part {
     Flat,
     Policy,

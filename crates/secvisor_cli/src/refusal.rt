@@ -10,7 +10,7 @@ use sv_types::{Digest, Status};
 use text_numbers::{address_text, digest_text};
 
 /// A word by its name.
-#[derive(Clone, Copy, PartialEq, Eq, Drop)]
+#[derive(Clone, Copy, Drop)]
 pub enum Word {
     Measure,
     Script,

@@ -14,7 +14,7 @@ use Rattle.outside.specs.Outside.{FilesState}
 use Rattle.policy.specs.Refusals.{Judged}
 use Rattle.policy.specs.Text.{rules_of_text}
 use Rattle.script.specs.AutoScripts.{events_of_text, first_refused}
-use Rattle.snap_laws.specs.DiskKinds.{is_block_disk}
+use Rattle.resume_laws.specs.DiskKinds.{is_block_disk}
 use Rattle.secvisor_cli.specs.CommandLine.{RunWords, Source, Rounds, Auto, Text}
 use Rattle.secvisor_cli.specs.Plans.{Due, Refuse, RunFrom, Make, Plan, End, Read, Judge, Found, Faulty, Missing, Longer, Held, found_plan, policy_judged, policy_part, part_judged, kernel_part, disk_refusal, disk_part, text_part, script_part, image_measure, start_with, boot_judged, boot_plan, image_plan, run_plan}
 use Rattle.secvisor_cli.specs.Reading.{Follows}

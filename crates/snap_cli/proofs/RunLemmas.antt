@@ -16,10 +16,10 @@ use Rattle.machine_model.specs.Reaches.{IsNew}
 use Rattle.machine_model.specs.StandsFor.{StandsFor, machine_of}
 use Rattle.script.proofs.FirstEvents.{first_few}
 use Rattle.resume_laws.specs.Continues.{drawn_under, draw_count}
-use Rattle.snap_laws.proofs.EventsCounted.{counted_law}
-use Rattle.snap_laws.proofs.KindsStay.{kind_law}
-use Rattle.snap_laws.specs.DiskKinds.{is_block_disk}
-use Rattle.snap_laws.specs.EventCounts.{events_counted}
+use Rattle.resume_laws.proofs.EventsCounted.{counted_law}
+use Rattle.resume_laws.proofs.KindsStay.{kind_law}
+use Rattle.resume_laws.specs.DiskKinds.{is_block_disk}
+use Rattle.resume_laws.specs.EventCounts.{events_counted}
 use Rattle.outside.specs.Outside.{SinkState, after_taking, TookPrefix, BreaksOff}
 use Rattle.outside.proofs.SinkLemmas.{after_taking-append, after_taking-nil, prefix_behind, prefix_of_front, prefix_same, prefix_whole, prefix_none}
 use Rattle.console_run.specs.Console.{HasRun, RunBroke}

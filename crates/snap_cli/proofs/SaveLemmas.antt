@@ -18,7 +18,7 @@ use Rattle.snapshot_form.specs.Typed.{IsTyped}
 use Rattle.snapshot_form.specs.declared.whole.Snapshot.{Snapshot}
 use Rattle.snapshot_form.specs.declared.whole.TextPage.{TextPage}
 use Rattle.resumed_start.specs.TextPages.{digested_text}
-use Rattle.snap_laws.specs.DiskKinds.{is_block_disk}
+use Rattle.resume_laws.specs.DiskKinds.{is_block_disk}
 use Rattle.outside.specs.Outside.{FilesState, SinkState}
 use Rattle.console_run.specs.Standing.{HasState}
 use Rattle.secvisor_cli.specs.Answers.{Writes}

@@ -1,5 +1,8 @@
-pub mod SnapWords
-pub mod SnapReady
+pub mod BlockRuns
+pub mod CountRuns
 pub mod SnapAnswers
-pub mod Spelling
 pub mod SnapEnds
+pub mod SnapFile
+pub mod SnapReady
+pub mod SnapWords
+pub mod Spelling

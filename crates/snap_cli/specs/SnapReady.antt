@@ -5,7 +5,7 @@ use Rattle.reference.specs.States.{State}
 use Rattle.machine_model.specs.Machine.{Machine}
 use Rattle.machine_model.specs.Reaches.{IsNew}
 use Rattle.outside.specs.Outside.{FilesState}
-use Rattle.snap_laws.specs.DiskKinds.{is_block_disk}
+use Rattle.resume_laws.specs.DiskKinds.{is_block_disk}
 use Rattle.secvisor_cli.specs.Plans.{Due, Refuse, RunFrom, Make, Plan}
 use Rattle.secvisor_cli.specs.Reading.{Follows}
 use Rattle.secvisor_cli.specs.Ready.{IsFresh}

@@ -8,7 +8,7 @@ use Rattle.snapshot_form.specs.Snapshots.{contents, snapshot}
 use Rattle.snapshot_form.specs.Typed.{IsTyped}
 use Rattle.snapshot_form.specs.declared.whole.Snapshot.{Snapshot}
 use Rattle.snapshot_form.specs.declared.whole.TextPage.{TextPage}
-use Rattle.snap_laws.specs.EventCounts.{events_counted}
+use Rattle.resume_laws.specs.EventCounts.{events_counted}
 use Rattle.outside.specs.Outside.{FilesState}
 use Rattle.secvisor_cli.specs.Answers.{AfterSave}
 use Rattle.outside.specs.declared.trouble.Trouble.{Trouble}

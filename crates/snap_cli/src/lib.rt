@@ -1,4 +1,5 @@
-//! The command `snap`: a run up to a number of events, whose machine is saved as a snapshot.
+//! The command `snap`: a run up to a number of events, whose machine is saved as a snapshot; and what every run keeps, so that
+//! these bytes are read again as they were.
 #![tactic(auto)]
 
 mod answer;
@@ -9,4 +10,4 @@ mod text;
 mod words;
 
 pub use answer::secvisor_snap;
-pub use laws::law_snap_ends;
+pub use laws::{law_block, law_counts, law_snap_ends, law_snap_file};

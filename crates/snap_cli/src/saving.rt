@@ -1,7 +1,7 @@
 // A machine, saved as a snapshot.
 ghost use Rattle.std.specs.Prelude.{◌≡◌, ◌<◌, ◌-◌, ◌^◌, [], ◌∷◌, true, Some, IfOk, IsTrue};
-ghost use Rattle.snap_laws.specs.DiskKinds.{is_block_disk};
-ghost use Rattle.snap_laws.specs.EventCounts.{events_counted};
+ghost use Rattle.resume_laws.specs.DiskKinds.{is_block_disk};
+ghost use Rattle.resume_laws.specs.EventCounts.{events_counted};
 ghost use Rattle.console_run.specs.Standing.{HasState};
 ghost use Rattle.secvisor_cli.specs.Answers.{AfterSave};
 ghost use Rattle.secvisor_cli.specs.Plans.{Exactly};

@@ -6,7 +6,7 @@ ghost use Rattle.snapshot_form.specs.Refusals.{refusal_number};
 use thiserror::Error;
 
 /// Why bytes are no snapshot: what is met first from left to right.
-#[derive(Clone, Copy, Debug, PartialEq, Eq, Drop, Error)]
+#[derive(Clone, Copy, Debug, Drop, Error)]
 pub enum SnapRefusal {
     /// There are more than 1,300 MiB.
     #[error("the snapshot is longer than 1300 MiB")]

@@ -11,7 +11,7 @@ use Rattle.sv_types.specs.Views.{OfKernel, OfUser, OfEntry, with_ram, view_hgatp
 use Rattle.processor.specs.declared.mode.Mode.{Mode}
 use Rattle.processor.specs.declared.mode.Mode.TheVariants.{Kernel, User}
 use Rattle.sv_types.specs.declared.view.View.TheVariants as View
-use Rattle.view_laws.proofs.Views.{view_walks_apart}
+use Rattle.attempt_laws.proofs.Views.{view_walks_apart}
 use Rattle.reference.specs.Protections.{or_free, protection_at}
 use Rattle.reference.specs.States.{State, Hart, Binding, binding_of, binding_at, protection_in}
 use Rattle.reference.specs.Soundness.{IsSound, IsSoundEntry}

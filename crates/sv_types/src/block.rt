@@ -19,7 +19,7 @@ pub const BLOCK_COMMAND: u64 = 0x14;
 pub const BLOCK_STATUS: u64 = 0x18;
 
 /// What the device is told to do.
-#[derive(Clone, Copy, PartialEq, Eq, Drop)]
+#[derive(Clone, Copy, Drop)]
 pub enum BlockCommand {
     /// Sectors go from the disk to memory.
     DiskToMemory,
@@ -28,7 +28,7 @@ pub enum BlockCommand {
 }
 
 /// How the device stands.
-#[derive(Clone, Copy, PartialEq, Eq, Drop)]
+#[derive(Clone, Copy, Drop)]
 pub enum BlockStatus {
     /// No transfer was made since the status was cleared.
     Idle,

@@ -29,7 +29,7 @@ pub enum Event {
 }
 
 /// One line of the machine's journal.
-#[derive(Clone, Copy, PartialEq, Eq, Drop)]
+#[derive(Clone, Copy, Drop)]
 pub enum Note {
     /// A hart left kernel mode, since its next instruction isn't approved.
     Demote {
@@ -65,7 +65,7 @@ pub enum Note {
 }
 
 /// How often each thing happened.
-#[derive(Clone, Copy, Default, PartialEq, Eq, Drop)]
+#[derive(Clone, Copy, Default, Drop)]
 pub struct Counts {
     pub turns: u64,
     pub beats: u64,

@@ -4,7 +4,7 @@ ghost use Rattle.std.specs.Prelude.{◌≡◌};
 ghost use Rattle.sv_types.specs.ImageFaults.{header_fault_number, image_fault_number};
 
 /// What is wrong with the header of an ELF-64 file, of a kernel or of a module.
-#[derive(Clone, Copy, Debug, PartialEq, Eq, Drop)]
+#[derive(Clone, Copy, Debug, Drop)]
 pub enum HeaderFault {
     /// The file is shorter than a header.
     TooShort,
@@ -23,7 +23,7 @@ pub enum HeaderFault {
 }
 
 /// What is wrong with the file of a kernel, or with the exports that are wanted of it.
-#[derive(Clone, Copy, Debug, PartialEq, Eq, Drop)]
+#[derive(Clone, Copy, Debug, Drop)]
 pub enum ImageFault {
     /// The file's header has a fault.
     Header(HeaderFault),

@@ -3,7 +3,7 @@
 use crate::relocation_kind::RelocationKind;
 
 /// A run of RAM pages: the number of the first, and how many.
-#[derive(Clone, Copy, PartialEq, Eq, Drop)]
+#[derive(Clone, Copy, Drop)]
 pub struct Span {
     pub first: u32,
     pub count: u32,

@@ -1,7 +1,7 @@
 // How pages are guarded.
 
 /// How a page of RAM is guarded.
-#[derive(Clone, Copy, PartialEq, Eq, Drop)]
+#[derive(Clone, Copy, Drop)]
 pub enum Protection {
     Free,
     Held,

@@ -27,7 +27,7 @@ pub struct VirtioDescriptor {
 }
 
 /// What a request came to, as the device tells the driver. VIRTIO 1.2, "Device Operation" of the block device.
-#[derive(Clone, Copy, PartialEq, Eq, Drop)]
+#[derive(Clone, Copy, Drop)]
 pub enum VirtioResult {
     /// Its data was moved.
     Done,
@@ -121,7 +121,7 @@ pub enum VirtioMove {
 }
 
 /// A register of a virtio device over MMIO, and the two of the block device's configuration.
-#[derive(Clone, Copy, PartialEq, Eq, Drop)]
+#[derive(Clone, Copy, Drop)]
 pub enum VirtioRegister {
     MagicValue,
     Version,

@@ -1,3 +1,4 @@
+pub mod DeviceAnswers
 pub mod Entered
 pub mod Places
 pub mod Sret

@@ -1,3 +1,4 @@
+pub mod Accessed
 pub mod Answered
 pub mod Possible
 pub mod Seen

@@ -6,7 +6,7 @@ ghost use Rattle.devices.specs.BlockRegisters.{register_named, width_of};
 use sv_types::{BLOCK_ADDRESS, BLOCK_COMMAND, BLOCK_COUNT, BLOCK_SECTOR, BLOCK_STATUS};
 
 /// A register of the device.
-#[derive(Clone, Copy, Debug, PartialEq, Eq, Drop)]
+#[derive(Clone, Copy, Debug, Drop)]
 pub enum Register {
     /// The first sector of a transfer.
     Sector,

@@ -1,5 +1,5 @@
 use Rattle.std.proofs.Common.{ℕ, List, length, ap, arith}
-use Rattle.live_drive.proofs.MadeEvents.{may_write}
+use Rattle.live_cli.proofs.MadeEvents.{may_write}
 use Rattle.live_cli.proofs.LiveLemmas.{runs_live}
 use Rattle.live_cli.proofs.answer.carry_out.Goals as goal
 

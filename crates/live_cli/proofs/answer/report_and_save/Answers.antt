@@ -2,7 +2,7 @@ use Rattle.std.proofs.Common.{ℕ, List, refl, subst, string_bytes, Some, Result
 use Rattle.sv_types.specs.declared.status.Status.{Status}
 use Rattle.sv_types.specs.Output.{run_status}
 use Rattle.console_run.specs.Standing.{machine_output}
-use Rattle.live_drive.specs.LiveRuns.{harts_of, events_made}
+use Rattle.live_cli.specs.LiveRuns.{harts_of, events_made}
 use Rattle.outside.specs.declared.trouble.Trouble.{Trouble}
 use Rattle.outside.specs.declared.trouble.Trouble.TheVariants.{Memory}
 use Rattle.secvisor_cli.specs.Answers.{Writes, AfterSave}

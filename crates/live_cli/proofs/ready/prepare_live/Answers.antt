@@ -4,7 +4,7 @@ use Rattle.secvisor_cli.specs.declared.ready.Stop.TheVariants.{Refused, Memory}
 use Rattle.secvisor_cli.specs.Plans.{run_plan}
 use Rattle.secvisor_cli.specs.Ready.{Prepares, DrawsFrom}
 use Rattle.secvisor_cli.proofs.ReadyLemmas.{err_by}
-use Rattle.live_drive.specs.LiveRuns.{harts_of}
+use Rattle.live_cli.specs.LiveRuns.{harts_of}
 use Rattle.live_cli.specs.LiveWords.{live_judged, live_plan, live_value}
 use Rattle.live_cli.specs.LiveReady.{PreparesLive}
 use Rattle.live_cli.proofs.ReadyLemmas.{live_refused, live_wants, live_may, live_stopped, live_prepared, fresh_way}

@@ -1,6 +1,6 @@
 use Rattle.std.proofs.Common.{◌∙◌, ap, refl}
 use Rattle.snapshot_form.specs.declared.whole.Snapshot.{Snapshot}
-use Rattle.snap_laws.specs.EventCounts.{events_counted}
+use Rattle.resume_laws.specs.EventCounts.{events_counted}
 use Rattle.snap_cli.proofs.SaveLemmas.{port_is_block, spells}
 use Rattle.snap_cli.proofs.saving.snapshot_bytes.Goals as goal
 

@@ -1,4 +1,4 @@
-use Rattle.disk_port.specs.Ports.{port_disk}
+use Rattle.devices.specs.Ports.{port_disk}
 use Rattle.sv_types.specs.Policies.{rules_of}
 use Rattle.machine.proofs.NewFit.{image_fit, read_placed}
 use Rattle.machine.proofs.machine.Machine.boot_behind.Goals as goal

@@ -5,8 +5,8 @@ use Rattle.machine_model.specs.Machine.{Machine}
 use Rattle.reference.specs.Devices.{lines_at}
 use Rattle.machine.proofs.Called.{harts_number}
 use Rattle.machine.specs.Attempts.{hart_in, IsReady}
-use Rattle.hart_caches.specs.Usable.{AreUsable}
-use Rattle.hart_caches.specs.declared.caches.HartCaches.{HartCaches}
+use Rattle.reach.specs.Usable.{AreUsable}
+use Rattle.reach.specs.declared.caches.HartCaches.{HartCaches}
 use Rattle.machine.proofs.parts.Parts.attempt.Goals as goal
 
 pub invariant_of-wires : goal.invariant_of-wires

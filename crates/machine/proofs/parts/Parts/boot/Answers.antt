@@ -1,4 +1,4 @@
-use Rattle.disk_port.specs.Ports.{port_disk}
+use Rattle.devices.specs.Ports.{port_disk}
 use Rattle.sv_types.specs.Policies.{rules_of}
 use Rattle.machine.proofs.ImageStarting.{image_new}
 use Rattle.machine.proofs.parts.Parts.boot.Goals as goal

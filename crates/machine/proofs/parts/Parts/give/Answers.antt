@@ -11,10 +11,10 @@ use Rattle.reference.specs.Counting.{MayCount}
 use Rattle.sv_types.specs.Limits.{most_printed}
 use Rattle.sv_types.specs.Policies.{rules_within}
 use Rattle.machine.proofs.Called.{harts_number, seat_below}
-use Rattle.hart_caches.proofs.Emptied.{usable_after}
+use Rattle.reach.proofs.Emptied.{usable_after}
 use Rattle.machine.proofs.Given.{given_in, gives, left_parts}
-use Rattle.hart_caches.specs.Usable.{AreUsable}
-use Rattle.hart_caches.specs.declared.caches.HartCaches.{HartCaches}
+use Rattle.reach.specs.Usable.{AreUsable}
+use Rattle.reach.specs.declared.caches.HartCaches.{HartCaches}
 use Rattle.machine.specs.Parts.{machine_of_parts}
 use Rattle.machine.proofs.parts.Parts.give.Goals as goal
 

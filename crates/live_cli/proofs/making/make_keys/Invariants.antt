@@ -1,0 +1,17 @@
+use Rattle.std.proofs.Common.{◌≡◌, ◌≢◌, ◌-◌, length}
+use Rattle.sv_types.specs.declared.event.Verdict.TheVariants.{Running}
+use Rattle.live_keys.specs.Line.{most_keys}
+use Rattle.live_cli.specs.Drives.{Driven, StaysUnderWay}
+use Rattle.live_cli.proofs.making.make_keys.Given as goal
+
+abbrev pub invariant-keys : goal.invariant-keys
+invariant-keys g l = record {
+  on : Driven l.initial.live l.live (g.O.Sink.state l.initial.out) (g.O.Sink.state l.out);
+  stays : StaysUnderWay l.initial.live l.live;
+  script : l.live.script ≡ l.initial.live.script;
+  autos : l.live.journal.autos ≡ l.initial.live.journal.autos;
+  ended : l.initial.live.machine.journal.verdict ≢ Running → l.live.machine.journal.verdict ≢ Running;
+}
+
+abbrev pub decreases-keys : goal.decreases-keys
+decreases-keys g l = most_keys - length l.live.taker.bytes

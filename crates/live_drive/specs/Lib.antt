@@ -1,3 +1,0 @@
-pub mod LiveRuns
-pub mod Drives
-pub mod Inputs

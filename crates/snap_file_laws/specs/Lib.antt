@@ -1,3 +1,0 @@
-pub mod BlockRuns
-pub mod CountRuns
-pub mod SnapFile

@@ -1,3 +1,0 @@
-pub mod EventsCounted
-pub mod DiskWalk
-pub mod KindsStay

@@ -1,3 +1,0 @@
-pub mod EventCounts
-pub mod DiskKinds
-pub mod DiskMoves

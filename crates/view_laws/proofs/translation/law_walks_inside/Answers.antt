@@ -1,5 +1,0 @@
-use Rattle.view_laws.proofs.Views.{view_walks_inside}
-use Rattle.view_laws.proofs.translation.law_walks_inside.Goals as goal
-
-pub returns : goal.returns
-returns c = view_walks_inside
