@@ -2,7 +2,7 @@ use Rattle.std.proofs.Common.{◌≡◌, ℕ, ◌*◌, List, length, ◌∙◌, 
 use Rattle.processor.specs.Bytes.{page_size}
 use Rattle.sv_types.specs.Views.{AreViews, protect, all_free}
 use Rattle.sv_types.specs.declared.protection.Protection.TheVariants.{Approved}
-use Rattle.machine_tests.proofs.attempts.draw_views.Goals as goal
+use Rattle.part_tests.proofs.attempts.draw_views.Goals as goal
 
 pub returns-clause-views : goal.returns-clause-views
 returns-clause-views c =

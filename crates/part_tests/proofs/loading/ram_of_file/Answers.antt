@@ -2,7 +2,7 @@ use Rattle.std.proofs.Common.{ap}
 use Rattle.processor.specs.Regions.{Region}
 use Rattle.elf64_load.specs.Images.{segments_of}
 use Rattle.image_loader.proofs.Accepted.{image_placed}
-use Rattle.file_tests.proofs.loading.ram_of_file.Goals as goal
+use Rattle.part_tests.proofs.loading.ram_of_file.Goals as goal
 
 pub fill_ram-requires-clause-zeros : goal.fill_ram-requires-clause-zeros
 fill_ram-requires-clause-zeros c = ap (λ (r : Region). r.ram) c.in_ok-mem.ensures

@@ -1,8 +1,8 @@
 use Rattle.sv_types.specs.Views.{protect, all_free}
 use Rattle.sv_types.specs.declared.protection.Protection.TheVariants.{Approved}
 use Rattle.gstage_cache.proofs.Lines.{none_agrees}
-use Rattle.machine_tests.proofs.Roots.{roots_walk_apart}
-use Rattle.machine_tests.proofs.attempts.attempt_once.Goals as goal
+use Rattle.part_tests.proofs.Roots.{roots_walk_apart}
+use Rattle.part_tests.proofs.attempts.attempt_once.Goals as goal
 
 pub attempt-outcome-requires-clause-apart : goal.attempt-outcome-requires-clause-apart
 attempt-outcome-requires-clause-apart g c =

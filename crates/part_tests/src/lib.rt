@@ -1,0 +1,33 @@
+//! Tests of parts that stand in several crates: registers, traps, walks and attempts of a hart, and requests of the virtio block
+//! device, by rows of their standards; measures, kernel images and module objects, the generated guest, the events of scripts,
+//! and the files of the operating system.
+#![tactic(auto)]
+
+#[cfg(test)]
+mod attempts;
+#[cfg(test)]
+mod fields;
+#[cfg(test)]
+mod generated;
+#[cfg(test)]
+mod images;
+#[cfg(test)]
+mod loading;
+#[cfg(test)]
+mod measures;
+#[cfg(test)]
+mod modes;
+#[cfg(test)]
+mod objects;
+#[cfg(test)]
+mod real;
+#[cfg(test)]
+mod registers;
+#[cfg(test)]
+mod scripts;
+#[cfg(test)]
+mod traps;
+#[cfg(test)]
+mod virtio;
+#[cfg(test)]
+mod walks;
