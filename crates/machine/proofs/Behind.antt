@@ -31,14 +31,15 @@ use Rattle.quick_turns.specs.Rows.{Leaves, LeavesBy, call_exit, return_exit}
 use Rattle.quick_turns.specs.declared.leaving.Leaving.{Leaving}
 use Rattle.quick_turns.specs.declared.leaving.Leaving.TheVariants.{Stays, Calls, Returns}
 use Rattle.machine.proofs.Repeated.{counts_within}
-use Rattle.machine.proofs.Rows.{Rowed, one_step, row_printed, row_verdict, rowed, still_there, there_updated, updated_twice}
+use Rattle.machine.proofs.Rows.{Rowed, one_step, rowed}
+use Rattle.machine_parts.proofs.Rows.{row_printed, row_verdict, still_there, there_updated, updated_twice}
 use Rattle.machine.proofs.Stepped.{Bounded}
-use Rattle.machine.proofs.Turns.{carried, exit_served, turn_served}
-use Rattle.machine.specs.Attempts.{hart_in}
+use Rattle.machine_parts.proofs.Turns.{carried, exit_served, turn_served}
+use Rattle.machine_parts.specs.Attempts.{hart_in}
 use Rattle.machine.specs.Limits.{most_counts}
 use Rattle.machine.specs.Machines.{HaveAddresses}
-use Rattle.machine.specs.Rows.{AnswersLeaving, EndsRow, MayRow, after_row, call_answer, counted_leaving, counted_row}
-use Rattle.machine.specs.Turns.{MayTrap, answered_exit}
+use Rattle.machine_parts.specs.Rows.{AnswersLeaving, EndsRow, MayRow, after_row, call_answer, counted_leaving, counted_row}
+use Rattle.machine_parts.specs.Turns.{MayTrap, answered_exit}
 use Rattle.answer_laws.proofs.TurnsServed.{forgets_none}
 
 -- ---- what is answered, whatever entry the hart is in

@@ -14,7 +14,7 @@ use Rattle.saved_machine.specs.declared.whole.Saved.{Saved}
 use Rattle.hart_answers.specs.Hosts.{host_at, hosts_of}
 use Rattle.hart_answers.specs.declared.seats.Seat.{Seat}
 use Rattle.machine.specs.Machines.{HasAddress, HaveAddresses}
-use Rattle.machine.proofs.Hosts.{host_there}
+use Rattle.machine_parts.proofs.Hosts.{host_there}
 use Rattle.machine.specs.Keeping.{AreKeepable, IsKeepable, gpa_behind, kept_hart, kept_harts, kept_load, IsKept}
 use Rattle.machine_model.proofs.Sides.{same_mode}
 

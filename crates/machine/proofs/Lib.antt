@@ -2,12 +2,6 @@ pub mod BoundPages
 pub mod Starting
 pub mod ImageStarting
 pub mod NewFit
-pub mod Hosts
-pub mod Turns
-pub mod Seated
-pub mod Called
-pub mod Given
-pub mod BeatsFit
 pub mod Ready
 pub mod Stepped
 pub mod Repeated

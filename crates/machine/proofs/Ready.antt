@@ -37,9 +37,9 @@ use Rattle.standing_laws.proofs.Standings.{hart_in_may_attempt, in_order}
 use Rattle.standing_laws.proofs.Loads.{loaded_approved, loading_held}
 use Rattle.standing_laws.specs.Laws.{HoldsItsPages}
 use Rattle.module_answers.specs.Conditions.{IsHeld}
-use Rattle.machine.proofs.Turns.{hart_there, left_below, quiet_served, turn_served}
-use Rattle.machine.specs.Attempts.{hart_in, nobody}
-use Rattle.machine.specs.Turns.{Attempts, Finished, IsGuarded, IsReadyAt, MayTurn, asked_of}
+use Rattle.machine_parts.proofs.Turns.{hart_there, left_below, quiet_served, turn_served}
+use Rattle.machine_parts.specs.Attempts.{hart_in, nobody}
+use Rattle.machine_parts.specs.Turns.{Attempts, Finished, IsGuarded, IsReadyAt, MayTurn, asked_of}
 
 -- ---- modules
 

@@ -22,9 +22,9 @@ use Rattle.machine_model.specs.Steps.{IsStep, Steps, StepsUnder}
 use Rattle.machine_model.specs.declared.exits.ExitAnswer.{ExitAnswer}
 use Rattle.quick_turns.specs.declared.leaving.Leaving.{Leaving}
 use Rattle.quick_turns.specs.declared.leaving.Leaving.TheVariants.{Stays, Calls, Returns}
-use Rattle.machine.proofs.Rows.{changed_free, map_none}
-use Rattle.machine.specs.Attempts.{hart_in}
-use Rattle.machine.specs.Rows.{AnswersLeaving, AreFree, AreFreeWhere, call_answer, counted_leaving, reserves_nothing}
+use Rattle.machine_parts.proofs.Rows.{changed_free, map_none}
+use Rattle.machine_parts.specs.Attempts.{hart_in}
+use Rattle.machine_parts.specs.Rows.{AnswersLeaving, AreFree, AreFreeWhere, call_answer, counted_leaving, reserves_nothing}
 
 moved_free : (m : Machine) (move : Move) → AreFree m.harts → AreFree (after_host_move m move).harts
 unfolding after_host_move

@@ -4,7 +4,7 @@ use Rattle.sv_types.specs.Clock.{Clock, timer_of}
 use Rattle.processor.specs.HypervisorRegisters.{at_guest_places}
 use Rattle.machine_model.specs.Machine.{Machine, HostHart, HostLoad}
 use Rattle.saved_machine.specs.SavedStates.{gpa_at, disk_of}
-use Rattle.machine.specs.Attempts.{hart_in}
+use Rattle.machine_parts.specs.Attempts.{hart_in}
 use Rattle.saved_machine.specs.declared.harts.SavedHart.{SavedHart}
 use Rattle.saved_machine.specs.declared.whole.Saved.{Saved}
 use Rattle.saved_machine.specs.declared.whole.SavedLoad.{SavedLoad}

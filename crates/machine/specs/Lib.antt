@@ -1,11 +1,6 @@
-pub mod Attempts
-pub mod Beats
 pub mod Boot
 pub mod Keeping
 pub mod Limits
 pub mod Machines
-pub mod Parts
 pub mod Repeats
-pub mod Turns
-pub mod Rows
 pub mod Resumed

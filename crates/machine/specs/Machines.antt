@@ -3,7 +3,7 @@ use Rattle.std.specs.Prelude.{◌+◌, ◌*◌, ◌^◌, ◌<◌, ◌≤◌, ℕ
 use Rattle.reference.specs.States.{State, Hart}
 use Rattle.machine_model.specs.StandsFor.{StandsFor}
 use Rattle.saved_machine.specs.SavedStates.{gpa_at}
-use Rattle.machine.specs.Rows.{AreFreeWhere}
+use Rattle.machine_parts.specs.Rows.{AreFreeWhere}
 use Rattle.machine.specs.declared.machine.Machine.TheInside.{Inside}
 
 -- the guest-physical address of a reservation is a number of 64 bits

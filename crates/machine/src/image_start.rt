@@ -20,44 +20,42 @@ ghost use Rattle.standing_laws.specs.Starts.{image_machine, image_protections, j
 ghost use Rattle.machine.specs.Boot.{IsImageOf, image_text, RefusesFlat, RefusesImage};
 
 use crate::boot::BootRefusal;
-use crate::parts::Parts;
-use crate::start::judge_measure;
+use crate::start::{at_boot, judge_measure};
 use devices::Port;
 use elf64_load::KernelImage;
 use gstage_tables::Trees;
 use host_mem::HostMem;
 use image_loader::{approve_text, fill_ram};
+use machine_parts::Parts;
 use page_guard::Guard;
 use processor::page_of;
 use std::alloc::{AllocError, Global};
 use std::thread::Threads;
 use sv_types::{Digest, Policy};
 
-impl Parts {
-    /// A machine of a kernel's image under a policy: the image's segments in RAM, its text approved, and hart 0 at its
-    /// entry. First the text is measured against the policy, and the entry has to be one of the policy's.
-    #[tactic(auto, unfolding(standing_laws::specs::Starts::machine_at_boot, standing_laws::specs::Starts::image_machine))]
-    pub(crate) fn boot<R: Threads + Sync>(
-        rt: &R,
-        alloc: Global,
-        image: &KernelImage,
-        policy: Policy,
-        port: Port,
-    ) -> Result<Parts, BootRefusal>
-        requires within { IsTrue (rules_within (rules_of policy)) }
-        requires placed { ArePlaced policy.ram_pages (segments_of image.now) }
-        requires quiet { IsSoundDisk (port_disk port) }
-        ensures made { IfOk result (λ p. p ≡ image_machine p.region.tables (rules_of policy) image.now.entry (segments_of image.now) (port_disk port)) }
-        ensures new { (file : List ℕ) → IsImageOf file policy.ram_pages image.now → IfOk result (λ p. IsNew p (image_start (rules_of policy) file (port_disk port))) }
-        ensures journal { IfOk result (λ p. p.journal ≡ journal_at_boot) }
-        ensures guarded { IfOk result IsGuarded }
-        ensures measured { OnOk result (measure (image_text image.now) ≡ policy.kernel) }
-        ensures permitted { OnOk result (has_number policy.entries.items image.now.entry ≡ true) }
-        ensures refused { IfErr result (RefusesImage image.now (rules_of policy)) }
-    {
-        judge_image(rt, alloc, image, &policy)?;
-        Ok(assemble(alloc, image, policy, port)?)
-    }
+/// A machine of a kernel's image under a policy: the image's segments in RAM, its text approved, and hart 0 at its
+/// entry. First the text is measured against the policy, and the entry has to be one of the policy's.
+#[tactic(auto, unfolding(standing_laws::specs::Starts::machine_at_boot, standing_laws::specs::Starts::image_machine))]
+pub(crate) fn boot<R: Threads + Sync>(
+    rt: &R,
+    alloc: Global,
+    image: &KernelImage,
+    policy: Policy,
+    port: Port,
+) -> Result<Parts, BootRefusal>
+    requires within { IsTrue (rules_within (rules_of policy)) }
+    requires placed { ArePlaced policy.ram_pages (segments_of image.now) }
+    requires quiet { IsSoundDisk (port_disk port) }
+    ensures made { IfOk result (λ p. p ≡ image_machine p.region.tables (rules_of policy) image.now.entry (segments_of image.now) (port_disk port)) }
+    ensures new { (file : List ℕ) → IsImageOf file policy.ram_pages image.now → IfOk result (λ p. IsNew p (image_start (rules_of policy) file (port_disk port))) }
+    ensures journal { IfOk result (λ p. p.journal ≡ journal_at_boot) }
+    ensures guarded { IfOk result IsGuarded }
+    ensures measured { OnOk result (measure (image_text image.now) ≡ policy.kernel) }
+    ensures permitted { OnOk result (has_number policy.entries.items image.now.entry ≡ true) }
+    ensures refused { IfErr result (RefusesImage image.now (rules_of policy)) }
+{
+    judge_image(rt, alloc, image, &policy)?;
+    Ok(assemble(alloc, image, policy, port)?)
 }
 
 // The text has the policy's measure, and the entry is permitted.
@@ -121,7 +119,7 @@ fn assemble(
 {
     let GuardedMem { mem, guard } = guarded_mem(alloc, image, &policy)?;
     let _tables = mem.table_bytes();
-    Parts::at_boot(alloc, policy, mem, guard, port, image.entry)
+    at_boot(alloc, policy, mem, guard, port, image.entry)
 }
 
 // A region with the image's segments, and the guard of its pages.

@@ -13,10 +13,10 @@ ghost use Rattle.machine_model.specs.Reaches.{Cleared};
 ghost use Rattle.machine_model.specs.StandsFor.{StandsFor};
 ghost use Rattle.machine.specs.Limits.{most_counts};
 ghost use Rattle.machine.specs.Repeats.{Made, MadeInRow, Makes, MayMake, Repeats};
-ghost use Rattle.machine.specs.Rows.{AreFree, MayRow, reserves_nothing};
+ghost use Rattle.machine_parts.specs.Rows.{AreFree, MayRow, reserves_nothing};
 ghost use Rattle.quick_turns.specs.Ends.{turns_of};
 
-use crate::parts::Parts;
+use machine_parts::Parts;
 use quick_turns::Row;
 use std::marker::Model;
 use sv_types::{Counts, Event, Note, Verdict};

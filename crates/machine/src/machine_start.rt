@@ -15,8 +15,9 @@ ghost use Rattle.standing_laws.specs.Starts.{journal_at_boot};
 ghost use Rattle.machine.specs.Boot.{IsImageOf, IsRead, image_text, RefusesFlat, RefusesImage};
 
 use crate::boot::BootRefusal;
+use crate::image_start::boot;
 use crate::machine::Machine;
-use crate::parts::Parts;
+use crate::start::flat;
 use devices::Port;
 use elf64_load::KernelImage;
 use std::alloc::Global;
@@ -40,7 +41,7 @@ impl Machine {
         ensures measured { OnOk result (measure pages.now ≡ wanted) }
         ensures refused { IfErr result (RefusesFlat pages.now wanted) }
     {
-        let parts = Parts::flat(rt, alloc, pages, wanted)?;
+        let parts = flat(rt, alloc, pages, wanted)?;
         Ok(Machine {
             parts,
             none_reserved: false,
@@ -106,7 +107,7 @@ impl Machine {
         ensures permitted { OnOk result (has_number policy.entries.items image.now.entry ≡ true) }
         ensures refused { IfErr result (RefusesImage image.now (rules_of policy)) }
     {
-        let parts = Parts::boot(rt, alloc, image, policy, port)?;
+        let parts = boot(rt, alloc, image, policy, port)?;
         Ok(Machine {
             parts,
             none_reserved: false,

@@ -16,9 +16,9 @@ ghost use Rattle.machine.specs.declared.resume.ResumeFailure.TheVariants.{Memory
 
 use crate::image_start::bound_pages;
 use crate::machine::Machine;
-use crate::parts::Parts;
 use crate::start::Idle;
 use hart::Cpu;
+use machine_parts::Parts;
 use quick_turns::Words;
 use reach::HartCaches;
 use resume_laws::law_resumed_sound;
@@ -67,7 +67,7 @@ impl Machine {
         entries_are_words(&policy.entries);
         law_resumed_start();
         law_resumed_sound();
-        let parts = Parts::resume(alloc, snapshot, policy)?;
+        let parts = resume(alloc, snapshot, policy)?;
         Ok(Machine {
             parts,
             none_reserved: false,
@@ -124,49 +124,43 @@ impl Beside {
     }
 }
 
-impl Parts {
-    /// The parts that go on of a snapshot that isn't refused, with empty caches, before the first attempt.
-    pub(crate) fn resume(
-        alloc: Global,
-        snapshot: Snapshot,
-        policy: Policy,
-    ) -> Result<Parts, AllocError>
-        requires within { IsTrue (rules_within (rules_of policy)) }
-        requires form { form.snapshot.has (form.contents snapshot) ≡ true }
-        requires accepted { resume_refusal (rules_of policy) (form.contents snapshot) ≡ None }
-        ensures made { IfOk result (λ p. p ≡ resumed_machine p.region.tables (rules_of policy) (form.contents snapshot)) }
-        ensures guarded { IfOk result IsGuarded }
-    {
-        let Beside {
-            caches,
-            cpu,
-            words,
-            bound,
-        } = Beside::new(alloc, &policy)?;
-        let ResumedParts {
-            mem,
-            guard,
-            entries,
-            seats,
-            modules,
-            devices,
-            journal,
-        } = resume_parts(alloc, snapshot, &policy, &bound)?;
-        let _tables = mem.table_bytes();
-        Ok(Parts {
-            policy,
-            entries,
-            mem,
-            seats,
-            caches,
-            guard,
-            modules,
-            devices,
-            journal,
-            cpu,
-            words,
-            row_attempts: 0,
-            cleared: 0,
-        })
-    }
+// The parts that go on of a snapshot that isn't refused, with empty caches, before the first attempt.
+fn resume(alloc: Global, snapshot: Snapshot, policy: Policy) -> Result<Parts, AllocError>
+    requires within { IsTrue (rules_within (rules_of policy)) }
+    requires form { form.snapshot.has (form.contents snapshot) ≡ true }
+    requires accepted { resume_refusal (rules_of policy) (form.contents snapshot) ≡ None }
+    ensures made { IfOk result (λ p. p ≡ resumed_machine p.region.tables (rules_of policy) (form.contents snapshot)) }
+    ensures guarded { IfOk result IsGuarded }
+{
+    let Beside {
+        caches,
+        cpu,
+        words,
+        bound,
+    } = Beside::new(alloc, &policy)?;
+    let ResumedParts {
+        mem,
+        guard,
+        entries,
+        seats,
+        modules,
+        devices,
+        journal,
+    } = resume_parts(alloc, snapshot, &policy, &bound)?;
+    let _tables = mem.table_bytes();
+    Ok(Parts {
+        policy,
+        entries,
+        mem,
+        seats,
+        caches,
+        guard,
+        modules,
+        devices,
+        journal,
+        cpu,
+        words,
+        row_attempts: 0,
+        cleared: 0,
+    })
 }

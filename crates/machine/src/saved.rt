@@ -10,10 +10,10 @@ ghost use Rattle.saved_machine.specs.SavedStates.{IsSaved};
 ghost use Rattle.machine.specs.Keeping.{gpa_behind, AreKeepable, IsKeepable, kept_hart, kept_harts, kept_load, IsKept};
 
 use crate::machine::Machine;
-use crate::parts::Parts;
 use csr_file::at_guest_places;
 use devices::{Devices, Port};
 use hart_answers::Seat;
+use machine_parts::Parts;
 use module_answers::Modules;
 use processor::RAM_BASE;
 use saved_machine::{Saved, SavedHart, SavedLoad};
@@ -24,39 +24,37 @@ impl Machine {
     pub fn saved(&self, alloc: Global) -> Result<Saved, AllocError>
         ensures state { IfOk result (λ s. (r : State) → StandsFor self.now r → IsSaved r s) }
     {
-        self.parts.saved(alloc)
+        saved(&self.parts, alloc)
     }
 }
 
-impl Parts {
-    /// The parts that the guest's state lies in, as plain data.
-    pub(crate) fn saved(&self, alloc: Global) -> Result<Saved, AllocError>
-        requires { AreKeepable (length self.now.region.tables) self.now.harts }
-        ensures { IfOk result (IsKept self.now) }
-    {
-        let harts = saved_harts(alloc, &self.seats, &self.devices, self.mem.table_bytes())?;
-        let ram = self.mem.ram().to_vec(alloc)?;
-        let protection = self.guard.protections().to_vec(alloc)?;
-        let modules = self.modules.gate.loaded().to_vec(alloc)?;
-        let console = self.devices.input().to_vec(alloc)?;
-        let disk = self.devices.disk().to_vec(alloc)?;
-        let notes = self.journal.notes().to_vec(alloc)?;
-        Ok(Saved {
-            harts,
-            ram,
-            protection,
-            modules,
-            retired: self.modules.gate.retired(),
-            loading: saved_loading(&self.modules),
-            console,
-            port: self.devices.port().state(),
-            disk,
-            time: self.devices.time(),
-            counts: self.journal.counts(),
-            notes,
-            verdict: self.journal.verdict(),
-        })
-    }
+// The parts that the guest's state lies in, as plain data.
+fn saved(parts: &Parts, alloc: Global) -> Result<Saved, AllocError>
+    requires { AreKeepable (length parts.now.region.tables) parts.now.harts }
+    ensures { IfOk result (IsKept parts.now) }
+{
+    let harts = saved_harts(alloc, &parts.seats, &parts.devices, parts.mem.table_bytes())?;
+    let ram = parts.mem.ram().to_vec(alloc)?;
+    let protection = parts.guard.protections().to_vec(alloc)?;
+    let modules = parts.modules.gate.loaded().to_vec(alloc)?;
+    let console = parts.devices.input().to_vec(alloc)?;
+    let disk = parts.devices.disk().to_vec(alloc)?;
+    let notes = parts.journal.notes().to_vec(alloc)?;
+    Ok(Saved {
+        harts,
+        ram,
+        protection,
+        modules,
+        retired: parts.modules.gate.retired(),
+        loading: saved_loading(&parts.modules),
+        console,
+        port: parts.devices.port().state(),
+        disk,
+        time: parts.devices.time(),
+        counts: parts.journal.counts(),
+        notes,
+        verdict: parts.journal.verdict(),
+    })
 }
 
 fn saved_loading(modules: &Modules) -> Option<SavedLoad>

@@ -19,13 +19,13 @@ ghost use Rattle.reach.specs.Usable.{nothing_kept};
 ghost use Rattle.machine.specs.Boot.{RefusesFlat};
 
 use crate::boot::BootRefusal;
-use crate::parts::Parts;
 use devices::{Devices, Port};
 use gstage_tables::Trees;
 use hart::{Cpu, Hart};
 use hart_answers::Seat;
 use host_mem::HostMem;
 use journal_records::Journal;
+use machine_parts::Parts;
 use module_answers::Modules;
 use page_guard::{Entries, Guard, Side};
 use page_measure::{Silent, measure};
@@ -39,74 +39,72 @@ use sv_types::{Digest, FLAT_PAGES, FLAT_TRAP_PLACE, PLAIN_FORMAT, Policy, Span};
 /// The permitted entries of a machine of plain pages.
 const FLAT_ENTRIES: [u64; 2] = [RAM_BASE, RAM_BASE + FLAT_TRAP_PLACE];
 
-impl Parts {
-    /// A machine under a policy, with pages that are guarded already and a disk behind its device: hart 0 begins at an entry, the others are stopped.
-    #[tactic(auto, using(crate::proofs::Starting::empty_usable, crate::proofs::Starting::length_empty, crate::proofs::Starting::none_joined), unfolding(standing_laws::specs::Starts::machine_at_boot))]
-    pub(crate) fn at_boot(
-        alloc: Global,
-        policy: Policy,
-        mem: HostMem,
-        guard: Guard,
-        port: Port,
-        entry: u64,
-    ) -> Result<Parts, AllocError>
-        requires theirs { IsTheirs mem guard }
-        requires pages { length guard.pages ≡ policy.ram_pages }
-        requires places { guard.bound ≡ bound_pages (rules_of policy) }
-        requires along { length policy.bound.items ≤ length policy.entries.items }
-        requires few { length policy.bound.items ≤ most_bound }
-        requires one { 1 ≤ policy.harts }
-        requires four { policy.harts ≤ most_harts }
-        ensures { IfOk result (λ p. p ≡ machine_at_boot (rules_of policy) mem entry guard.pages (port_disk port)) }
-    {
-        let Begun {
-            entries,
-            seats,
-            caches,
-            modules,
-            journal,
-            cpu,
-            words,
-        } = Begun::new(alloc, &policy, &guard, entry)?;
-        Ok(Parts {
-            policy,
-            entries,
-            mem,
-            seats,
-            caches,
-            guard,
-            modules,
-            devices: Devices::new(port),
-            journal,
-            cpu,
-            words,
-            row_attempts: 0,
-            cleared: 0,
-        })
-    }
+/// A machine under a policy, with pages that are guarded already and a disk behind its device: hart 0 begins at an entry, the others are stopped.
+#[tactic(auto, using(crate::proofs::Starting::empty_usable, crate::proofs::Starting::length_empty, crate::proofs::Starting::none_joined), unfolding(standing_laws::specs::Starts::machine_at_boot))]
+pub(crate) fn at_boot(
+    alloc: Global,
+    policy: Policy,
+    mem: HostMem,
+    guard: Guard,
+    port: Port,
+    entry: u64,
+) -> Result<Parts, AllocError>
+    requires theirs { IsTheirs mem guard }
+    requires pages { length guard.pages ≡ policy.ram_pages }
+    requires places { guard.bound ≡ bound_pages (rules_of policy) }
+    requires along { length policy.bound.items ≤ length policy.entries.items }
+    requires few { length policy.bound.items ≤ most_bound }
+    requires one { 1 ≤ policy.harts }
+    requires four { policy.harts ≤ most_harts }
+    ensures { IfOk result (λ p. p ≡ machine_at_boot (rules_of policy) mem entry guard.pages (port_disk port)) }
+{
+    let Begun {
+        entries,
+        seats,
+        caches,
+        modules,
+        journal,
+        cpu,
+        words,
+    } = Begun::new(alloc, &policy, &guard, entry)?;
+    Ok(Parts {
+        policy,
+        entries,
+        mem,
+        seats,
+        caches,
+        guard,
+        modules,
+        devices: Devices::new(port),
+        journal,
+        cpu,
+        words,
+        row_attempts: 0,
+        cleared: 0,
+    })
+}
 
-    /// A machine of 16 pages of RAM with these pages at their start, all of them approved, where the hart begins. It has
-    /// one hart, no modules and an empty disk. The pages are measured first: the SHA-256 of the pages' SHA-256 digests
-    /// has to be the digest that is wanted.
-    #[tactic(auto, unfolding(standing_laws::specs::Starts::machine_at_boot, standing_laws::specs::Starts::flat_machine))]
-    pub(crate) fn flat<R: Threads + Sync>(
-        rt: &R,
-        alloc: Global,
-        pages: &[u8],
-        wanted: Digest,
-    ) -> Result<Parts, BootRefusal>
-        requires whole { length pages.now % page_size ≡ 0 }
-        requires size { length pages.now ≤ most_flat_bytes }
-        ensures start { IfOk result (λ p. p ≡ flat_machine p.region.tables pages.now wanted) }
-        ensures new { IfOk result (λ p. IsNew p (flat_start pages.now wanted)) }
-        ensures journal { IfOk result (λ p. p.journal ≡ journal_at_boot) }
-        ensures guarded { IfOk result IsGuarded }
-        ensures measured { OnOk result (measure pages.now ≡ wanted) }
-        ensures refused { IfErr result (RefusesFlat pages.now wanted) }
-    {
-        judge_measure(rt, alloc, pages, wanted)?;
-        Ok(assemble(alloc, pages, wanted)?)
-    }
+/// A machine of 16 pages of RAM with these pages at their start, all of them approved, where the hart begins. It has
+/// one hart, no modules and an empty disk. The pages are measured first: the SHA-256 of the pages' SHA-256 digests
+/// has to be the digest that is wanted.
+#[tactic(auto, unfolding(standing_laws::specs::Starts::machine_at_boot, standing_laws::specs::Starts::flat_machine))]
+pub(crate) fn flat<R: Threads + Sync>(
+    rt: &R,
+    alloc: Global,
+    pages: &[u8],
+    wanted: Digest,
+) -> Result<Parts, BootRefusal>
+    requires whole { length pages.now % page_size ≡ 0 }
+    requires size { length pages.now ≤ most_flat_bytes }
+    ensures start { IfOk result (λ p. p ≡ flat_machine p.region.tables pages.now wanted) }
+    ensures new { IfOk result (λ p. IsNew p (flat_start pages.now wanted)) }
+    ensures journal { IfOk result (λ p. p.journal ≡ journal_at_boot) }
+    ensures guarded { IfOk result IsGuarded }
+    ensures measured { OnOk result (measure pages.now ≡ wanted) }
+    ensures refused { IfErr result (RefusesFlat pages.now wanted) }
+{
+    judge_measure(rt, alloc, pages, wanted)?;
+    Ok(assemble(alloc, pages, wanted)?)
 }
 
 /// What a machine begins with beside its memory and its devices.
@@ -266,7 +264,7 @@ fn assemble(alloc: Global, pages: &[u8], wanted: Digest) -> Result<Parts, AllocE
     let policy = flat_policy(alloc, wanted)?;
     let _tables = mem.table_bytes();
     let port = Port::block(Vec::new(alloc));
-    Parts::at_boot(alloc, policy, mem, guard, port, RAM_BASE)
+    at_boot(alloc, policy, mem, guard, port, RAM_BASE)
 }
 
 fn flat_policy(alloc: Global, wanted: Digest) -> Result<Policy, AllocError>

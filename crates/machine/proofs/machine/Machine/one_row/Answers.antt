@@ -9,7 +9,7 @@ use Rattle.machine.proofs.Reservations.{free_where, leaving_free}
 use Rattle.machine.proofs.Rows.{Rowed}
 use Rattle.machine.specs.Limits.{most_counts}
 use Rattle.machine.specs.Repeats.{MadeInRow}
-use Rattle.machine.specs.Rows.{MayRow}
+use Rattle.machine_parts.specs.Rows.{MayRow}
 use Rattle.machine.proofs.machine.Machine.one_row.Goals as goal
 
 pub row-row-requires-clause-may : goal.row-row-requires-clause-may

@@ -1,6 +1,0 @@
-use Rattle.standing_laws.proofs.StartsStand.{flat_start_law}
-use Rattle.machine.proofs.parts.Parts.flat.Goals as goal
-
-pub returns-clause-new : goal.returns-clause-new
-returns-clause-new g c =
-    flat_start_law c.in_ok-assemble.field-0 c.args.pages.now c.args.wanted c.requires.size c.in_ok-assemble.ensures.guarded c.in_ok-assemble.ensures.start

@@ -1,0 +1,102 @@
+-- Turns of one hart in a row, each of which carries out an instruction: what they make of the machine. This project's own.
+use Rattle.std.specs.Prelude.{◌≡◌, ℕ, zero, suc, ◌+◌, ◌%◌, ◌<◌, Bool, true, false, List, length, None}
+use Rattle.processor.specs.Hardware.{Core}
+use Rattle.processor.specs.HardwareAttempt.{attempt}
+use Rattle.processor.specs.HypervisorRegisters.{pending}
+use Rattle.processor.specs.Regions.{Region}
+use Rattle.processor.specs.SecondStage.{WalksApart}
+use Rattle.processor.specs.Roots.{IsSv39x4}
+use Rattle.processor.specs.declared.cause.Cause.{Cause}
+use Rattle.processor.specs.declared.exit.ExitCause.{ExitCause}
+use Rattle.hart.specs.Conditions.{KeepsMode}
+use Rattle.machine_model.specs.Steps.{WithTables}
+use Rattle.machine_model.specs.declared.exits.ExitAnswer.{ExitAnswer}
+use Rattle.machine_model.specs.declared.exits.ExitAnswer.TheVariants.{Traps}
+use Rattle.sv_types.specs.declared.event.Event.{Event}
+use Rattle.sv_types.specs.declared.event.Event.TheVariants.{Turn, Beat, Key, Tick}
+use Rattle.sv_types.specs.declared.event.Verdict.TheVariants.{Running}
+use Rattle.reference.specs.Counting.{with_count, count_turn, count_retired}
+use Rattle.reference.specs.Devices.{lines_at}
+use Rattle.reference.specs.States.{Journal}
+use Rattle.machine_model.specs.Machine.{Machine, HostHart, update, with_core}
+use Rattle.quick_turns.specs.Rows.{LeavesBy, RetiresThrough}
+use Rattle.quick_turns.specs.declared.leaving.Leaving.{Leaving}
+use Rattle.quick_turns.specs.declared.leaving.Leaving.TheVariants.{Stays, Calls, Returns}
+use Rattle.machine_parts.specs.Attempts.{hart_in}
+use Rattle.machine_parts.specs.Turns.{Attempts, answered_exit}
+use Rattle.processor.specs.Bytes.{instruction_size}
+
+-- no hart has a reservation
+abbrev pub AreFree : List HostHart → Type 0
+AreFree harts = (h : ℕ) → (hart_in harts h).core.reservation ≡ None
+
+-- no hart has one, where that is known
+abbrev pub AreFreeWhere : (known : Bool) → List HostHart → Type 0
+AreFreeWhere true harts = AreFree harts
+AreFreeWhere false harts = Unit {0}
+
+-- an event by which no hart gets a reservation
+abbrev pub reserves_nothing : Event → Bool
+reserves_nothing (Turn h) = false
+reserves_nothing Beat = true
+reserves_nothing (Key byte) = true
+reserves_nothing (Tick n) = true
+
+-- a hart stands at an instruction, and its walks lead to RAM
+pub record WalksUnderRoot (region : Region) (host : HostHart) : Type 0 where
+  pub aligned : host.core.pc % instruction_size ≡ 0
+  pub keeps : KeepsMode host.core.hregs
+  pub stage : IsSv39x4 host.core.hregs.hgatp
+  pub apart : WalksApart region host.core.hregs.hgatp
+
+-- so many turns counted, each with its instruction
+abbrev pub counted_row : ℕ → Journal → Journal
+counted_row zero j = j
+counted_row (suc n) j = with_count count_retired (with_count count_turn (counted_row n j))
+
+-- the machine whose hart h has made so many turns, which left this region and this core
+abbrev pub after_row : Machine → ℕ → ℕ → Region → Core → Machine
+after_row m h n region core = record m {
+  region = region;
+  harts = update m.harts h (with_core core);
+  journal = counted_row n m.journal;
+  attempts = m.attempts + n;
+}
+
+-- hart h makes attempts in its turns, and takes no interrupt
+pub record IsQuietAt (m : Machine) (h : ℕ) : Type 0 where
+  pub running : m.journal.verdict ≡ Running
+  pub below : h < length m.harts
+  pub attempts : Attempts m h
+  pub quiet : pending (hart_in m.harts h).core.hregs (hart_in m.harts h).core.csrs (lines_at m.devices h) ≡ None
+
+-- the same, and no write meets a reservation
+pub record MayRow (m : Machine) (h : ℕ) : Type 0 where
+  pub running : m.journal.verdict ≡ Running
+  pub below : h < length m.harts
+  pub attempts : Attempts m h
+  pub free : AreFree m.harts
+  pub quiet : pending (hart_in m.harts h).core.hregs (hart_in m.harts h).core.csrs (lines_at m.devices h) ≡ None
+
+-- so many turns of hart h were made, and an attempt behind them, where that left the guest
+pub record EndsRow (left : Leaving) (n : ℕ) (m : Machine) (h : ℕ) (after : Machine) : Type 0 where
+  pub region : Region
+  pub last : Core
+  pub core : Core
+  pub retires : RetiresThrough n m.region (hart_in m.harts h).core (lines_at m.devices h) region last
+  pub leaves : LeavesBy left (attempt region last (lines_at m.devices h)) region last core
+  pub same : after ≡ after_row m h n region core
+
+-- a turn and its attempt, counted
+abbrev pub counted_leaving : Machine → Machine
+counted_leaving m = record m { journal = with_count count_turn m.journal; attempts = m.attempts + 1 }
+
+-- what SecVisor answers ECALL of user mode
+abbrev pub call_answer : ExitAnswer
+call_answer = Traps (ExitCause.Exception Cause.UserCall) 0
+
+-- what SecVisor answers the turn behind a row, where it was made
+abbrev pub AnswersLeaving : Leaving → Machine → ℕ → Machine → Type 0
+AnswersLeaving Stays m h after = after ≡ m
+AnswersLeaving Calls m h after = WithTables (counted_leaving m) (answered_exit (counted_leaving m) h call_answer) after
+AnswersLeaving Returns m h after = WithTables (counted_leaving m) (answered_exit (counted_leaving m) h ExitAnswer.Returns) after
