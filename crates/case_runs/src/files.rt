@@ -37,7 +37,7 @@ fn edit_file(alloc: Global, case: &mut Case, order: &str, words: &str) -> Result
 fn put_generated(alloc: Global, case: &mut Case, calls: u64) -> Result<(), AllocError> {
     let (image, policy) = generate(alloc, calls.clamp(1, MOST_CALLS))?;
     case.handed.image = image;
-    case.handed.policy = policy_printing::write(alloc, &policy)?;
+    case.handed.policy = policy::write(alloc, &policy)?;
     Ok(())
 }
 

@@ -7,3 +7,10 @@ pub mod ReadLists
 pub mod BindingsRead
 pub mod ReadWithin
 pub mod ExportsRead
+pub mod Puts
+pub mod Depths
+pub mod Prints
+pub mod WrittenValues
+pub mod WrittenLists
+pub mod WrittenRules
+pub mod BindingsBack

@@ -1,4 +1,4 @@
-//! The policy's text: what is read of it, and where it is refused.
+//! The policy's text: what is read of it, where it is refused, and its printing, which is read back as that policy.
 #![tactic(auto)]
 
 mod binding;
@@ -8,6 +8,7 @@ mod kernel;
 mod module_place;
 mod modules;
 mod place;
+mod printing;
 mod refusal;
 mod sites;
 mod text;
@@ -16,5 +17,6 @@ mod values;
 pub use first::first_refused;
 pub use place::refused_place;
 pub use policy_limits::within;
+pub use printing::write;
 pub use refusal::PolicyRefusal;
 pub use text::read;

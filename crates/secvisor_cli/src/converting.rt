@@ -60,7 +60,7 @@ fn converted_policy<'a>(
     requires within { rules_within (rules_of policy.now) ≡ true }
     ensures { IfOk result (IsMade name.now (rules_of policy.now) (converted_line (length policy.now.entries.items))) }
 {
-    let text = policy_printing::write(alloc, policy)?;
+    let text = policy::write(alloc, policy)?;
     let line = converted_line(alloc, policy.entries.len())?;
     Ok(Made { name, text, line })
 }

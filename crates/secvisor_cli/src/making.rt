@@ -173,7 +173,7 @@ fn measured_policy<'a>(
     requires within { rules_within (rules_of policy.now) ≡ true }
     ensures { IfOk result (IsMade name.now (rules_of policy.now) (measured_line policy.now.kernel)) }
 {
-    let text = policy_printing::write(alloc, policy)?;
+    let text = policy::write(alloc, policy)?;
     let line = measured_line(alloc, &policy.kernel)?;
     Ok(Made { name, text, line })
 }

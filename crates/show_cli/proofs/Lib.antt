@@ -1,2 +1,4 @@
 pub mod WordLemmas
 pub mod AnswerLemmas
+pub mod LineLists
+pub mod PageLists

@@ -6,7 +6,7 @@ use Rattle.sv_types.specs.Output.{line_end}
 use Rattle.sv_types.specs.declared.status.Status.{Status}
 use Rattle.snapshot_form.specs.Snapshots.{Contents, snapshot_read}
 use Rattle.snapshot_form.specs.declared.refusal.SnapRefusal.{SnapRefusal}
-use Rattle.snapshot_text.specs.SnapshotTexts.{snapshot_text}
+use Rattle.show_cli.specs.SnapshotTexts.{snapshot_text}
 use Rattle.command_words.specs.Commands.{has_dash}
 use Rattle.show_cli.specs.declared.refusal.ShowRefusal.{ShowRefusal}
 use Rattle.show_cli.specs.declared.refusal.ShowRefusal.TheVariants.{NoCommand, ReadFault, NoSnapshot}

@@ -3,16 +3,16 @@ ghost use Rattle.std.specs.Prelude.{◌≡◌, ◌<◌, ◌≤◌, ◌-◌, ℕ,
 ghost use Rattle.outside.specs.Outside.{MayWrite};
 ghost use Rattle.processor.specs.Counters.{CanCount};
 ghost use Rattle.snapshot_form.specs.Snapshots.{contents};
-ghost use Rattle.snapshot_text.specs.SnapshotTexts as text;
+ghost use Rattle.show_cli.specs.SnapshotTexts as text;
 ghost use Rattle.show_cli.specs.Showing as spec;
 ghost use Rattle.show_cli.specs.Answers.{Ends, Refuses, ShowsFile, Shows, Headline, Answers, MayAsk};
 
 use crate::refusal::ShowRefusal;
+use crate::whole::snapshot_text;
 use crate::words::name_in;
 use outside::{FileRefusal, Files, Sink, Trouble, status_of_end, write_all};
 use snapshot_form::{SnapRefusal, Snapshot};
 use snapshot_reader::{MOST_SNAPSHOT_BYTES, ReadError, read};
-use snapshot_text::snapshot_text;
 use std::alloc::Global;
 use sv_types::Status;
 

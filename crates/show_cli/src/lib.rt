@@ -2,7 +2,13 @@
 #![tactic(auto)]
 
 mod answer;
+mod devices;
+mod harts;
+mod lines;
+mod modules;
+mod pages;
 mod refusal;
+mod whole;
 mod words;
 
 pub use answer::secvisor_show;

@@ -1,5 +1,0 @@
-pub mod Lines
-pub mod HartTexts
-pub mod PageTexts
-pub mod DeviceTexts
-pub mod SnapshotTexts
