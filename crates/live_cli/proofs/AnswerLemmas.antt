@@ -8,17 +8,17 @@ use Rattle.machine_model.specs.Machine.{Machine}
 use Rattle.machine_model.specs.Reaches.{IsNew}
 use Rattle.outside.specs.Outside.{FilesState, SinkState, MaySaveUnder}
 use Rattle.live_keys.specs.Keys.{KeysState}
-use Rattle.secvisor_cli.specs.declared.refusal.Refusal.{Refusal}
+use Rattle.command_plans.specs.declared.refusal.Refusal.{Refusal}
 use Rattle.secvisor_cli.specs.declared.ready.Stop.TheVariants.{Refused}
 use Rattle.secvisor_cli.specs.declared.ready.Stop.TheVariants as stop
 use Rattle.outside.specs.declared.trouble.Trouble.{Trouble}
 use Rattle.outside.specs.declared.trouble.Trouble.TheVariants.{Memory}
-use Rattle.secvisor_cli.specs.Refusals.{refusal_line, refusal_status, takes_memory}
-use Rattle.secvisor_cli.specs.Plans.{Due, Refuse, RunFrom, Make}
+use Rattle.command_plans.specs.Refusals.{refusal_line, refusal_status, takes_memory}
+use Rattle.command_plans.specs.Plans.{Due, Refuse, RunFrom, Make}
 use Rattle.secvisor_cli.specs.Answers.{Writes}
 use Rattle.secvisor_cli.proofs.TopLemmas.{refused_answers}
-use Rattle.secvisor_cli.specs.Reading.{MayFollow}
-use Rattle.secvisor_cli.proofs.PlanLemmas.{may_follow}
+use Rattle.command_plans.specs.Reading.{MayFollow}
+use Rattle.command_plans.proofs.PlanLemmas.{may_follow}
 use Rattle.live_cli.specs.LiveWords.{LiveWords, live_plan, live_judged}
 use Rattle.live_cli.specs.LiveReady.{IsLiveFresh, IsLiveReadyWhere, PreparesLive, out_of}
 use Rattle.live_cli.specs.LiveAnswers.{LiveOutside, live_outside, AnswersLiveReached, RunsLive, PerformsLive}

@@ -15,20 +15,21 @@ use Rattle.console_run.proofs.Standing.{stands_disk}
 use Rattle.live_keys.specs.Keys.{KeysState}
 use Rattle.live_keys.specs.Placed.{keys_among}
 use Rattle.live_cli.specs.Inputs.{WasRead}
-use Rattle.secvisor_cli.specs.declared.refusal.Refusal.{Refusal}
-use Rattle.secvisor_cli.specs.declared.refusal.Refusal.TheVariants.{NoCommand, OutOfRange, ReadFault, File, Measure, Entry}
+use Rattle.command_plans.specs.declared.refusal.Refusal.{Refusal}
+use Rattle.command_plans.specs.declared.refusal.Refusal.TheVariants.{NoCommand, OutOfRange, ReadFault, File, Measure, Entry}
 use Rattle.outside.specs.declared.trouble.Trouble.{Trouble}
 use Rattle.outside.specs.declared.trouble.Trouble.TheVariants.{Write, Memory}
-use Rattle.secvisor_cli.specs.Refusals.{refusal_status}
-use Rattle.secvisor_cli.specs.CommandLine.{unless_none}
-use Rattle.secvisor_cli.specs.Plans.{Due, Refuse, RunFrom, Make, Saving, Plan, run_plan}
-use Rattle.secvisor_cli.specs.Reading.{Follows}
+use Rattle.command_plans.specs.Refusals.{refusal_status}
+use Rattle.command_plans.specs.CommandLine.{unless_none}
+use Rattle.command_plans.specs.Plans.{Due, Refuse, RunFrom, Make, Saving, Plan, run_plan}
+use Rattle.command_plans.specs.Reading.{Follows}
 use Rattle.secvisor_cli.specs.Answers.{outside, Writes, SavedBehind}
 use Rattle.outside.specs.Endings.{status_of_end}
-use Rattle.secvisor_cli.proofs.PlanLemmas.{Keeps, HasFault, HasFoundFaults, follows_keeps}
+use Rattle.command_plans.proofs.PlanLemmas.{Keeps, HasFault, HasFoundFaults, follows_keeps}
 use Rattle.secvisor_cli.proofs.SaveLemmas.{changes, exact_saving, ChangesOut, changes_none, writes_faults}
-use Rattle.secvisor_cli.proofs.TopLemmas.{run_found_faults, EffectOut, effect_out, run_no_read_fault, refused_status, refused_fault}
-use Rattle.secvisor_cli.proofs.WordLemmas.{NoReadFault}
+use Rattle.command_plans.proofs.FoundFaults.{run_found_faults, run_no_read_fault}
+use Rattle.secvisor_cli.proofs.TopLemmas.{EffectOut, effect_out, refused_status, refused_fault}
+use Rattle.command_plans.proofs.WordLemmas.{NoReadFault}
 use Rattle.live_cli.specs.LiveAnswers.{LiveOutside, live_outside, IsScriptOf, SavesScript, read_status, after_reading, is_refusal, RunsLive, AnswersLive, AnswersLiveReached, PerformsLive}
 use Rattle.live_cli.specs.LiveReady.{out_of}
 use Rattle.live_cli.specs.LiveWords.{LiveWords, drawn_run, live_judged, live_plan}

@@ -3,10 +3,10 @@ use Rattle.std.proofs.Common.{◌≡◌, ◌≤◌, ℕ, List, length, IsTrue, i
 use Rattle.sv_types.specs.declared.event.Event.{Event}
 use Rattle.reference.specs.States.{State}
 use Rattle.outside.specs.Outside.{FilesState}
-use Rattle.secvisor_cli.specs.declared.file_fault.Part.{Part}
-use Rattle.secvisor_cli.specs.Plans.{Due, RunFrom, Plan, Judge, Found, Faulty, Missing, Longer, Held, found_plan, read_part}
-use Rattle.secvisor_cli.specs.Reading.{FoundAs, Follows}
-use Rattle.secvisor_cli.proofs.PlanLemmas.{Keeps, keeps_found}
+use Rattle.command_plans.specs.declared.file_fault.Part.{Part}
+use Rattle.command_plans.specs.Plans.{Due, RunFrom, Plan, Judge, Found, Faulty, Missing, Longer, Held, found_plan, read_part}
+use Rattle.command_plans.specs.Reading.{FoundAs, Follows}
+use Rattle.command_plans.proofs.PlanLemmas.{Keeps, keeps_found}
 
 -- the part held bytes that aren't too long, and the plan went on with them
 pub record PartGives (name : List ℕ) (limit : ℕ) (next : List ℕ → Plan) (old read : FilesState) (due : Due) : Type 0 where

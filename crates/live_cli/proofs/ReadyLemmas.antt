@@ -16,9 +16,9 @@ use Rattle.secvisor_cli.specs.declared.ready.Booted.{Booted}
 use Rattle.secvisor_cli.specs.declared.ready.Ready.TheVariants.{Run}
 use Rattle.secvisor_cli.specs.declared.ready.Stop.{Stop}
 use Rattle.secvisor_cli.specs.declared.ready.Stop.TheVariants.{Refused, Memory}
-use Rattle.secvisor_cli.specs.declared.refusal.Refusal.{Refusal}
-use Rattle.secvisor_cli.specs.Plans.{Due, Refuse, RunFrom, Make, run_plan}
-use Rattle.secvisor_cli.specs.Reading.{MayFollow}
+use Rattle.command_plans.specs.declared.refusal.Refusal.{Refusal}
+use Rattle.command_plans.specs.Plans.{Due, Refuse, RunFrom, Make, run_plan}
+use Rattle.command_plans.specs.Reading.{MayFollow}
 use Rattle.secvisor_cli.specs.Ready.{IsFresh, IsReadyWhere, Prepares}
 use Rattle.live_cli.specs.LiveWords.{LiveWords, live_plan}
 use Rattle.live_cli.specs.LiveReady.{IsLiveFresh, IsLiveReadyWhere, PreparesLive}

@@ -26,15 +26,15 @@ use Rattle.command_words.specs.Commands.{Split, RunSplit, has_dash, shape_split,
 use Rattle.live_keys.specs.Line.{StartsWith, most_keys}
 use Rattle.live_keys.specs.Placed.{keys_among, others_among}
 use Rattle.live_keys.proofs.JournalLines.{number_back}
-use Rattle.secvisor_cli.specs.declared.file_fault.FileFault.{FileFault}
-use Rattle.secvisor_cli.specs.declared.file_fault.Part.{Part}
-use Rattle.secvisor_cli.specs.declared.refusal.Refusal.{Refusal}
-use Rattle.secvisor_cli.specs.declared.refusal.Refusal.TheVariants.{NoCommand, Measure, Entry}
+use Rattle.command_plans.specs.declared.file_fault.FileFault.{FileFault}
+use Rattle.command_plans.specs.declared.file_fault.Part.{Part}
+use Rattle.command_plans.specs.declared.refusal.Refusal.{Refusal}
+use Rattle.command_plans.specs.declared.refusal.Refusal.TheVariants.{NoCommand, Measure, Entry}
 use Rattle.command_words.specs.declared.command.DiskKind.{DiskKind}
-use Rattle.secvisor_cli.specs.CommandLine.{Command, Run, RunWords, Source, Text, judgement_of_words, split_judged, run_words, unless_none}
-use Rattle.secvisor_cli.specs.Plans.{Due, Refuse, RunFrom, Plan, End, Judge, most_policy_bytes, most_image_bytes, most_script_bytes, policy_judged, policy_part, part_judged, kernel_part, disk_refusal, disk_part, text_part, script_part, image_measure, boot_judged, boot_plan, image_plan, run_plan, command_plan, plan_of}
-use Rattle.secvisor_cli.specs.Reading.{Follows}
-use Rattle.secvisor_cli.proofs.PlanLemmas.{Keeps}
+use Rattle.command_plans.specs.CommandLine.{Command, Run, RunWords, Source, Text, judgement_of_words, split_judged, run_words, unless_none}
+use Rattle.command_plans.specs.Plans.{Due, Refuse, RunFrom, Plan, End, Judge, most_policy_bytes, most_image_bytes, most_script_bytes, policy_judged, policy_part, part_judged, kernel_part, disk_refusal, disk_part, text_part, script_part, image_measure, boot_judged, boot_plan, image_plan, run_plan, command_plan, plan_of}
+use Rattle.command_plans.specs.Reading.{Follows}
+use Rattle.command_plans.proofs.PlanLemmas.{Keeps}
 use Rattle.live_cli.specs.LiveAnswers.{IsScriptOf}
 use Rattle.live_cli.specs.LiveWords.{LiveWords, drawn_run, live_words, live_judged, live_shape, most_live_events}
 use Rattle.secvisor_cli.specs.DueIn.{due_in}

@@ -3,8 +3,8 @@ use Rattle.std.proofs.Common.{◌≡◌, ◌≢◌, ℕ, List, [], ◌∷◌, le
 use Rattle.std.specs.List.{list_any}
 use Rattle.sv_types.specs.Numbers.{number_within}
 use Rattle.command_words.specs.Commands.{has_dash}
-use Rattle.secvisor_cli.specs.declared.refusal.Refusal.TheVariants.{NoCommand}
-use Rattle.secvisor_cli.proofs.WordLemmas.{NoReadFault, judged_unless, judged_if}
+use Rattle.command_plans.specs.declared.refusal.Refusal.TheVariants.{NoCommand}
+use Rattle.command_plans.proofs.WordLemmas.{NoReadFault, judged_unless, judged_if}
 use Rattle.live_cli.specs.LiveWords.{live_words, live_split, live_shape, live_judged, most_live_events}
 
 -- so many words are of no command

@@ -18,11 +18,11 @@ use Rattle.live_cli.specs.declared.threads.LiveEnd.{LiveEnd}
 use Rattle.live_cli.specs.declared.live_run.LiveRun.{LiveRun}
 use Rattle.live_cli.specs.Inputs.{HasKeys}
 use Rattle.live_cli.specs.LiveRuns.{harts_of, events_made}
-use Rattle.secvisor_cli.specs.declared.refusal.Refusal.{Refusal}
+use Rattle.command_plans.specs.declared.refusal.Refusal.{Refusal}
 use Rattle.outside.specs.declared.trouble.Trouble.{Trouble}
 use Rattle.outside.specs.declared.trouble.Trouble.TheVariants.{Write, Memory}
-use Rattle.secvisor_cli.specs.Plans.{Due, Refuse, RunFrom, Make, Exactly, most_script_bytes}
-use Rattle.secvisor_cli.specs.Reading.{Follows}
+use Rattle.command_plans.specs.Plans.{Due, Refuse, RunFrom, Make, Exactly, most_script_bytes}
+use Rattle.command_plans.specs.Reading.{Follows}
 use Rattle.secvisor_cli.specs.Answers.{outside, Writes, SavedBehind, WritesAndSaves}
 use Rattle.outside.specs.Endings.{status_of_end}
 use Rattle.live_cli.specs.LiveWords.{LiveWords, live_plan}

@@ -5,11 +5,11 @@ use Rattle.sv_types.specs.Schedule.{first_events}
 use Rattle.machine_model.specs.Reaches.{IsNew}
 use Rattle.outside.specs.Outside.{FilesState}
 use Rattle.live_cli.specs.LiveRuns.{harts_of, IsUnderWay}
-use Rattle.secvisor_cli.specs.declared.refusal.Refusal.{Refusal}
+use Rattle.command_plans.specs.declared.refusal.Refusal.{Refusal}
 use Rattle.secvisor_cli.specs.declared.ready.Stop.{Stop}
 use Rattle.secvisor_cli.specs.declared.ready.Stop.TheVariants.{Refused, Memory}
-use Rattle.secvisor_cli.specs.Plans.{Due, Refuse, RunFrom, Make, Plan}
-use Rattle.secvisor_cli.specs.Reading.{Follows}
+use Rattle.command_plans.specs.Plans.{Due, Refuse, RunFrom, Make, Plan}
+use Rattle.command_plans.specs.Reading.{Follows}
 use Rattle.live_cli.specs.LiveWords.{LiveWords}
 use Rattle.live_cli.specs.declared.ready.LiveReady.{LiveReady}
 

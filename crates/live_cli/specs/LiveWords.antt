@@ -7,12 +7,12 @@ use Rattle.sv_types.specs.Limits.{most_events}
 use Rattle.live_keys.specs.Line.{most_keys}
 use Rattle.command_words.specs.declared.command.DiskKind.{DiskKind}
 use Rattle.command_words.specs.Commands.{has_dash}
-use Rattle.secvisor_cli.specs.declared.refusal.Word.{Word}
-use Rattle.secvisor_cli.specs.declared.refusal.Refusal.{Refusal}
-use Rattle.secvisor_cli.specs.declared.refusal.Refusal.TheVariants.{NoCommand, OutOfRange}
-use Rattle.secvisor_cli.specs.CommandLine.{RunWords, Auto, unless_none}
-use Rattle.secvisor_cli.specs.Plans.{Refuse, Plan, End, Judge, run_plan}
-use Rattle.secvisor_cli.specs.Words.{source_value, run_value}
+use Rattle.command_plans.specs.declared.refusal.Word.{Word}
+use Rattle.command_plans.specs.declared.refusal.Refusal.{Refusal}
+use Rattle.command_plans.specs.declared.refusal.Refusal.TheVariants.{NoCommand, OutOfRange}
+use Rattle.command_plans.specs.CommandLine.{RunWords, Auto, unless_none}
+use Rattle.command_plans.specs.Plans.{Refuse, Plan, End, Judge, run_plan}
+use Rattle.command_plans.specs.Words.{source_value, run_value}
 use Rattle.live_cli.specs.declared.words.Live.{Live}
 
 -- a run whose events are drawn, and the name that its script is saved under

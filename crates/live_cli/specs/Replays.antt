@@ -13,9 +13,9 @@ use Rattle.machine_model.specs.Machine.{Machine}
 use Rattle.command_words.specs.Commands.{has_dash}
 use Rattle.outside.specs.Outside.{after_taking}
 use Rattle.live_keys.specs.Keys.{KeysState}
-use Rattle.secvisor_cli.specs.CommandLine.{Text, judgement_of_words, source_of, unless_none}
+use Rattle.command_plans.specs.CommandLine.{Text, judgement_of_words, source_of, unless_none}
 use Rattle.secvisor_cli.specs.DueIn.{due_in}
-use Rattle.secvisor_cli.specs.Plans.{RunFrom, plan_of}
+use Rattle.command_plans.specs.Plans.{RunFrom, plan_of}
 use Rattle.live_cli.specs.LiveAnswers.{LiveOutside}
 
 -- ---- the words

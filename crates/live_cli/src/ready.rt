@@ -1,6 +1,6 @@
 // What is ready of `live`.
 ghost use Rattle.std.specs.Prelude.{◌≡◌, ◌<◌, ◌-◌, map, string_bytes, IfOk};
-ghost use Rattle.secvisor_cli.specs.Reading.{MayFollow};
+ghost use Rattle.command_plans.specs.Reading.{MayFollow};
 ghost use Rattle.live_cli.specs.LiveWords.{live_judged, live_plan};
 ghost use Rattle.live_cli.specs.LiveReady.{PreparesLive, out_of};
 ghost use Rattle.processor.specs.Counters.{CanCount};

@@ -2,8 +2,8 @@
 ghost use Rattle.std.specs.Prelude.{map, string_bytes};
 ghost use Rattle.live_cli.specs.LiveWords.{live_judged, live_shape, live_named, live_split, IsLive};
 
+use command_plans::{DiskKind, Refusal, Run, Source, Word, any_has_dash, unless_none};
 use live_keys::MOST_KEYS;
-use secvisor_cli::{DiskKind, Refusal, Run, Source, Word, any_has_dash, unless_none};
 use sv_types::MOST_EVENTS;
 use text_numbers::number_within;
 

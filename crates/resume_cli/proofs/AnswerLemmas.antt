@@ -9,17 +9,17 @@ use Rattle.machine_model.specs.Machine.{Machine}
 use Rattle.machine_model.specs.Reaches.{IsNew}
 use Rattle.outside.specs.Outside.{FilesState, SinkState}
 use Rattle.secvisor_cli.specs.Answers.{Outside, outside, Writes, Answers, AnswersReached, Performs, WritesAndSaves}
-use Rattle.secvisor_cli.specs.Plans.{Due, Refuse, RunFrom, Make, Plan, saves_due}
-use Rattle.secvisor_cli.specs.Reading.{Follows, MayFollow, MaySave}
+use Rattle.command_plans.specs.Plans.{Due, Refuse, RunFrom, Make, Plan, saves_due}
+use Rattle.command_plans.specs.Reading.{Follows, MayFollow, MaySave}
 use Rattle.secvisor_cli.specs.Ready.{IsRunnable, MaySaveRun}
-use Rattle.secvisor_cli.specs.Refusals.{refusal_line, refusal_status, takes_memory}
+use Rattle.command_plans.specs.Refusals.{refusal_line, refusal_status, takes_memory}
 use Rattle.secvisor_cli.specs.declared.ready.Booted.{Booted}
 use Rattle.secvisor_cli.specs.declared.ready.Stop.TheVariants.{Refused}
 use Rattle.secvisor_cli.specs.declared.ready.Stop.TheVariants as stop
-use Rattle.secvisor_cli.specs.declared.refusal.Refusal.{Refusal}
+use Rattle.command_plans.specs.declared.refusal.Refusal.{Refusal}
 use Rattle.outside.specs.declared.trouble.Trouble.{Trouble}
 use Rattle.outside.specs.declared.trouble.Trouble.TheVariants.{Memory}
-use Rattle.secvisor_cli.proofs.PlanLemmas.{may_save, may_follow}
+use Rattle.command_plans.proofs.PlanLemmas.{may_save, may_follow}
 use Rattle.secvisor_cli.proofs.TopLemmas.{refused_writes}
 use Rattle.resume_cli.specs.ResumePlans.{resume_plan, words_plan}
 use Rattle.resume_cli.specs.ResumeReady.{IsResumedWhere, Resumes}

@@ -14,12 +14,13 @@ use Rattle.resumption.specs.ResumedStates.{resumed_state}
 use Rattle.resumption.specs.declared.refusal.ResumeRefusal.{ResumeRefusal}
 use Rattle.secvisor_cli.specs.Answers.{Outside, outside, Performs}
 use Rattle.outside.specs.Endings.{status_of_end}
-use Rattle.secvisor_cli.specs.Plans.{Plan, found_plan, policy_part, status_due}
-use Rattle.secvisor_cli.specs.declared.refusal.Refusal.{Refusal}
+use Rattle.command_plans.specs.Plans.{Plan, found_plan, policy_part, status_due}
+use Rattle.command_plans.specs.declared.refusal.Refusal.{Refusal}
 use Rattle.outside.specs.declared.trouble.Trouble.{Trouble}
-use Rattle.secvisor_cli.proofs.PlanLemmas.{HasFault, HasFoundFaults}
-use Rattle.secvisor_cli.proofs.TopLemmas.{plan_fault, policy_found_faults, refused_same, run_no_read_fault, script_found_faults}
-use Rattle.secvisor_cli.proofs.WordLemmas.{NoReadFault}
+use Rattle.command_plans.proofs.PlanLemmas.{HasFault, HasFoundFaults}
+use Rattle.command_plans.proofs.FoundFaults.{policy_found_faults, run_no_read_fault, script_found_faults}
+use Rattle.secvisor_cli.proofs.TopLemmas.{plan_fault, refused_same}
+use Rattle.command_plans.proofs.WordLemmas.{NoReadFault}
 use Rattle.resume_cli.specs.ResumePlans.{behind_policy, behind_script, behind_snapshot, contents_judged, events_behind, resume_plan, resumed_due, snapshot_part, words_plan}
 use Rattle.resume_cli.specs.ResumeWords.{ResumeWords, resume_judged}
 use Rattle.resume_cli.proofs.WordLemmas.{resume_no_read_fault}

@@ -12,12 +12,12 @@ use Rattle.snapshot_form.specs.declared.refusal.SnapRefusal.{SnapRefusal}
 use Rattle.snapshot_form.specs.declared.refusal.SnapRefusal.TheVariants.{TooLong}
 use Rattle.resumption.specs.ResumedStates.{resumed_state}
 use Rattle.resumption.specs.declared.refusal.ResumeRefusal.{ResumeRefusal}
-use Rattle.secvisor_cli.specs.CommandLine.{Source, Rounds, Auto, Text}
+use Rattle.command_plans.specs.CommandLine.{Source, Rounds, Auto, Text}
 use Rattle.secvisor_cli.specs.DueIn.{due_in}
-use Rattle.secvisor_cli.specs.Plans.{RunFrom, Plan, Judge, most_policy_bytes, most_script_bytes, part_judged, policy_judged, policy_part, script_part, text_part}
-use Rattle.secvisor_cli.specs.declared.file_fault.FileFault.{FileFault}
-use Rattle.secvisor_cli.specs.declared.file_fault.Part.{Part}
-use Rattle.secvisor_cli.specs.declared.refusal.Refusal.{Refusal}
+use Rattle.command_plans.specs.Plans.{RunFrom, Plan, Judge, most_policy_bytes, most_script_bytes, part_judged, policy_judged, policy_part, script_part, text_part}
+use Rattle.command_plans.specs.declared.file_fault.FileFault.{FileFault}
+use Rattle.command_plans.specs.declared.file_fault.Part.{Part}
+use Rattle.command_plans.specs.declared.refusal.Refusal.{Refusal}
 use Rattle.secvisor_cli.proofs.DueLemmas.{due_held, run_ends}
 use Rattle.resume_cli.specs.ResumeEnds.{HoldPolicy, HoldResumable, HoldScript, HoldText, ResumeEndsLaw}
 use Rattle.resume_cli.specs.ResumePlans.{behind_policy, behind_script, behind_snapshot, contents_judged, events_behind, resume_plan, resumed_due, snapshot_part, words_plan}

@@ -14,15 +14,15 @@ use Rattle.snapshot_form.specs.declared.whole.Snapshot.{Snapshot}
 use Rattle.resumption.specs.Judgements.{resume_refusal}
 use Rattle.resumption.specs.ResumedStates.{resumed_state}
 use Rattle.resumption.specs.declared.refusal.ResumeRefusal.{ResumeRefusal}
-use Rattle.secvisor_cli.specs.Plans.{Due, Refuse, RunFrom, Make, Plan, End, Judge, Held}
-use Rattle.secvisor_cli.specs.Reading.{FoundAs, Follows, MayFollow}
+use Rattle.command_plans.specs.Plans.{Due, Refuse, RunFrom, Make, Plan, End, Judge, Held}
+use Rattle.command_plans.specs.Reading.{FoundAs, Follows, MayFollow}
 use Rattle.secvisor_cli.specs.Ready.{IsReadyWhere, IsRunnable, PartRead, Passes, Prepares, Staged}
-use Rattle.secvisor_cli.specs.declared.file_fault.FileFault.{FileFault}
-use Rattle.secvisor_cli.specs.declared.file_fault.Part.{Part}
+use Rattle.command_plans.specs.declared.file_fault.FileFault.{FileFault}
+use Rattle.command_plans.specs.declared.file_fault.Part.{Part}
 use Rattle.secvisor_cli.specs.declared.ready.Booted.{Booted}
 use Rattle.secvisor_cli.specs.declared.ready.Stop.{Stop}
 use Rattle.secvisor_cli.specs.declared.ready.Stop.TheVariants.{Refused, Memory}
-use Rattle.secvisor_cli.specs.declared.refusal.Refusal.TheVariants.{File}
+use Rattle.command_plans.specs.declared.refusal.Refusal.TheVariants.{File}
 use Rattle.secvisor_cli.proofs.ReadyLemmas.{end_ready, judge_ready, judge_wants, read_ready, stopped_ready}
 use Rattle.secvisor_cli.proofs.StageLemmas.{read_follows, read_may, read_faults}
 use Rattle.resume_cli.specs.ResumePlans.{contents_judged, snapshot_part, resumed_due}

@@ -10,9 +10,9 @@ use Rattle.snapshot_form.specs.Snapshots.{Contents, snapshot_read}
 use Rattle.resumption.specs.Judgements.{resume_refusal}
 use Rattle.resumption.specs.ResumedStates.{resumed_state}
 use Rattle.secvisor_cli.specs.Answers.{Outside, Headline}
-use Rattle.secvisor_cli.specs.CommandLine.{Source, Rounds, Auto, Text}
+use Rattle.command_plans.specs.CommandLine.{Source, Rounds, Auto, Text}
 use Rattle.secvisor_cli.specs.DueIn.{AreReadWhole, EndsAs}
-use Rattle.secvisor_cli.specs.Plans.{most_policy_bytes, most_script_bytes}
+use Rattle.command_plans.specs.Plans.{most_policy_bytes, most_script_bytes}
 use Rattle.resume_cli.specs.ResumePlans.{resume_plan}
 use Rattle.resume_cli.specs.ResumeWords.{ResumeWords, resume_judged}
 use Rattle.resume_cli.specs.SnapAndResume.{resumed_end}

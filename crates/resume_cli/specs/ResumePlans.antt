@@ -8,11 +8,11 @@ use Rattle.snapshot_form.specs.declared.refusal.SnapRefusal.{SnapRefusal}
 use Rattle.resumption.specs.Judgements.{resume_refusal}
 use Rattle.resumption.specs.ResumedStates.{resumed_state}
 use Rattle.resumption.specs.declared.refusal.ResumeRefusal.{ResumeRefusal}
-use Rattle.secvisor_cli.specs.Plans.{Due, Refuse, RunFrom, Plan, End, Judge, read_part, policy_part, script_part}
-use Rattle.secvisor_cli.specs.declared.file_fault.FileFault.{FileFault}
-use Rattle.secvisor_cli.specs.declared.file_fault.Part.{Part}
-use Rattle.secvisor_cli.specs.declared.refusal.Refusal.{Refusal}
-use Rattle.secvisor_cli.specs.declared.refusal.Refusal.TheVariants.{File}
+use Rattle.command_plans.specs.Plans.{Due, Refuse, RunFrom, Plan, End, Judge, read_part, policy_part, script_part}
+use Rattle.command_plans.specs.declared.file_fault.FileFault.{FileFault}
+use Rattle.command_plans.specs.declared.file_fault.Part.{Part}
+use Rattle.command_plans.specs.declared.refusal.Refusal.{Refusal}
+use Rattle.command_plans.specs.declared.refusal.Refusal.TheVariants.{File}
 use Rattle.resume_cli.specs.ResumeWords.{ResumeWords}
 
 -- ---- the snapshot

@@ -12,14 +12,14 @@ use Rattle.snapshot_form.specs.declared.whole.Snapshot.{Snapshot}
 use Rattle.resumption.specs.Judgements.{resume_refusal}
 use Rattle.resumption.specs.ResumedStates.{resumed_state}
 use Rattle.resumption.specs.declared.refusal.ResumeRefusal.{ResumeRefusal}
-use Rattle.secvisor_cli.specs.Plans.{Due, Refuse, RunFrom, Make, Plan}
-use Rattle.secvisor_cli.specs.Reading.{Follows}
+use Rattle.command_plans.specs.Plans.{Due, Refuse, RunFrom, Make, Plan}
+use Rattle.command_plans.specs.Reading.{Follows}
 use Rattle.secvisor_cli.specs.Ready.{IsRunnable}
-use Rattle.secvisor_cli.specs.declared.file_fault.FileFault.{FileFault}
+use Rattle.command_plans.specs.declared.file_fault.FileFault.{FileFault}
 use Rattle.secvisor_cli.specs.declared.ready.Booted.{Booted}
 use Rattle.secvisor_cli.specs.declared.ready.Stop.{Stop}
 use Rattle.secvisor_cli.specs.declared.ready.Stop.TheVariants.{Refused, Memory}
-use Rattle.secvisor_cli.specs.declared.refusal.Refusal.TheVariants.{File}
+use Rattle.command_plans.specs.declared.refusal.Refusal.TheVariants.{File}
 
 -- what is due is ready, or refused
 abbrev pub IsResumed : Due → Result Booted Stop → Type 0

@@ -6,11 +6,11 @@ use Rattle.std.specs.Str.{bytes_eq}
 use Rattle.sv_types.specs.Limits.{most_events}
 use Rattle.sv_types.specs.Numbers.{number_within}
 use Rattle.command_words.specs.Commands.{has_dash}
-use Rattle.secvisor_cli.specs.CommandLine.{Source, source_of, unless_none}
-use Rattle.secvisor_cli.specs.Words.{source_value}
-use Rattle.secvisor_cli.specs.declared.refusal.Refusal.{Refusal}
-use Rattle.secvisor_cli.specs.declared.refusal.Refusal.TheVariants.{NoCommand, OutOfRange}
-use Rattle.secvisor_cli.specs.declared.refusal.Word.{Word}
+use Rattle.command_plans.specs.CommandLine.{Source, source_of, unless_none}
+use Rattle.command_plans.specs.Words.{source_value}
+use Rattle.command_plans.specs.declared.refusal.Refusal.{Refusal}
+use Rattle.command_plans.specs.declared.refusal.Refusal.TheVariants.{NoCommand, OutOfRange}
+use Rattle.command_plans.specs.declared.refusal.Word.{Word}
 use Rattle.resume_cli.specs.declared.words.Resume.{Resume}
 
 -- a run that goes on from a snapshot

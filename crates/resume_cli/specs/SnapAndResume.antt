@@ -10,8 +10,7 @@ use Rattle.reference.specs.States.{State}
 use Rattle.snapshot_form.specs.Snapshots.{contents}
 use Rattle.snapshot_form.specs.declared.whole.Snapshot.{Snapshot}
 use Rattle.resumption.specs.ResumedStates.{resumed_state}
-use Rattle.resumed_start.specs.SnapLaws.{IsMeasuredBoot}
-use Rattle.snap_cli.specs.SnapAnswers.{IsSnapshotOf}
+use Rattle.resumed_start.specs.SnapLaws.{IsMeasuredBoot, IsSnapshotOf}
 use Rattle.resume_cli.specs.ResumePlans.{events_behind}
 
 -- the state in which `resume` ends that goes on with a script's first events, of which so many were made before

@@ -5,7 +5,7 @@ ghost use Rattle.sv_types.specs.Limits.{most_events};
 ghost use Rattle.outside.specs.Outside.{MayWrite};
 ghost use Rattle.processor.specs.Counters.{CanCount};
 ghost use Rattle.secvisor_cli.specs.Answers.{outside, Headline, Performs};
-ghost use Rattle.secvisor_cli.specs.Reading.{MayFollow, IsNamed, SavesUnder};
+ghost use Rattle.command_plans.specs.Reading.{MayFollow, IsNamed, SavesUnder};
 ghost use Rattle.resume_cli.specs.ResumePlans.{resume_plan, words_plan};
 ghost use Rattle.resume_cli.specs.ResumeWords.{resume_judged, resume_value};
 

@@ -6,8 +6,9 @@ ghost use Rattle.resume_cli.specs.ResumePlans.{snapshot_part};
 ghost use Rattle.resume_cli.specs.ResumeReady.{IsSnapshot};
 ghost use Rattle.processor.specs.Counters.{CanCount};
 
+use command_plans::{FileFault, Part, Refusal};
 use outside::Files;
-use secvisor_cli::{FileFault, Part, Refusal, Stop, read_part};
+use secvisor_cli::{Stop, read_part};
 use snapshot_form::Snapshot;
 use snapshot_reader::{MOST_SNAPSHOT_BYTES, ReadError, read};
 use std::alloc::Global;

@@ -2,7 +2,7 @@
 ghost use Rattle.std.specs.Prelude.{map, string_bytes};
 ghost use Rattle.resume_cli.specs.ResumeWords.{resume_judged, resume_shape, resume_named, resume_split, IsResume};
 
-use secvisor_cli::{Refusal, Source, Word, any_has_dash, source_of, unless_none};
+use command_plans::{Refusal, Source, Word, any_has_dash, source_of, unless_none};
 use sv_types::MOST_EVENTS;
 use text_numbers::number_within;
 

@@ -6,17 +6,25 @@ use Rattle.sv_types.specs.Policies.{Rules, rules_within}
 use Rattle.sv_types.specs.declared.event.Event.{Event}
 use Rattle.reference.specs.Run.{run}
 use Rattle.reference.specs.Start.{AreWords, boot_start}
-use Rattle.reference.specs.States.{has_number}
+use Rattle.reference.specs.States.{State, has_number}
 use Rattle.saved_machine.specs.SavedStates.{IsSaved}
 use Rattle.snapshot_form.specs.Snapshots.{contents, snapshot, snapshot_read}
 use Rattle.snapshot_form.specs.Typed.{IsTyped}
 use Rattle.snapshot_form.specs.declared.whole.Snapshot.{Snapshot}
 use Rattle.resumption.specs.Judgements.{resume_refusal}
 use Rattle.resumption.specs.ResumedStates.{resumed_state}
-use Rattle.resume_laws.specs.Continues.{Continues}
+use Rattle.resume_laws.specs.Continues.{Continues, draw_count}
 use Rattle.resume_laws.specs.Resumed.{KeepsDigests}
 use Rattle.resume_laws.specs.SavedForm.{HasBlock, IsCounted}
 use Rattle.resumed_start.specs.TextPages.{digested_text}
+
+-- the state behind the events, how many of them were made while the machine ran, and the text that the start approves; its
+-- numbers are words, a hart's registers 32 and a digest 32 bytes
+pub record IsSnapshotOf (start : State) (events : List Event) (s : Snapshot) : Type 0 where
+  pub state : IsSaved (run start events) s.«machine»
+  pub made : s.events ≡ draw_count start events
+  pub text : s.text.items ≡ digested_text start
+  pub typed : IsTyped (contents s)
 
 -- a policy within its limits and an image that isn't refused, which begins at a permitted entry, and whose text has the
 -- policy's measure

@@ -16,12 +16,12 @@ use Rattle.entry_binding.specs.declared.fault.BindFault.{BindFault}
 use Rattle.entry_binding.specs.declared.fault.BindFault.TheVariants as binding
 use Rattle.entry_binding.proofs.BoundWithin.{law_in_text}
 use Rattle.outside.specs.Outside.{FilesState, after_asking}
-use Rattle.secvisor_cli.specs.declared.file_fault.FileFault.{FileFault}
+use Rattle.command_plans.specs.declared.file_fault.FileFault.{FileFault}
 use Rattle.secvisor_cli.specs.Answers.{Headline, Meets, MeetsReached, Outside, outside}
-use Rattle.secvisor_cli.specs.CommandLine.{Convert}
+use Rattle.command_plans.specs.CommandLine.{Convert}
 use Rattle.secvisor_cli.specs.Converted.{Holds, IsBoundOf, IsConverted}
-use Rattle.secvisor_cli.specs.Plans.{Due, Refuse, Plan, End, Read, Judge, Found, Faulty, Missing, Longer, Held, binding_plan, binding_refusal, bound_plan, command_plan, convert_plan, due_of_convert, converted_judged, found_plan, kernel_part, part_judged, plan_of, policy_judged, policy_part, status_due}
-use Rattle.secvisor_cli.specs.Reading.{Follows, FoundAs}
+use Rattle.command_plans.specs.Plans.{Due, Refuse, Plan, End, Read, Judge, Found, Faulty, Missing, Longer, Held, binding_plan, binding_refusal, bound_plan, command_plan, convert_plan, due_of_convert, converted_judged, found_plan, kernel_part, part_judged, plan_of, policy_judged, policy_part, status_due}
+use Rattle.command_plans.specs.Reading.{Follows, FoundAs}
 
 -- this holds of what is due at each end of a plan that these files are asked by, where that is done
 abbrev DoneAs : (Due → Type 0) → FilesState → Plan → Type 0

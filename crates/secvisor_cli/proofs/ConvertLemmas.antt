@@ -16,7 +16,7 @@ use Rattle.outside.specs.Outside.{FilesState}
 use Rattle.secvisor_cli.specs.declared.ready.Ready.TheVariants.{Save}
 use Rattle.secvisor_cli.specs.declared.ready.Made.{Made}
 use Rattle.secvisor_cli.specs.declared.ready.Stop.TheVariants.{Memory}
-use Rattle.secvisor_cli.specs.Plans.{bound_plan, converted_judged, converted_line, kernel_part}
+use Rattle.command_plans.specs.Plans.{bound_plan, converted_judged, converted_line, kernel_part}
 use Rattle.secvisor_cli.specs.Ready.{IsMade, IsReady, Prepares, stop_of_binding}
 use Rattle.secvisor_cli.proofs.ReadyLemmas.{judge_end, judge_wants}
 use Rattle.secvisor_cli.proofs.StageLemmas.{kernel_ready}

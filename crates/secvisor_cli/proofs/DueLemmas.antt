@@ -10,13 +10,13 @@ use Rattle.reference.specs.Report.{output}
 use Rattle.reference.specs.Run.{run}
 use Rattle.reference.specs.States.{State}
 use Rattle.outside.specs.Outside.{FilesState}
-use Rattle.secvisor_cli.specs.declared.file_fault.Part.{Part}
+use Rattle.command_plans.specs.declared.file_fault.Part.{Part}
 use Rattle.secvisor_cli.specs.Answers.{Outside, outside, is_answer, MeetsSavesBehind, Meets, MeetsReached}
 use Rattle.secvisor_cli.specs.DueIn.{found_in, due_in, ComesToDue, AreReadWhole, EndsAs, RunEnds}
-use Rattle.secvisor_cli.specs.Plans.{Due, Refuse, RunFrom, Make, Plan, End, Read, Judge, Found, Faulty, Missing, Longer, Held, found_plan, read_part, Saving, policy_saving, saves_due}
-use Rattle.secvisor_cli.specs.Reading.{FoundAs, Follows, Saved, SaveBroke}
-use Rattle.secvisor_cli.specs.Refusals.{refusal_line}
-use Rattle.secvisor_cli.proofs.PlanLemmas.{Keeps, follows_keeps, keeps_found}
+use Rattle.command_plans.specs.Plans.{Due, Refuse, RunFrom, Make, Plan, End, Read, Judge, Found, Faulty, Missing, Longer, Held, found_plan, read_part, Saving, policy_saving, saves_due}
+use Rattle.command_plans.specs.Reading.{FoundAs, Follows, Saved, SaveBroke}
+use Rattle.command_plans.specs.Refusals.{refusal_line}
+use Rattle.command_plans.proofs.PlanLemmas.{Keeps, follows_keeps, keeps_found}
 
 -- ---- one read
 

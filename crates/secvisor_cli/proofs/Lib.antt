@@ -1,6 +1,4 @@
-pub mod WordLemmas
 pub mod EndLemmas
-pub mod PlanLemmas
 pub mod SaveLemmas
 pub mod ReadyLemmas
 pub mod StageLemmas

@@ -12,15 +12,15 @@ use Rattle.policy_making.specs.declared.refusal.MakingRefusal.TheVariants as mak
 use Rattle.policy_making.specs.Refusals.{Judged, Refuses, as_answer}
 use Rattle.policy_making.specs.Making.{ModuleFile, Terms, file_of, kernel_digest, names_with, policy_behind}
 use Rattle.outside.specs.Outside.{FilesState}
-use Rattle.secvisor_cli.specs.declared.refusal.Refusal.TheVariants.{File}
-use Rattle.secvisor_cli.specs.declared.file_fault.Part.{Part}
+use Rattle.command_plans.specs.declared.refusal.Refusal.TheVariants.{File}
+use Rattle.command_plans.specs.declared.file_fault.Part.{Part}
 use Rattle.secvisor_cli.specs.declared.ready.Ready.TheVariants.{Save}
 use Rattle.secvisor_cli.specs.declared.ready.Made.{Made}
 use Rattle.secvisor_cli.specs.declared.ready.Stop.{Stop}
 use Rattle.secvisor_cli.specs.declared.ready.Stop.TheVariants.{Memory}
-use Rattle.secvisor_cli.specs.CommandLine.{PolicyWords}
-use Rattle.secvisor_cli.specs.Plans.{Due, Refuse, due_of_measure, measured_line, Plan, End, Judge, Held, most_image_bytes, most_object_bytes, making_fault, made_judged, made_part, Kernel, digest_part, Modules, with_module, module_part, modules_part, making_plan}
-use Rattle.secvisor_cli.specs.Reading.{FoundAs, Follows, MayFollow}
+use Rattle.command_plans.specs.CommandLine.{PolicyWords}
+use Rattle.command_plans.specs.Plans.{Due, Refuse, due_of_measure, measured_line, Plan, End, Judge, Held, most_image_bytes, most_object_bytes, making_fault, made_judged, made_part, Kernel, digest_part, Modules, with_module, module_part, modules_part, making_plan}
+use Rattle.command_plans.specs.Reading.{FoundAs, Follows, MayFollow}
 use Rattle.secvisor_cli.specs.Ready.{PartRead, stop_of_making, IsMade, Prepares, Passes, MayStage}
 use Rattle.secvisor_cli.proofs.ReadyLemmas.{end_ready, judge_ready, judge_wants, read_ready, stopped_ready}
 use Rattle.secvisor_cli.proofs.StageLemmas.{read_follows, read_may, read_faults}

@@ -11,8 +11,8 @@ use Rattle.machine_model.specs.Machine.{Machine}
 use Rattle.outside.specs.Outside.{FilesState, SinkState, after_saving, after_taking, TookPrefix}
 use Rattle.outside.specs.declared.trouble.Trouble.{Trouble}
 use Rattle.outside.specs.declared.trouble.Trouble.TheVariants.{Write, Memory}
-use Rattle.secvisor_cli.specs.Plans.{Exactly, Saving, saving_of_bytes}
-use Rattle.secvisor_cli.specs.Reading.{IsUnder, Saved, SaveBroke}
+use Rattle.command_plans.specs.Plans.{Exactly, Saving, saving_of_bytes}
+use Rattle.command_plans.specs.Reading.{IsUnder, Saved, SaveBroke}
 use Rattle.secvisor_cli.specs.Answers.{Outside, AfterSave, SavedBehind, Writes, RunsTo, RunsAndSaves, MeetsSavesBehind, is_answer}
 use Rattle.outside.specs.Endings.{status_of_end}
 use Rattle.secvisor_cli.proofs.EndLemmas.{runs_under}

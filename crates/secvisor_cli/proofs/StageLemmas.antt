@@ -20,16 +20,16 @@ use Rattle.machine.specs.Boot.{IsImageOf, RefusesImage}
 use Rattle.outside.specs.Outside.{FilesState}
 use Rattle.sv_types.specs.declared.image_fault.ImageFault.{ImageFault}
 use Rattle.sv_types.specs.Limits.{most_disk_bytes}
-use Rattle.secvisor_cli.specs.declared.file_fault.Part.{Part}
-use Rattle.secvisor_cli.specs.declared.file_fault.FileFault.{FileFault}
-use Rattle.secvisor_cli.specs.declared.refusal.Refusal.{Refusal}
-use Rattle.secvisor_cli.specs.declared.refusal.Refusal.TheVariants.{File, Measure, Entry}
+use Rattle.command_plans.specs.declared.file_fault.Part.{Part}
+use Rattle.command_plans.specs.declared.file_fault.FileFault.{FileFault}
+use Rattle.command_plans.specs.declared.refusal.Refusal.{Refusal}
+use Rattle.command_plans.specs.declared.refusal.Refusal.TheVariants.{File, Measure, Entry}
 use Rattle.secvisor_cli.specs.declared.ready.Ready.{Ready}
 use Rattle.secvisor_cli.specs.declared.ready.Stop.{Stop}
 use Rattle.secvisor_cli.specs.declared.ready.Stop.TheVariants.{Refused, Memory}
-use Rattle.secvisor_cli.specs.CommandLine.{Command, RunWords, Rounds, Auto, Text}
-use Rattle.secvisor_cli.specs.Plans.{Due, Refuse, RunFrom, Plan, End, Judge, Held, found_plan, read_part, most_policy_bytes, most_script_bytes, policy_judged, policy_part, part_judged, kernel_part, disk_refusal, disk_part, text_part, script_part, image_measure, boot_judged, boot_plan, command_plan, plan_of, start_with}
-use Rattle.secvisor_cli.specs.Reading.{FoundAs, Follows, MayFollow}
+use Rattle.command_plans.specs.CommandLine.{Command, RunWords, Rounds, Auto, Text}
+use Rattle.command_plans.specs.Plans.{Due, Refuse, RunFrom, Plan, End, Judge, Held, found_plan, read_part, most_policy_bytes, most_script_bytes, policy_judged, policy_part, part_judged, kernel_part, disk_refusal, disk_part, text_part, script_part, image_measure, boot_judged, boot_plan, command_plan, plan_of, start_with}
+use Rattle.command_plans.specs.Reading.{FoundAs, Follows, MayFollow}
 use Rattle.secvisor_cli.specs.Ready.{PartRead, stop_of, IsReady, Prepares, Passes, Staged, MayStage, IsPolicy, IsKernel, IsScript}
 use Rattle.secvisor_cli.proofs.ReadyLemmas.{end_ready, judge_ready, judge_wants, judge_end, read_ready, stopped_ready, bytes_eq-same, bytes_eq-other}
 

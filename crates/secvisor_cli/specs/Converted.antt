@@ -9,8 +9,8 @@ use Rattle.entry_binding.specs.Binding.{bound_rules}
 use Rattle.entry_binding.specs.InText.{is_in_text}
 use Rattle.outside.specs.Outside.{FilesState, after_taking}
 use Rattle.secvisor_cli.specs.Answers.{Outside}
-use Rattle.secvisor_cli.specs.Plans.{converted_line, policy_saving}
-use Rattle.secvisor_cli.specs.Reading.{Saved}
+use Rattle.command_plans.specs.Plans.{converted_line, policy_saving}
+use Rattle.command_plans.specs.Reading.{Saved}
 
 -- a name holds these bytes, where the files tell it
 abbrev pub Holds : FilesState → (name bytes : List ℕ) → Type 0

@@ -7,8 +7,8 @@ use Rattle.reference.specs.Run.{run}
 use Rattle.reference.specs.States.{State}
 use Rattle.outside.specs.Outside.{FilesState}
 use Rattle.secvisor_cli.specs.Answers.{Outside, Headline}
-use Rattle.secvisor_cli.specs.Plans.{Due, RunFrom, Plan, End, Read, Judge, Found, Missing, Longer, Held}
-use Rattle.secvisor_cli.specs.Reading.{Follows}
+use Rattle.command_plans.specs.Plans.{Due, RunFrom, Plan, End, Read, Judge, Found, Missing, Longer, Held}
+use Rattle.command_plans.specs.Reading.{Follows}
 
 -- ---- what is due in files that hold something
 

@@ -1,8 +1,3 @@
-pub mod Refusals
-pub mod CommandLine
-pub mod Words
-pub mod Plans
-pub mod Reading
 pub mod Answers
 pub mod Ready
 pub mod Converted

@@ -26,10 +26,10 @@ use Rattle.entry_binding.specs.declared.fault.BindRefusal.TheVariants as binding
 use Rattle.machine.specs.Boot.{IsImageOf}
 use Rattle.outside.specs.Outside.{FilesState, after_asking}
 use Rattle.machine.specs.declared.boot.BootRefusal.{BootRefusal}
-use Rattle.secvisor_cli.specs.declared.file_fault.Part.{Part}
-use Rattle.secvisor_cli.specs.declared.file_fault.FileFault.{FileFault}
-use Rattle.secvisor_cli.specs.declared.refusal.Refusal.{Refusal}
-use Rattle.secvisor_cli.specs.declared.refusal.Refusal.TheVariants.{ReadFault, File}
+use Rattle.command_plans.specs.declared.file_fault.Part.{Part}
+use Rattle.command_plans.specs.declared.file_fault.FileFault.{FileFault}
+use Rattle.command_plans.specs.declared.refusal.Refusal.{Refusal}
+use Rattle.command_plans.specs.declared.refusal.Refusal.TheVariants.{ReadFault, File}
 use Rattle.secvisor_cli.specs.declared.ready.Ready.{Ready}
 use Rattle.secvisor_cli.specs.declared.ready.Ready.TheVariants.{Run, Save}
 use Rattle.secvisor_cli.specs.declared.ready.Booted.{Booted}
@@ -38,8 +38,8 @@ use Rattle.secvisor_cli.specs.declared.making.MeasuredKernel.{MeasuredKernel}
 use Rattle.secvisor_cli.specs.declared.making.WantingModules.{WantingModules}
 use Rattle.secvisor_cli.specs.declared.ready.Stop.{Stop}
 use Rattle.secvisor_cli.specs.declared.ready.Stop.TheVariants.{Refused, Memory}
-use Rattle.secvisor_cli.specs.Plans.{Due, Refuse, RunFrom, Make, making_fault, binding_refusal, Kernel, Modules, saves_due, Plan, Found, Faulty, Missing, Longer, Held}
-use Rattle.secvisor_cli.specs.Reading.{Follows, FoundAs, MayFollow, MaySave}
+use Rattle.command_plans.specs.Plans.{Due, Refuse, RunFrom, Make, making_fault, binding_refusal, Kernel, Modules, saves_due, Plan, Found, Faulty, Missing, Longer, Held}
+use Rattle.command_plans.specs.Reading.{Follows, FoundAs, MayFollow, MaySave}
 use Rattle.console_run.specs.Standing.{HasState}
 
 -- the refusal of a part that isn't read

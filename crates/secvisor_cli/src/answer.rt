@@ -11,11 +11,11 @@ ghost use Rattle.machine_model.specs.Reaches.{IsNew};
 ghost use Rattle.console_run.specs.Console.{MayRun};
 ghost use Rattle.console_run.specs.Standing.{machine_output};
 ghost use Rattle.sv_types.specs.Schedule.{first_events};
-ghost use Rattle.secvisor_cli.specs.Refusals.{refusal_line, refusal_status, takes_memory};
-ghost use Rattle.secvisor_cli.specs.CommandLine.{judgement_of_words};
-ghost use Rattle.secvisor_cli.specs.Words.{command_of, IsInRange};
-ghost use Rattle.secvisor_cli.specs.Plans.{Due, Exactly, RunFrom, command_plan, plan_of};
-ghost use Rattle.secvisor_cli.specs.Reading.{MayFollow, IsNamed, SavesUnder};
+ghost use Rattle.command_plans.specs.Refusals.{refusal_line, refusal_status, takes_memory};
+ghost use Rattle.command_plans.specs.CommandLine.{judgement_of_words};
+ghost use Rattle.command_plans.specs.Words.{command_of, IsInRange};
+ghost use Rattle.command_plans.specs.Plans.{Due, Exactly, RunFrom, command_plan, plan_of};
+ghost use Rattle.command_plans.specs.Reading.{MayFollow, IsNamed, SavesUnder};
 ghost use Rattle.secvisor_cli.specs.Ready.{Prepares, IsReady, IsRunnable, MayCarryOut, MaySaveRun};
 ghost use Rattle.secvisor_cli.specs.Answers.{outside, Writes, Answers, SavesAndWrites, Performs, RunsTo, RunsAndSaves, Headline};
 ghost use Rattle.outside.specs.Outside.{MayWrite};
@@ -25,12 +25,10 @@ use crate::converting::prepare_converted;
 use crate::flat::prepare_flat;
 use crate::generated::prepare_gen;
 use crate::image_run::prepare_run;
-use crate::judgement::judge;
 use crate::making::prepare_policy;
 use crate::ready::{Booted, Made, Ready, Stop};
-use crate::refusal::Refusal;
 use crate::save::save_disk;
-use crate::words::{Command, read_words};
+use command_plans::{Command, Refusal, judge, read_words};
 use command_words::split;
 use console_run::run;
 use machine::Machine;
@@ -131,7 +129,7 @@ fn prepare<'a, R: Threads + Sync, F: Files>(
     prepare_command(rt, alloc, &command, files)
 }
 
-#[tactic(auto, unfolding(crate::specs::Plans::command_plan))]
+#[tactic(auto, unfolding(command_plans::specs::Plans::command_plan))]
 fn prepare_command<'a, R: Threads + Sync, F: Files>(
     rt: &R,
     alloc: Global,

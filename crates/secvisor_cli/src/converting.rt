@@ -3,15 +3,15 @@ ghost use Rattle.std.specs.Prelude.{◌≡◌, ◌<◌, ◌-◌, IfOk, IsTrue, l
 ghost use Rattle.sv_types.specs.Policies.{rules_of, rules_within};
 ghost use Rattle.outside.specs.Outside.{FilesState};
 ghost use Rattle.processor.specs.Counters.{CanCount};
-ghost use Rattle.secvisor_cli.specs.Plans.{bound_plan, convert_plan, converted_line, kernel_part};
-ghost use Rattle.secvisor_cli.specs.Reading.{MayFollow};
+ghost use Rattle.command_plans.specs.Plans.{bound_plan, convert_plan, converted_line, kernel_part};
+ghost use Rattle.command_plans.specs.Reading.{MayFollow};
 ghost use Rattle.secvisor_cli.specs.Ready.{IsMade, Prepares};
 ghost use Rattle.command_words.specs.Values.{convert_split_of};
 
-use crate::file_fault::Part;
 use crate::image_run::{MOST_IMAGE_BYTES, judge_kernel, read_policy};
 use crate::parts::read_part;
 use crate::ready::{Made, Ready, Stop};
+use command_plans::Part;
 use command_words::ConvertWords;
 use entry_binding::bind;
 use outside::Files;

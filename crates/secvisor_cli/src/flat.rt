@@ -3,16 +3,14 @@ ghost use Rattle.std.specs.Prelude.{◌≡◌, ◌<◌, ◌≤◌, ◌-◌, ◌%
 ghost use Rattle.processor.specs.Bytes.{page_size};
 ghost use Rattle.sv_types.specs.Limits.{most_events};
 ghost use Rattle.sv_types.specs.Boot.{most_flat_bytes};
-ghost use Rattle.secvisor_cli.specs.Plans.{flat_plan, flat_events, is_whole_pages, measure_judged};
-ghost use Rattle.secvisor_cli.specs.Reading.{MayFollow};
+ghost use Rattle.command_plans.specs.Plans.{flat_plan, flat_events, is_whole_pages, measure_judged};
+ghost use Rattle.command_plans.specs.Reading.{MayFollow};
 ghost use Rattle.secvisor_cli.specs.Ready.{IsReady, Prepares};
 ghost use Rattle.processor.specs.Counters.{CanCount};
 
-use crate::file_fault::{FileFault, Part};
 use crate::parts::read_part;
 use crate::ready::{Booted, Ready, Stop};
-use crate::refusal::Refusal;
-use crate::words::Flat;
+use command_plans::{FileFault, Flat, Part, Refusal};
 use machine::Machine;
 use outside::Files;
 use processor::PAGE_SIZE;

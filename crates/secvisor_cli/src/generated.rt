@@ -5,7 +5,7 @@ ghost use Rattle.reference.specs.Start.{boot_start};
 ghost use Rattle.machine_model.specs.Reaches.{IsNew};
 ghost use Rattle.guest_gen.specs.GuestCode.{most_calls};
 ghost use Rattle.guest_gen.specs.Booting.{IsBootable};
-ghost use Rattle.secvisor_cli.specs.Plans.{gen_due, gen_disk};
+ghost use Rattle.command_plans.specs.Plans.{gen_due, gen_disk};
 ghost use Rattle.secvisor_cli.specs.Ready.{IsReady};
 
 use crate::ready::{Booted, Ready, Stop};

@@ -3,9 +3,8 @@ ghost use Rattle.std.specs.Prelude.{◌<◌, ◌-◌, [], ◌∷◌, IsTrue};
 ghost use Rattle.secvisor_cli.specs.Ready.{PartRead};
 ghost use Rattle.processor.specs.Counters.{CanCount};
 
-use crate::file_fault::{FileFault, Part};
 use crate::ready::Stop;
-use crate::refusal::Refusal;
+use command_plans::{FileFault, Part, Refusal};
 use outside::{FileRefusal, Files};
 use std::alloc::Global;
 

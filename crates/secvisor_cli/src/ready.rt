@@ -1,11 +1,10 @@
 // What is made ready of a command, before anything is written.
 ghost use Rattle.std.specs.Prelude.{◌≡◌};
 ghost use Rattle.secvisor_cli.specs.declared.ready.Stop.TheVariants.{Refused, Memory};
-ghost use Rattle.secvisor_cli.specs.Plans.{binding_refusal, making_fault};
+ghost use Rattle.command_plans.specs.Plans.{binding_refusal, making_fault};
 ghost use Rattle.secvisor_cli.specs.Ready.{stop_of, stop_of_binding, stop_of_making};
 
-use crate::file_fault::FileFault;
-use crate::refusal::Refusal;
+use command_plans::{FileFault, Refusal};
 use entry_binding::{BindFault, BindRefusal};
 use machine::{BootRefusal, Machine};
 use policy_limits::PolicyFault;

@@ -2,8 +2,8 @@
 ghost use Rattle.std.specs.Prelude.{◌<◌, ◌-◌};
 ghost use Rattle.std.specs.Option.{option_copied};
 ghost use Rattle.reference.specs.Disk.{disk_bytes};
-ghost use Rattle.secvisor_cli.specs.Plans.{saving_of_bytes};
-ghost use Rattle.secvisor_cli.specs.Reading.{MaySave};
+ghost use Rattle.command_plans.specs.Plans.{saving_of_bytes};
+ghost use Rattle.command_plans.specs.Reading.{MaySave};
 ghost use Rattle.secvisor_cli.specs.Answers.{AfterSave};
 ghost use Rattle.processor.specs.Counters.{CanCount};
 

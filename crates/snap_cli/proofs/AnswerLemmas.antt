@@ -8,18 +8,18 @@ use Rattle.machine_model.specs.Machine.{Machine}
 use Rattle.machine_model.specs.Reaches.{IsNew}
 use Rattle.outside.specs.Outside.{FilesState, SinkState, MaySaveUnder}
 use Rattle.secvisor_cli.specs.Answers.{Outside, outside, Writes, WritesAndSaves}
-use Rattle.secvisor_cli.specs.Plans.{Due, Refuse, RunFrom, Make, Plan, run_plan}
-use Rattle.secvisor_cli.specs.Reading.{MayFollow}
+use Rattle.command_plans.specs.Plans.{Due, Refuse, RunFrom, Make, Plan, run_plan}
+use Rattle.command_plans.specs.Reading.{MayFollow}
 use Rattle.secvisor_cli.specs.Ready.{IsFresh}
-use Rattle.secvisor_cli.specs.Refusals.{refusal_line, refusal_status, takes_memory}
+use Rattle.command_plans.specs.Refusals.{refusal_line, refusal_status, takes_memory}
 use Rattle.secvisor_cli.specs.declared.ready.Booted.{Booted}
 use Rattle.secvisor_cli.specs.declared.ready.Stop.TheVariants.{Refused}
 use Rattle.secvisor_cli.specs.declared.ready.Stop.TheVariants as stop
-use Rattle.secvisor_cli.specs.declared.refusal.Refusal.{Refusal}
+use Rattle.command_plans.specs.declared.refusal.Refusal.{Refusal}
 use Rattle.outside.specs.declared.trouble.Trouble.{Trouble}
 use Rattle.outside.specs.declared.trouble.Trouble.TheVariants.{Memory}
 use Rattle.secvisor_cli.proofs.TopLemmas.{refused_writes}
-use Rattle.secvisor_cli.proofs.PlanLemmas.{may_follow}
+use Rattle.command_plans.proofs.PlanLemmas.{may_follow}
 use Rattle.snap_cli.specs.SnapAnswers.{RunsSnap, AnswersSnapReached, PerformsRun, PerformsSnap}
 use Rattle.snap_cli.specs.SnapReady.{StartsBlock, IsBootedWhere, Boots}
 use Rattle.snap_cli.specs.SnapWords.{SnapWords, snap_plan, out_of, snap_judged}

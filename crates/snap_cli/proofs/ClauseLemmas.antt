@@ -8,15 +8,16 @@ use Rattle.reference.specs.States.{State}
 use Rattle.outside.specs.Outside.{FilesState, SinkState}
 use Rattle.secvisor_cli.specs.Answers.{Outside, outside, Writes}
 use Rattle.outside.specs.Endings.{status_of_end}
-use Rattle.secvisor_cli.specs.Plans.{Due, Refuse, RunFrom, Make, Plan}
-use Rattle.secvisor_cli.specs.Reading.{Follows}
-use Rattle.secvisor_cli.specs.declared.refusal.Refusal.{Refusal}
+use Rattle.command_plans.specs.Plans.{Due, Refuse, RunFrom, Make, Plan}
+use Rattle.command_plans.specs.Reading.{Follows}
+use Rattle.command_plans.specs.declared.refusal.Refusal.{Refusal}
 use Rattle.outside.specs.declared.trouble.Trouble.{Trouble}
 use Rattle.outside.specs.declared.trouble.Trouble.TheVariants.{Write, Memory}
-use Rattle.secvisor_cli.proofs.PlanLemmas.{HasFault, HasFoundFaults, follows_keeps}
+use Rattle.command_plans.proofs.PlanLemmas.{HasFault, HasFoundFaults, follows_keeps}
 use Rattle.secvisor_cli.proofs.SaveLemmas.{changes, ChangesOut, changes_none, writes_faults}
-use Rattle.secvisor_cli.proofs.TopLemmas.{run_found_faults, EffectOut, effect_out, refused_fault}
-use Rattle.secvisor_cli.proofs.WordLemmas.{NoReadFault}
+use Rattle.command_plans.proofs.FoundFaults.{run_found_faults}
+use Rattle.secvisor_cli.proofs.TopLemmas.{EffectOut, effect_out, refused_fault}
+use Rattle.command_plans.proofs.WordLemmas.{NoReadFault}
 use Rattle.snap_cli.specs.SnapAnswers.{saving_of, SavesMade, SavesSnapshot, RunsSnap, AnswersSnapReached, PerformsSnap}
 use Rattle.snap_cli.specs.SnapWords.{SnapWords, snap_judged, snap_plan, out_of}
 use Rattle.snap_cli.proofs.WordLemmas.{snap_no_read_fault}

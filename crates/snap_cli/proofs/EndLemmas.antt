@@ -8,13 +8,13 @@ use Rattle.outside.specs.Outside.{FilesState, after_taking}
 use Rattle.secvisor_cli.specs.Answers.{Outside, outside, Writes}
 use Rattle.outside.specs.Endings.{status_of_end}
 use Rattle.secvisor_cli.specs.DueIn.{due_in, AreReadWhole}
-use Rattle.secvisor_cli.specs.Plans.{Due, RunFrom, Plan}
-use Rattle.secvisor_cli.specs.Reading.{Follows}
-use Rattle.secvisor_cli.specs.declared.refusal.Refusal.{Refusal}
+use Rattle.command_plans.specs.Plans.{Due, RunFrom, Plan}
+use Rattle.command_plans.specs.Reading.{Follows}
+use Rattle.command_plans.specs.declared.refusal.Refusal.{Refusal}
 use Rattle.outside.specs.declared.trouble.Trouble.{Trouble}
 use Rattle.outside.specs.declared.trouble.Trouble.TheVariants.{Write, Memory}
 use Rattle.secvisor_cli.proofs.DueLemmas.{comes_to_due, ends_behind}
-use Rattle.secvisor_cli.proofs.PlanLemmas.{Keeps, follows_keeps}
+use Rattle.command_plans.proofs.PlanLemmas.{Keeps, follows_keeps}
 use Rattle.snap_cli.specs.SnapAnswers.{AnswersSnapReached, PerformsSnap, RunsSnap, SavesMade, SavesSnapshot, SnapHeadline}
 use Rattle.snap_cli.specs.SnapEnds.{SnapEnds, SnapEndsLaw}
 use Rattle.snap_cli.specs.SnapWords.{SnapWords, snap_plan}

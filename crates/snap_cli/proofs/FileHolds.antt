@@ -17,10 +17,9 @@ use Rattle.snapshot_form.specs.Snapshots.{contents}
 use Rattle.snapshot_form.specs.declared.whole.Snapshot.{Snapshot}
 use Rattle.resume_laws.specs.Continues.{draw_count}
 use Rattle.resume_laws.specs.SavedForm.{HasBlock, IsCounted}
-use Rattle.resumed_start.specs.SnapLaws.{IsSnapAfter}
+use Rattle.resumed_start.specs.SnapLaws.{IsSnapAfter, IsSnapshotOf}
 use Rattle.resumed_start.proofs.SnapHolds.{snap_read_law}
 use Rattle.machine.proofs.Repeated.{none_counted}
-use Rattle.snap_cli.specs.SnapAnswers.{IsSnapshotOf}
 use Rattle.snap_cli.proofs.RunLemmas.{drawn_few}
 use Rattle.snap_cli.specs.BlockRuns.{HoldsDisk}
 use Rattle.snap_cli.specs.SnapFile.{IsDisk, SnapFileLaw}

@@ -15,18 +15,18 @@ use Rattle.policy.specs.Refusals.{Judged}
 use Rattle.policy.specs.Text.{rules_of_text}
 use Rattle.script.specs.AutoScripts.{events_of_text, first_refused}
 use Rattle.resume_laws.specs.DiskKinds.{is_block_disk}
-use Rattle.secvisor_cli.specs.CommandLine.{RunWords, Source, Rounds, Auto, Text}
-use Rattle.secvisor_cli.specs.Plans.{Due, Refuse, RunFrom, Make, Plan, End, Read, Judge, Found, Faulty, Missing, Longer, Held, found_plan, policy_judged, policy_part, part_judged, kernel_part, disk_refusal, disk_part, text_part, script_part, image_measure, start_with, boot_judged, boot_plan, image_plan, run_plan}
-use Rattle.secvisor_cli.specs.Reading.{Follows}
+use Rattle.command_plans.specs.CommandLine.{RunWords, Source, Rounds, Auto, Text}
+use Rattle.command_plans.specs.Plans.{Due, Refuse, RunFrom, Make, Plan, End, Read, Judge, Found, Faulty, Missing, Longer, Held, found_plan, policy_judged, policy_part, part_judged, kernel_part, disk_refusal, disk_part, text_part, script_part, image_measure, start_with, boot_judged, boot_plan, image_plan, run_plan}
+use Rattle.command_plans.specs.Reading.{Follows}
 use Rattle.secvisor_cli.specs.Ready.{IsReadyWhere, Prepares}
-use Rattle.secvisor_cli.specs.declared.file_fault.FileFault.{FileFault}
-use Rattle.secvisor_cli.specs.declared.file_fault.Part.{Part}
+use Rattle.command_plans.specs.declared.file_fault.FileFault.{FileFault}
+use Rattle.command_plans.specs.declared.file_fault.Part.{Part}
 use Rattle.secvisor_cli.specs.declared.ready.Booted.{Booted}
 use Rattle.secvisor_cli.specs.declared.ready.Made.{Made}
 use Rattle.secvisor_cli.specs.declared.ready.Ready.TheVariants.{Run, Save}
 use Rattle.secvisor_cli.specs.declared.ready.Stop.{Stop}
 use Rattle.secvisor_cli.specs.declared.ready.Stop.TheVariants.{Refused, Memory}
-use Rattle.secvisor_cli.specs.declared.refusal.Refusal.TheVariants.{Measure, Entry}
+use Rattle.command_plans.specs.declared.refusal.Refusal.TheVariants.{Measure, Entry}
 use Rattle.snap_cli.specs.SnapReady.{IsBootedWhere, Boots}
 
 -- ---- whatever is found in files

@@ -17,6 +17,7 @@ use Rattle.snapshot_form.specs.Snapshots.{contents, snapshot}
 use Rattle.snapshot_form.specs.Typed.{IsTyped}
 use Rattle.snapshot_form.specs.declared.whole.Snapshot.{Snapshot}
 use Rattle.snapshot_form.specs.declared.whole.TextPage.{TextPage}
+use Rattle.resumed_start.specs.SnapLaws.{IsSnapshotOf}
 use Rattle.resumed_start.specs.TextPages.{digested_text}
 use Rattle.resume_laws.specs.DiskKinds.{is_block_disk}
 use Rattle.outside.specs.Outside.{FilesState, SinkState}
@@ -26,7 +27,7 @@ use Rattle.outside.specs.declared.trouble.Trouble.{Trouble}
 use Rattle.outside.specs.declared.trouble.Trouble.TheVariants.{Memory}
 use Rattle.secvisor_cli.proofs.SaveLemmas.{saved_ok, saved_err}
 use Rattle.secvisor_cli.proofs.EndLemmas.{wanting_writes}
-use Rattle.snap_cli.specs.SnapAnswers.{IsSnapshotOf, saving_of, SavesMade, StandsAfter, SnapsTo}
+use Rattle.snap_cli.specs.SnapAnswers.{saving_of, SavesMade, StandsAfter, SnapsTo}
 use Rattle.snap_cli.specs.Spelling.{IsMachineSnapshot, SpellsMachine, SavesMachine}
 use Rattle.snap_cli.proofs.RunLemmas.{stands_all, counts_drawn, new_stands}
 

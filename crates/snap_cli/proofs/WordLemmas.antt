@@ -4,9 +4,9 @@ use Rattle.std.specs.List.{list_any}
 use Rattle.sv_types.specs.Limits.{most_events}
 use Rattle.sv_types.specs.Numbers.{number_within}
 use Rattle.command_words.specs.Commands.{has_dash}
-use Rattle.secvisor_cli.specs.CommandLine.{Source, source_of}
-use Rattle.secvisor_cli.specs.declared.refusal.Refusal.TheVariants.{NoCommand}
-use Rattle.secvisor_cli.proofs.WordLemmas.{NoReadFault, judged_unless, judged_if}
+use Rattle.command_plans.specs.CommandLine.{Source, source_of}
+use Rattle.command_plans.specs.declared.refusal.Refusal.TheVariants.{NoCommand}
+use Rattle.command_plans.proofs.WordLemmas.{NoReadFault, judged_unless, judged_if}
 use Rattle.snap_cli.specs.SnapWords.{snap_words, snap_split, snap_shape, snap_judged}
 
 -- so many words are of no command

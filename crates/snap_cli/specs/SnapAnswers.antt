@@ -7,32 +7,21 @@ use Rattle.reference.specs.Run.{run}
 use Rattle.reference.specs.States.{State}
 use Rattle.machine_model.specs.Machine.{Machine}
 use Rattle.machine_model.specs.Reaches.{Reaches}
-use Rattle.saved_machine.specs.SavedStates.{IsSaved}
 use Rattle.snapshot_form.specs.Snapshots.{contents, snapshot}
-use Rattle.snapshot_form.specs.Typed.{IsTyped}
 use Rattle.snapshot_form.specs.declared.whole.Snapshot.{Snapshot}
-use Rattle.resume_laws.specs.Continues.{draw_count}
-use Rattle.resumed_start.specs.TextPages.{digested_text}
+use Rattle.resumed_start.specs.SnapLaws.{IsSnapshotOf}
 use Rattle.outside.specs.Outside.{FilesState, SinkState, after_taking, TookPrefix}
 use Rattle.console_run.specs.Standing.{Stands}
 use Rattle.secvisor_cli.specs.Answers.{Outside, outside, Writes, SavedBehind, WritesAndSaves}
 use Rattle.outside.specs.Endings.{status_of_end}
-use Rattle.secvisor_cli.specs.Plans.{Due, Refuse, RunFrom, Make, Saving, Exactly, Plan}
-use Rattle.secvisor_cli.specs.Reading.{Follows}
-use Rattle.secvisor_cli.specs.declared.refusal.Refusal.{Refusal}
+use Rattle.command_plans.specs.Plans.{Due, Refuse, RunFrom, Make, Saving, Exactly, Plan}
+use Rattle.command_plans.specs.Reading.{Follows}
+use Rattle.command_plans.specs.declared.refusal.Refusal.{Refusal}
 use Rattle.outside.specs.declared.trouble.Trouble.{Trouble}
 use Rattle.outside.specs.declared.trouble.Trouble.TheVariants.{Memory}
 use Rattle.snap_cli.specs.SnapWords.{SnapWords, out_of, snap_plan}
 
 -- ---- the snapshot
-
--- the state behind the events, how many of them were made while the machine ran, and the text that the start approves; its
--- numbers are words, a hart's registers 32 and a digest 32 bytes
-pub record IsSnapshotOf (start : State) (events : List Event) (s : Snapshot) : Type 0 where
-  pub state : IsSaved (run start events) s.«machine»
-  pub made : s.events ≡ draw_count start events
-  pub text : s.text.items ≡ digested_text start
-  pub typed : IsTyped (contents s)
 
 -- exactly its spelling, under a name
 abbrev pub saving_of : (name : List ℕ) → Snapshot → Saving

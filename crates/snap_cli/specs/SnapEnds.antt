@@ -9,10 +9,11 @@ use Rattle.snapshot_form.specs.declared.whole.Snapshot.{Snapshot}
 use Rattle.command_words.specs.Commands.{has_dash}
 use Rattle.outside.specs.Outside.{after_taking}
 use Rattle.secvisor_cli.specs.Answers.{Outside}
-use Rattle.secvisor_cli.specs.CommandLine.{judgement_of_words}
+use Rattle.command_plans.specs.CommandLine.{judgement_of_words}
 use Rattle.secvisor_cli.specs.DueIn.{due_in, AreReadWhole, EndsAs}
-use Rattle.secvisor_cli.specs.Plans.{RunFrom, plan_of}
-use Rattle.snap_cli.specs.SnapAnswers.{IsSnapshotOf, SnapHeadline}
+use Rattle.command_plans.specs.Plans.{RunFrom, plan_of}
+use Rattle.resumed_start.specs.SnapLaws.{IsSnapshotOf}
+use Rattle.snap_cli.specs.SnapAnswers.{SnapHeadline}
 use Rattle.snap_cli.specs.SnapWords.{snap_judged}
 
 -- ---- the words

@@ -7,8 +7,7 @@ use Rattle.reference.specs.BlockDisk.{sector_size}
 use Rattle.reference.specs.Start.{boot_start}
 use Rattle.snapshot_form.specs.Snapshots.{contents, snapshot, snapshot_read}
 use Rattle.snapshot_form.specs.declared.whole.Snapshot.{Snapshot}
-use Rattle.resumed_start.specs.SnapLaws.{IsMeasuredBoot}
-use Rattle.snap_cli.specs.SnapAnswers.{IsSnapshotOf}
+use Rattle.resumed_start.specs.SnapLaws.{IsMeasuredBoot, IsSnapshotOf}
 
 -- a disk that a plan doesn't refuse: whole sectors, within the limit
 pub record IsDisk (disk : List ℕ) : Type 0 where

@@ -6,8 +6,8 @@ use Rattle.machine_model.specs.Machine.{Machine}
 use Rattle.machine_model.specs.Reaches.{IsNew}
 use Rattle.outside.specs.Outside.{FilesState}
 use Rattle.resume_laws.specs.DiskKinds.{is_block_disk}
-use Rattle.secvisor_cli.specs.Plans.{Due, Refuse, RunFrom, Make, Plan}
-use Rattle.secvisor_cli.specs.Reading.{Follows}
+use Rattle.command_plans.specs.Plans.{Due, Refuse, RunFrom, Make, Plan}
+use Rattle.command_plans.specs.Reading.{Follows}
 use Rattle.secvisor_cli.specs.Ready.{IsFresh}
 use Rattle.secvisor_cli.specs.declared.ready.Booted.{Booted}
 use Rattle.secvisor_cli.specs.declared.ready.Stop.{Stop}

@@ -6,12 +6,12 @@ use Rattle.sv_types.specs.Limits.{most_events}
 use Rattle.sv_types.specs.Numbers.{number_within}
 use Rattle.command_words.specs.Commands.{has_dash}
 use Rattle.command_words.specs.declared.command.DiskKind.{DiskKind}
-use Rattle.secvisor_cli.specs.CommandLine.{RunWords, Source, source_of, unless_none}
-use Rattle.secvisor_cli.specs.Plans.{Refuse, Plan, End, run_plan}
-use Rattle.secvisor_cli.specs.Words.{run_value}
-use Rattle.secvisor_cli.specs.declared.refusal.Refusal.{Refusal}
-use Rattle.secvisor_cli.specs.declared.refusal.Refusal.TheVariants.{NoCommand, OutOfRange}
-use Rattle.secvisor_cli.specs.declared.refusal.Word.{Word}
+use Rattle.command_plans.specs.CommandLine.{RunWords, Source, source_of, unless_none}
+use Rattle.command_plans.specs.Plans.{Refuse, Plan, End, run_plan}
+use Rattle.command_plans.specs.Words.{run_value}
+use Rattle.command_plans.specs.declared.refusal.Refusal.{Refusal}
+use Rattle.command_plans.specs.declared.refusal.Refusal.TheVariants.{NoCommand, OutOfRange}
+use Rattle.command_plans.specs.declared.refusal.Word.{Word}
 use Rattle.snap_cli.specs.declared.words.Snap.{Snap}
 
 -- a run, and the name that its snapshot is saved under

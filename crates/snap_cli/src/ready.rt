@@ -2,14 +2,15 @@
 ghost use Rattle.std.specs.Prelude.{◌≡◌, ◌<◌, ◌≤◌, ◌-◌};
 ghost use Rattle.sv_types.specs.Limits.{most_events};
 ghost use Rattle.command_words.specs.declared.command.DiskKind.{DiskKind};
-ghost use Rattle.secvisor_cli.specs.Plans.{run_plan};
-ghost use Rattle.secvisor_cli.specs.Reading.{MayFollow};
-ghost use Rattle.secvisor_cli.specs.Words.{run_value};
+ghost use Rattle.command_plans.specs.Plans.{run_plan};
+ghost use Rattle.command_plans.specs.Reading.{MayFollow};
+ghost use Rattle.command_plans.specs.Words.{run_value};
 ghost use Rattle.snap_cli.specs.SnapReady.{Boots};
 ghost use Rattle.processor.specs.Counters.{CanCount};
 
+use command_plans::Run;
 use outside::Files;
-use secvisor_cli::{Booted, Ready, Run, Stop, prepare_run};
+use secvisor_cli::{Booted, Ready, Stop, prepare_run};
 use std::alloc::Global;
 use std::thread::Threads;
 

@@ -2,7 +2,7 @@
 ghost use Rattle.std.specs.Prelude.{map, string_bytes};
 ghost use Rattle.snap_cli.specs.SnapWords.{snap_judged, snap_shape, snap_named, snap_split, IsSnap};
 
-use secvisor_cli::{DiskKind, Refusal, Run, Word, any_has_dash, source_of, unless_none};
+use command_plans::{DiskKind, Refusal, Run, Word, any_has_dash, source_of, unless_none};
 use sv_types::MOST_EVENTS;
 use text_numbers::number_within;
 

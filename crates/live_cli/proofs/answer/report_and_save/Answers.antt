@@ -6,7 +6,7 @@ use Rattle.live_cli.specs.LiveRuns.{harts_of, events_made}
 use Rattle.outside.specs.declared.trouble.Trouble.{Trouble}
 use Rattle.outside.specs.declared.trouble.Trouble.TheVariants.{Memory}
 use Rattle.secvisor_cli.specs.Answers.{Writes, AfterSave}
-use Rattle.secvisor_cli.specs.Plans.{Exactly}
+use Rattle.command_plans.specs.Plans.{Exactly}
 use Rattle.secvisor_cli.proofs.ReadyLemmas.{err_by}
 use Rattle.secvisor_cli.proofs.SaveLemmas.{saved_ok, saved_err}
 use Rattle.secvisor_cli.proofs.EndLemmas.{wanting_writes}

@@ -1,7 +1,7 @@
 use Rattle.std.proofs.Common.{refl, ap, subst, map, string_bytes, Ok}
 use Rattle.secvisor_cli.specs.declared.ready.Ready.{Ready}
 use Rattle.secvisor_cli.specs.declared.ready.Stop.TheVariants.{Refused, Memory}
-use Rattle.secvisor_cli.specs.Plans.{run_plan}
+use Rattle.command_plans.specs.Plans.{run_plan}
 use Rattle.secvisor_cli.specs.Ready.{Prepares, DrawsFrom}
 use Rattle.secvisor_cli.proofs.ReadyLemmas.{err_by}
 use Rattle.live_cli.specs.LiveRuns.{harts_of}

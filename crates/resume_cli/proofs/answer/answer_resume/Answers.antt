@@ -1,5 +1,5 @@
 use Rattle.std.proofs.Common.{arith}
-use Rattle.secvisor_cli.proofs.PlanLemmas.{follows_keeps}
+use Rattle.command_plans.proofs.PlanLemmas.{follows_keeps}
 use Rattle.resume_cli.proofs.AnswerLemmas.{is_runnable, may_run, ready_performs, refused_performs, wanting_performs}
 use Rattle.resume_cli.proofs.answer.answer_resume.Goals as goal
 

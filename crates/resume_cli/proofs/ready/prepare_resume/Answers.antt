@@ -1,8 +1,8 @@
 use Rattle.std.proofs.Common.{Err}
 use Rattle.sv_types.specs.Policies.{rules_of}
 use Rattle.snapshot_form.specs.Snapshots.{contents}
-use Rattle.secvisor_cli.specs.Plans.{policy_part, script_part}
-use Rattle.secvisor_cli.specs.Words.{source_value}
+use Rattle.command_plans.specs.Plans.{policy_part, script_part}
+use Rattle.command_plans.specs.Words.{source_value}
 use Rattle.secvisor_cli.proofs.ReadyLemmas.{err_by}
 use Rattle.resume_cli.specs.ResumePlans.{behind_policy, behind_script, behind_snapshot, snapshot_part, words_plan}
 use Rattle.resume_cli.specs.ResumeReady.{Resumes}

@@ -2,7 +2,7 @@ use Rattle.std.proofs.Common.{rules}
 use Rattle.sv_types.specs.Policies.{rules_of}
 use Rattle.elf64_load.specs.Images.{segments_of}
 use Rattle.secvisor_cli.specs.declared.ready.Stop.TheVariants.{Memory}
-use Rattle.secvisor_cli.specs.Plans.{bound_plan, kernel_part}
+use Rattle.command_plans.specs.Plans.{bound_plan, kernel_part}
 use Rattle.secvisor_cli.specs.Ready.{Prepares, stop_of_binding}
 use Rattle.command_words.specs.Values.{convert_split_of}
 use Rattle.secvisor_cli.proofs.ReadyLemmas.{err_by}

@@ -1,7 +1,7 @@
 use Rattle.std.proofs.Common.{ℕ, List, subst, Err}
 use Rattle.sv_types.specs.Policies.{rules_of}
-use Rattle.secvisor_cli.specs.declared.file_fault.Part.{Part}
-use Rattle.secvisor_cli.specs.Plans.{most_image_bytes, policy_part, kernel_part, bound_plan, binding_plan, convert_plan}
+use Rattle.command_plans.specs.declared.file_fault.Part.{Part}
+use Rattle.command_plans.specs.Plans.{most_image_bytes, policy_part, kernel_part, bound_plan, binding_plan, convert_plan}
 use Rattle.secvisor_cli.specs.Ready.{Prepares}
 use Rattle.command_words.specs.Values.{convert_split_of}
 use Rattle.secvisor_cli.proofs.ReadyLemmas.{err_by, stopped_ready, read_ready}

@@ -1,10 +1,10 @@
 use Rattle.std.proofs.Common.{ℕ, List, subst, sym, Err}
 use Rattle.sv_types.specs.Policies.{rules_of}
-use Rattle.secvisor_cli.specs.declared.file_fault.Part.{Part}
-use Rattle.secvisor_cli.specs.Plans.{most_image_bytes, policy_part, kernel_part, boot_plan, image_plan, run_plan}
-use Rattle.secvisor_cli.specs.Reading.{MayFollow}
+use Rattle.command_plans.specs.declared.file_fault.Part.{Part}
+use Rattle.command_plans.specs.Plans.{most_image_bytes, policy_part, kernel_part, boot_plan, image_plan, run_plan}
+use Rattle.command_plans.specs.Reading.{MayFollow}
 use Rattle.secvisor_cli.specs.Ready.{Prepares}
-use Rattle.secvisor_cli.specs.Words.{run_value}
+use Rattle.command_plans.specs.Words.{run_value}
 use Rattle.secvisor_cli.proofs.ReadyLemmas.{err_by, stopped_ready, read_ready}
 use Rattle.secvisor_cli.proofs.StageLemmas.{pass_ready, read_may}
 use Rattle.secvisor_cli.proofs.image_run.prepare_run.Goals as goal

@@ -6,9 +6,9 @@ use Rattle.policy_making.specs.Refusals.{Judged, Refuses}
 use Rattle.policy_making.specs.WordRanges.{are_module_names}
 use Rattle.policy_making.specs.declared.object_file.ObjectFile.{ObjectFile}
 use Rattle.secvisor_cli.specs.declared.ready.Stop.TheVariants.{Memory}
-use Rattle.secvisor_cli.specs.Plans.{making_plan}
+use Rattle.command_plans.specs.Plans.{making_plan}
 use Rattle.secvisor_cli.specs.Ready.{Prepares, stop_of_making, kernel_value, modules_value}
-use Rattle.secvisor_cli.specs.Words.{policy_value}
+use Rattle.command_plans.specs.Words.{policy_value}
 use Rattle.secvisor_cli.proofs.ReadyLemmas.{err_by}
 use Rattle.secvisor_cli.proofs.MakingLemmas.{making_stops, making_wants, making_ready, behind_same}
 use Rattle.secvisor_cli.proofs.making.make_ready.Goals as goal

@@ -1,5 +1,5 @@
 use Rattle.std.proofs.Common.{arith}
-use Rattle.secvisor_cli.proofs.PlanLemmas.{follows_keeps, follows_permits}
+use Rattle.command_plans.proofs.PlanLemmas.{follows_keeps, follows_permits}
 use Rattle.snap_cli.proofs.AnswerLemmas.{begins, may_under, ready_performs, refused_performs, wanting_performs}
 use Rattle.snap_cli.proofs.answer.answer_snap.Goals as goal
 

@@ -1,8 +1,8 @@
 use Rattle.std.proofs.Common.{subst, Ok}
 use Rattle.secvisor_cli.proofs.ReadyLemmas.{err_by}
-use Rattle.secvisor_cli.specs.Plans.{run_plan}
+use Rattle.command_plans.specs.Plans.{run_plan}
 use Rattle.secvisor_cli.specs.Ready.{Prepares}
-use Rattle.secvisor_cli.specs.Words.{run_value}
+use Rattle.command_plans.specs.Words.{run_value}
 use Rattle.secvisor_cli.specs.declared.ready.Ready.{Ready}
 use Rattle.snap_cli.specs.SnapReady.{Boots}
 use Rattle.snap_cli.proofs.ReadyLemmas.{run_boots, run_stops, makes_none}

@@ -1,6 +1,6 @@
 use Rattle.std.proofs.Common.{ℕ, List, ◌∙◌, subst, inr, Some}
 use Rattle.secvisor_cli.specs.Answers.{AfterSave}
-use Rattle.secvisor_cli.specs.Plans.{Exactly}
+use Rattle.command_plans.specs.Plans.{Exactly}
 use Rattle.snap_cli.proofs.saving.save_snapshot.Goals as goal
 
 pub save_bytes-requires-clause-permitted : goal.save_bytes-requires-clause-permitted

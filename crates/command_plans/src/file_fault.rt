@@ -1,6 +1,6 @@
 // Why a file is refused.
 ghost use Rattle.std.specs.Prelude.{◌≡◌};
-ghost use Rattle.secvisor_cli.specs.Refusals.{fault_number, fault_part, part_name};
+ghost use Rattle.command_plans.specs.Refusals.{fault_number, fault_part, part_name};
 
 use elf64_reloc::ObjectFault;
 use entry_binding::ConvertFault;

@@ -9,15 +9,15 @@ use Rattle.policy_making.specs.Making.{Terms}
 use Rattle.policy_making.specs.Ranges.{terms_within}
 use Rattle.policy_making.specs.WordRanges.{entries_of, are_module_names}
 use Rattle.command_words.specs.Commands.{Split}
-use Rattle.secvisor_cli.specs.declared.refusal.Refusal.{Refusal}
-use Rattle.secvisor_cli.specs.declared.words.Command.{Command as Asked}
-use Rattle.secvisor_cli.specs.declared.words.Command.TheVariants as asked
-use Rattle.secvisor_cli.specs.declared.words.Source.{Source as Named}
-use Rattle.secvisor_cli.specs.declared.words.Source.TheVariants as named
-use Rattle.secvisor_cli.specs.declared.words.Run.{Run as AskedRun}
-use Rattle.secvisor_cli.specs.declared.words.Terms.{Terms as AskedTerms}
-use Rattle.secvisor_cli.specs.declared.words.MakePolicy.{MakePolicy as AskedPolicy}
-use Rattle.secvisor_cli.specs.CommandLine.{Command, Flat, Generated, Run, RunWords, MakePolicy, PolicyWords, Convert, Source, Rounds, Auto, Text}
+use Rattle.command_plans.specs.declared.refusal.Refusal.{Refusal}
+use Rattle.command_plans.specs.declared.words.Command.{Command as Asked}
+use Rattle.command_plans.specs.declared.words.Command.TheVariants as asked
+use Rattle.command_plans.specs.declared.words.Source.{Source as Named}
+use Rattle.command_plans.specs.declared.words.Source.TheVariants as named
+use Rattle.command_plans.specs.declared.words.Run.{Run as AskedRun}
+use Rattle.command_plans.specs.declared.words.Terms.{Terms as AskedTerms}
+use Rattle.command_plans.specs.declared.words.MakePolicy.{MakePolicy as AskedPolicy}
+use Rattle.command_plans.specs.CommandLine.{Command, Flat, Generated, Run, RunWords, MakePolicy, PolicyWords, Convert, Source, Rounds, Auto, Text}
 
 -- where the events come from, by value
 abbrev pub source_value : Named → Source

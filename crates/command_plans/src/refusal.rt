@@ -1,7 +1,7 @@
 // Why a command isn't carried out.
 ghost use Rattle.std.specs.Prelude.{◌≡◌, ◌<◌, ◌-◌, IsTrue, IsErrOf, OnOk, IfOk, string_bytes};
 ghost use Rattle.outside.specs.Outside.{after_taking, BreaksOff, MayWrite};
-ghost use Rattle.secvisor_cli.specs.Refusals.{refusal_line, refusal_status, takes_memory};
+ghost use Rattle.command_plans.specs.Refusals.{refusal_line, refusal_status, takes_memory};
 
 use crate::file_fault::{FileFault, Part};
 use outside::{Sink, Trouble, write_all};

@@ -11,9 +11,9 @@ use Rattle.sv_types.specs.Limits.{most_events, most_harts, fewest_ram_pages}
 use Rattle.guest_gen.specs.GuestCode.{most_calls}
 use Rattle.policy_making.specs.Making.{Terms}
 use Rattle.policy_making.specs.WordRanges.{are_entries, entries_of, span_of, are_module_names}
-use Rattle.secvisor_cli.specs.declared.refusal.Word.{Word}
-use Rattle.secvisor_cli.specs.declared.refusal.Refusal.{Refusal}
-use Rattle.secvisor_cli.specs.declared.refusal.Refusal.TheVariants.{NoCommand, OutOfRange}
+use Rattle.command_plans.specs.declared.refusal.Word.{Word}
+use Rattle.command_plans.specs.declared.refusal.Refusal.{Refusal}
+use Rattle.command_plans.specs.declared.refusal.Refusal.TheVariants.{NoCommand, OutOfRange}
 
 -- where the events of a run come from
 pub data Source : Type 0 where

@@ -6,8 +6,8 @@ ghost use Rattle.processor.specs.Regions.{most_ram_pages};
 ghost use Rattle.sv_types.specs.Limits.{most_harts, fewest_ram_pages};
 ghost use Rattle.policy_making.specs.WordRanges.{entries_of, are_module_names};
 ghost use Rattle.command_words.specs.Values.{split_of, flat_split_of, run_split_of, measure_split_of};
-ghost use Rattle.secvisor_cli.specs.CommandLine.{command_judged, flat_judged, gen_judged, run_judged, run_of, unless_none, source_of, auto_of, making_judged, terms_judged, terms_with, init_of};
-ghost use Rattle.secvisor_cli.specs.Words.{IsRead, HasTerms, HasModuleNames, IsInRange, command_of, source_value, run_value};
+ghost use Rattle.command_plans.specs.CommandLine.{command_judged, flat_judged, gen_judged, run_judged, run_of, unless_none, source_of, auto_of, making_judged, terms_judged, terms_with, init_of};
+ghost use Rattle.command_plans.specs.Words.{IsRead, HasTerms, HasModuleNames, IsInRange, command_of, source_value, run_value};
 
 use crate::refusal::{Refusal, Word};
 use command_words::{CommandWords, ConvertWords, DiskKind, FlatWords, MeasureWords, RunWords};

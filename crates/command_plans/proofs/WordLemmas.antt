@@ -17,12 +17,12 @@ use Rattle.policy_making.specs.WordRanges.{are_entries, entries_of, are_module_n
 use Rattle.policy_making.proofs.WordsWithin.{entries_count, entries_good, span_of_within}
 use Rattle.command_words.specs.declared.command.DiskKind.{DiskKind}
 use Rattle.command_words.specs.Commands.{Split, RunSplit, MeasureSplit, flat_split, gen_split, run_split, measure_split, convert_split, split_words}
-use Rattle.secvisor_cli.specs.declared.refusal.Refusal.{Refusal}
-use Rattle.secvisor_cli.specs.declared.refusal.Refusal.TheVariants.{OutOfRange, NoCommand}
-use Rattle.secvisor_cli.specs.declared.refusal.Word.{Word}
-use Rattle.secvisor_cli.specs.Refusals.{refusal_status}
-use Rattle.secvisor_cli.specs.CommandLine.{Command, Source, flat_words, gen_words, source_of, run_words, entries_judged, init_of, terms_with, terms_words, terms_judged, making_words, command_judged, split_judged, judgement_of_words}
-use Rattle.secvisor_cli.specs.Words.{HasModuleNames}
+use Rattle.command_plans.specs.declared.refusal.Refusal.{Refusal}
+use Rattle.command_plans.specs.declared.refusal.Refusal.TheVariants.{OutOfRange, NoCommand}
+use Rattle.command_plans.specs.declared.refusal.Word.{Word}
+use Rattle.command_plans.specs.Refusals.{refusal_status}
+use Rattle.command_plans.specs.CommandLine.{Command, Source, flat_words, gen_words, source_of, run_words, entries_judged, init_of, terms_with, terms_words, terms_judged, making_words, command_judged, split_judged, judgement_of_words}
+use Rattle.command_plans.specs.Words.{HasModuleNames}
 
 -- ---- so many words are of no command
 

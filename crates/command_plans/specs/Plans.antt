@@ -35,12 +35,12 @@ use Rattle.entry_binding.specs.Binding.{bound_rules}
 use Rattle.entry_binding.specs.Faults.{Judged as Bound}
 use Rattle.entry_binding.specs.declared.fault.BindFault.{BindFault}
 use Rattle.entry_binding.specs.declared.fault.BindFault.TheVariants as binding
-use Rattle.secvisor_cli.specs.declared.file_fault.Part.{Part}
-use Rattle.secvisor_cli.specs.declared.file_fault.FileFault.{FileFault}
-use Rattle.secvisor_cli.specs.declared.refusal.Refusal.{Refusal}
-use Rattle.secvisor_cli.specs.declared.refusal.Refusal.TheVariants.{ReadFault, File, Measure, Entry}
-use Rattle.secvisor_cli.specs.Refusals.{refusal_line, refusal_status}
-use Rattle.secvisor_cli.specs.CommandLine.{Command, Flat, Generated, Run, RunWords, MakePolicy, PolicyWords, Convert, Source, Rounds, Auto, Text}
+use Rattle.command_plans.specs.declared.file_fault.Part.{Part}
+use Rattle.command_plans.specs.declared.file_fault.FileFault.{FileFault}
+use Rattle.command_plans.specs.declared.refusal.Refusal.{Refusal}
+use Rattle.command_plans.specs.declared.refusal.Refusal.TheVariants.{ReadFault, File, Measure, Entry}
+use Rattle.command_plans.specs.Refusals.{refusal_line, refusal_status}
+use Rattle.command_plans.specs.CommandLine.{Command, Flat, Generated, Run, RunWords, MakePolicy, PolicyWords, Convert, Source, Rounds, Auto, Text}
 
 -- ---- what is due
 

@@ -1,6 +1,6 @@
-use Rattle.secvisor_cli.specs.Words.{terms_value}
-use Rattle.secvisor_cli.proofs.WordLemmas.{terms_in_range}
-use Rattle.secvisor_cli.proofs.words.read_measure.Goals as goal
+use Rattle.command_plans.specs.Words.{terms_value}
+use Rattle.command_plans.proofs.WordLemmas.{terms_in_range}
+use Rattle.command_plans.proofs.words.read_measure.Goals as goal
 
 pub returns-clause-range : goal.returns-clause-range
 returns-clause-range c = (

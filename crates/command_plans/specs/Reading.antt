@@ -3,7 +3,7 @@
 use Rattle.std.specs.Prelude.{◌≡◌, ◌≢◌, ◌<◌, ◌≤◌, ◌⊎◌, ℕ, List, [], ◌∷◌, length, IsTrue, Option, Some, None, Ok}
 use Rattle.policy.specs.Text.{rules_of_text}
 use Rattle.outside.specs.Outside.{FilesState, after_asking, after_saving}
-use Rattle.secvisor_cli.specs.Plans.{Due, Content, Exactly, PolicyOf, Saving, saves_due, Plan, End, Read, Judge, Found, Faulty, Missing, Longer, Held}
+use Rattle.command_plans.specs.Plans.{Due, Content, Exactly, PolicyOf, Saving, saves_due, Plan, End, Read, Judge, Found, Faulty, Missing, Longer, Held}
 
 -- exactly these bytes may be saved, or each text that reads as the policy
 abbrev pub MayHold : (name : List ℕ) → Content → FilesState → Type 0

@@ -9,12 +9,12 @@ use Rattle.elf64_reloc.specs.ObjectFaults.{object_fault_number}
 use Rattle.entry_binding.specs.Faults.{convert_fault_number}
 use Rattle.snapshot_form.specs.Refusals as form
 use Rattle.resumption.specs.Judgements as resuming
-use Rattle.secvisor_cli.specs.declared.file_fault.Part.{Part}
-use Rattle.secvisor_cli.specs.declared.file_fault.FileFault.{FileFault}
-use Rattle.secvisor_cli.specs.declared.file_fault.FileFault.TheVariants.{Longer, FlatPages, DiskSectors, ScriptLine}
-use Rattle.secvisor_cli.specs.declared.refusal.Word.{Word}
-use Rattle.secvisor_cli.specs.declared.refusal.Refusal.{Refusal}
-use Rattle.secvisor_cli.specs.declared.refusal.Refusal.TheVariants.{NoCommand, OutOfRange, ReadFault, File, Measure, Entry}
+use Rattle.command_plans.specs.declared.file_fault.Part.{Part}
+use Rattle.command_plans.specs.declared.file_fault.FileFault.{FileFault}
+use Rattle.command_plans.specs.declared.file_fault.FileFault.TheVariants.{Longer, FlatPages, DiskSectors, ScriptLine}
+use Rattle.command_plans.specs.declared.refusal.Word.{Word}
+use Rattle.command_plans.specs.declared.refusal.Refusal.{Refusal}
+use Rattle.command_plans.specs.declared.refusal.Refusal.TheVariants.{NoCommand, OutOfRange, ReadFault, File, Measure, Entry}
 
 abbrev pub part_name : Part → List ℕ
 part_name Part.Flat = codes "flat"

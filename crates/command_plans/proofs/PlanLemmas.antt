@@ -3,8 +3,8 @@ use Rattle.std.proofs.Common.{◌≡◌, ◌≢◌, ℕ, ◌<◌, ◌≤◌, Lis
 use Rattle.std.proofs.lemmas.Option.{same_Some}
 use Rattle.sv_types.specs.declared.status.Status.{Status}
 use Rattle.outside.specs.Outside.{FilesState, after_asking}
-use Rattle.secvisor_cli.specs.Plans.{Due, Content, Exactly, PolicyOf, Saving, saves_due, Plan, End, Read, Judge, Found, Faulty, Missing, Longer, Held, status_due}
-use Rattle.secvisor_cli.specs.Reading.{MayFollow, MayHold, MaySave, FoundAs, Follows, IsNamed, IsUnder, SavesUnder}
+use Rattle.command_plans.specs.Plans.{Due, Content, Exactly, PolicyOf, Saving, saves_due, Plan, End, Read, Judge, Found, Faulty, Missing, Longer, Held, status_due}
+use Rattle.command_plans.specs.Reading.{MayFollow, MayHold, MaySave, FoundAs, Follows, IsNamed, IsUnder, SavesUnder}
 
 -- ---- one read
 

@@ -2,8 +2,8 @@
 ghost use Rattle.std.specs.Prelude.{map, string_bytes, ◌≡◌};
 ghost use Rattle.std.specs.List.{list_any};
 ghost use Rattle.command_words.specs.Commands.{has_dash, shape_split, named_split, flat_split, gen_split, run_split, measure_split, convert_split};
-ghost use Rattle.secvisor_cli.specs.CommandLine.{judgement_of_words, split_judged};
-ghost use Rattle.secvisor_cli.specs.Words.{IsJudged};
+ghost use Rattle.command_plans.specs.CommandLine.{judgement_of_words, split_judged};
+ghost use Rattle.command_plans.specs.Words.{IsJudged};
 
 use crate::refusal::{Refusal, Word};
 use crate::words::{read_flat, read_generated, read_run, read_terms};

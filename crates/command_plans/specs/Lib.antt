@@ -1,0 +1,5 @@
+pub mod Refusals
+pub mod CommandLine
+pub mod Words
+pub mod Plans
+pub mod Reading
