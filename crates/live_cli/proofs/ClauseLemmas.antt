@@ -11,7 +11,7 @@ use Rattle.reference.specs.Report.{output}
 use Rattle.reference.specs.Run.{run}
 use Rattle.reference.specs.States.{State}
 use Rattle.outside.specs.Outside.{FilesState, after_taking}
-use Rattle.console_run.proofs.Standing.{stands_disk}
+use Rattle.machine.proofs.Standing.{stands_disk}
 use Rattle.live_keys.specs.Keys.{KeysState}
 use Rattle.live_keys.specs.Placed.{keys_among}
 use Rattle.live_cli.specs.Inputs.{WasRead}

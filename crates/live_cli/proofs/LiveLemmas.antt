@@ -20,9 +20,9 @@ use Rattle.outside.specs.Outside.{FilesState, SinkState, after_taking, TookPrefi
 use Rattle.outside.proofs.SinkLemmas.{after_taking-nil, prefix_behind, prefix_of_front, prefix_same}
 use Rattle.script.specs.AutoScripts.{events_of_text, first_refused}
 use Rattle.script.proofs.FirstEvents.{first_drawn}
-use Rattle.console_run.specs.Console.{HasRun}
-use Rattle.console_run.specs.Standing.{machine_output}
-use Rattle.console_run.proofs.Standing.{stands_new, stands_printed, stands_verdict, cleared_none}
+use Rattle.machine.specs.Console.{HasRun}
+use Rattle.machine.specs.Standing.{machine_output}
+use Rattle.machine.proofs.Standing.{stands_new, stands_printed, stands_verdict, cleared_none}
 use Rattle.live_keys.specs.Journal.{events_of}
 use Rattle.live_keys.specs.Keys.{KeysState}
 use Rattle.live_keys.specs.Placed.{autos_between, events_between, keys_among, others_among}

@@ -16,10 +16,10 @@ use Rattle.outside.specs.Outside.{SinkState, after_taking, BreaksOff, MayWrite}
 use Rattle.outside.proofs.SinkLemmas.{after_taking-append, after_taking-nil}
 use Rattle.live_keys.specs.Journal.{events_of, key_bytes}
 use Rattle.live_keys.specs.declared.journal.Journal.{Journal}
-use Rattle.console_run.specs.Standing.{HasState}
-use Rattle.console_run.specs.Console.{Flushed}
-use Rattle.console_run.proofs.Standing.{stands_away, cleared_none}
-use Rattle.console_run.proofs.ConsoleLemmas.{reaches_more, stands_next}
+use Rattle.machine.specs.Standing.{HasState}
+use Rattle.machine.specs.Console.{Flushed}
+use Rattle.machine.proofs.Standing.{stands_away, cleared_none}
+use Rattle.machine.proofs.ConsoleLemmas.{reaches_more, stands_next}
 use Rattle.machine.proofs.Repeated.{counts_within}
 use Rattle.machine.specs.Limits.{most_counts}
 use Rattle.machine.specs.Repeats.{Makes}

@@ -11,7 +11,7 @@ use Rattle.live_keys.specs.Placed.{bytes_of}
 use Rattle.live_keys.specs.declared.live_key.LiveKey.{LiveKey}
 use Rattle.live_cli.specs.LiveRuns.{harts_of, IsUnderWay, count_of}
 use Rattle.live_cli.specs.declared.live_run.LiveRun.{LiveRun}
-use Rattle.console_run.specs.Standing.{HasState}
+use Rattle.machine.specs.Standing.{HasState}
 use Rattle.secvisor_cli.specs.declared.ready.Booted.{Booted}
 use Rattle.secvisor_cli.specs.declared.ready.Ready.TheVariants.{Run}
 use Rattle.secvisor_cli.specs.declared.ready.Stop.{Stop}

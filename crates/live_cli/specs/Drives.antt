@@ -8,8 +8,8 @@ use Rattle.reference.specs.Run.{run}
 use Rattle.machine_model.specs.Machine.{Machine}
 use Rattle.machine_model.specs.Reaches.{ReachesFrom}
 use Rattle.outside.specs.Outside.{SinkState, MayWrite, after_taking, BreaksOff}
-use Rattle.console_run.specs.Standing.{Stands}
-use Rattle.console_run.specs.Console.{HasTaken, HasRun}
+use Rattle.machine.specs.Standing.{Stands}
+use Rattle.machine.specs.Console.{HasTaken, HasRun}
 use Rattle.live_cli.specs.LiveRuns.{harts_of, events_made, IsUnderWay, MayGoOn}
 use Rattle.live_cli.specs.declared.live_run.LiveRun.{LiveRun}
 

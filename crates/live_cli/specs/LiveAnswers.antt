@@ -13,7 +13,7 @@ use Rattle.script.specs.AutoScripts.{events_of_text, first_refused}
 use Rattle.outside.specs.Outside.{FilesState, SinkState, after_taking, TookPrefix}
 use Rattle.live_keys.specs.Keys.{KeysState}
 use Rattle.live_keys.specs.Placed.{keys_among, others_among}
-use Rattle.console_run.specs.Standing.{Stands, machine_output}
+use Rattle.machine.specs.Standing.{Stands, machine_output}
 use Rattle.live_cli.specs.declared.threads.LiveEnd.{LiveEnd}
 use Rattle.live_cli.specs.declared.live_run.LiveRun.{LiveRun}
 use Rattle.live_cli.specs.Inputs.{HasKeys}

@@ -9,7 +9,7 @@ use Rattle.machine.specs.Limits.{most_counts}
 use Rattle.live_keys.specs.Line.{most_keys}
 use Rattle.live_keys.specs.Journal.{events_of, key_bytes, HasRoom}
 use Rattle.live_keys.specs.declared.journal.Journal.{Journal}
-use Rattle.console_run.specs.Standing.{HasState}
+use Rattle.machine.specs.Standing.{HasState}
 use Rattle.live_cli.specs.declared.live_run.LiveRun.{LiveRun}
 
 -- the number of harts for which a script draws its events

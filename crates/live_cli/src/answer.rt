@@ -6,7 +6,7 @@ ghost use Rattle.sv_types.specs.Schedule.{first_events};
 ghost use Rattle.reference.specs.States.{State};
 ghost use Rattle.machine_model.specs.Reaches.{IsNew};
 ghost use Rattle.sv_types.specs.Output.{run_status};
-ghost use Rattle.console_run.specs.Standing.{machine_output};
+ghost use Rattle.machine.specs.Standing.{machine_output};
 ghost use Rattle.live_cli.specs.LiveRuns.{harts_of, events_made, IsUnderWay};
 ghost use Rattle.secvisor_cli.specs.Answers.{Writes, AfterSave};
 ghost use Rattle.command_plans.specs.Plans.{Exactly};

@@ -7,15 +7,14 @@ ghost use Rattle.reference.specs.Counting.{CountsAtMost};
 ghost use Rattle.machine_model.specs.Reaches.{Cleared};
 ghost use Rattle.live_keys.specs.Line.{most_keys, TookAllOf};
 ghost use Rattle.live_keys.specs.Journal.{events_of, key_bytes, HasRoom};
-ghost use Rattle.console_run.specs.Standing.{HasState};
+ghost use Rattle.machine.specs.Standing.{HasState};
 ghost use Rattle.live_cli.specs.LiveRuns.{MayGoOn, MayStep};
 ghost use Rattle.live_cli.specs.Drives.{GoesOn, Breaks, Drives, MayDrive};
 ghost use Rattle.outside.specs.Outside.{MayWrite};
 
 use crate::live_run::LiveRun;
-use console_run::flush_due;
 use live_keys::{Journal, KeyLine};
-use machine::Machine;
+use machine::{Machine, flush_due};
 use outside::{Failed, Sink, write_all};
 use std::sync::Wait;
 use sv_types::Event;

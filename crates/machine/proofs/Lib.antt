@@ -11,3 +11,6 @@ pub mod Rows
 pub mod Resuming
 pub mod Behind
 pub mod Reservations
+pub mod Standing
+pub mod DrawnRows
+pub mod ConsoleLemmas

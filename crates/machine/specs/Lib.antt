@@ -4,3 +4,6 @@ pub mod Limits
 pub mod Machines
 pub mod Repeats
 pub mod Resumed
+pub mod Standing
+pub mod Console
+pub mod Drawing

@@ -1,11 +1,14 @@
-//! The machine: harts with the hypervisor extension, host memory, devices, and SecVisor above them.
+//! The machine: harts with the hypervisor extension, host memory, devices, and SecVisor above them; and its run over the events
+//! of a script, with its console.
 #![tactic(auto)]
 
 mod boot;
+mod drawing;
 mod image_start;
 mod machine;
 mod machine_start;
 mod resume;
+mod running;
 mod saved;
 mod start;
 
@@ -13,3 +16,4 @@ pub use boot::BootRefusal;
 pub use devices::SECTOR_BYTES;
 pub use machine::Machine;
 pub use resume::ResumeFailure;
+pub use running::{flush_due, run};

@@ -17,10 +17,10 @@ use Rattle.outside.specs.Outside.{SinkState, after_taking, TookPrefix, BreaksOff
 use Rattle.outside.proofs.SinkLemmas.{after_taking-append, prefix_behind, prefix_of_front, prefix_same, breaks_behind, prefix_none}
 use Rattle.outside.specs.declared.trouble.Trouble.{Trouble}
 use Rattle.outside.specs.declared.trouble.Trouble.TheVariants.{Memory, Write}
-use Rattle.console_run.specs.Console.{is_due, HasRun, RunBroke}
+use Rattle.machine.specs.Console.{is_due, HasRun, RunBroke}
 use Rattle.secvisor_cli.specs.Answers.{Writes, RunsTo, is_answer}
-use Rattle.console_run.specs.Standing.{machine_output}
-use Rattle.console_run.proofs.Standing.{prints_behind, stands_printed, stands_verdict, stands_output}
+use Rattle.machine.specs.Standing.{machine_output}
+use Rattle.machine.proofs.Standing.{prints_behind, stands_printed, stands_verdict, stands_output}
 
 -- ---- the rest of the console, and then the report
 

@@ -33,7 +33,7 @@ use Rattle.secvisor_cli.specs.declared.ready.Stop.{Stop}
 use Rattle.secvisor_cli.specs.declared.ready.Stop.TheVariants.{Refused, Memory}
 use Rattle.command_plans.specs.Plans.{Due, Refuse, RunFrom, Plan, End, Judge, Found, Faulty, Missing, Longer, Held, found_plan, read_part, measure_judged, pages_judged, is_whole_pages, gen_disk, gen_due, start_with}
 use Rattle.command_plans.specs.Reading.{FoundAs}
-use Rattle.console_run.proofs.Standing.{printed_few}
+use Rattle.machine.proofs.Standing.{printed_few}
 use Rattle.machine.proofs.Repeated.{counts_are, none_counted}
 use Rattle.secvisor_cli.specs.Ready.{read_refusal, PartRead, stop_of, IsReady, IsReadyWhere, Prepares}
 

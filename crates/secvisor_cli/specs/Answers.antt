@@ -15,9 +15,9 @@ use Rattle.outside.specs.declared.trouble.Trouble.{Trouble}
 use Rattle.outside.specs.declared.trouble.Trouble.TheVariants.{Write, Memory}
 use Rattle.command_plans.specs.Refusals.{refusal_line, takes_memory}
 use Rattle.command_plans.specs.Plans.{Due, Refuse, RunFrom, Make, Saving, saving_of_bytes, policy_saving, Plan, bytes_due, status_due, saves_due}
-use Rattle.console_run.specs.Console.{is_due}
+use Rattle.machine.specs.Console.{is_due}
 use Rattle.command_plans.specs.Reading.{Follows, Saved, SaveBroke}
-use Rattle.console_run.specs.Standing.{Stands, machine_output}
+use Rattle.machine.specs.Standing.{Stands, machine_output}
 
 -- what stands outside the program: the files, the sink, and the machine on the bench
 pub record Outside : Type 0 where

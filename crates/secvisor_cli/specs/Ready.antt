@@ -40,7 +40,7 @@ use Rattle.secvisor_cli.specs.declared.ready.Stop.{Stop}
 use Rattle.secvisor_cli.specs.declared.ready.Stop.TheVariants.{Refused, Memory}
 use Rattle.command_plans.specs.Plans.{Due, Refuse, RunFrom, Make, making_fault, binding_refusal, Kernel, Modules, saves_due, Plan, Found, Faulty, Missing, Longer, Held}
 use Rattle.command_plans.specs.Reading.{Follows, FoundAs, MayFollow, MaySave}
-use Rattle.console_run.specs.Standing.{HasState}
+use Rattle.machine.specs.Standing.{HasState}
 
 -- the refusal of a part that isn't read
 abbrev pub read_refusal : Part → Found → Option Refusal

@@ -22,9 +22,9 @@ use Rattle.resume_laws.specs.DiskKinds.{is_block_disk}
 use Rattle.resume_laws.specs.EventCounts.{events_counted}
 use Rattle.outside.specs.Outside.{SinkState, after_taking, TookPrefix, BreaksOff}
 use Rattle.outside.proofs.SinkLemmas.{after_taking-append, after_taking-nil, prefix_behind, prefix_of_front, prefix_same, prefix_whole, prefix_none}
-use Rattle.console_run.specs.Console.{HasRun, RunBroke}
-use Rattle.console_run.specs.Standing.{HasState}
-use Rattle.console_run.proofs.Standing.{stands_new, stands_printed, cleared_none}
+use Rattle.machine.specs.Console.{HasRun, RunBroke}
+use Rattle.machine.specs.Standing.{HasState}
+use Rattle.machine.proofs.Standing.{stands_new, stands_printed, cleared_none}
 use Rattle.secvisor_cli.specs.Answers.{Writes}
 use Rattle.outside.specs.declared.trouble.Trouble.{Trouble}
 use Rattle.outside.specs.declared.trouble.Trouble.TheVariants.{Write, Memory}

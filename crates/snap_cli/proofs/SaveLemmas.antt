@@ -21,7 +21,7 @@ use Rattle.resumed_start.specs.SnapLaws.{IsSnapshotOf}
 use Rattle.resumed_start.specs.TextPages.{digested_text}
 use Rattle.resume_laws.specs.DiskKinds.{is_block_disk}
 use Rattle.outside.specs.Outside.{FilesState, SinkState}
-use Rattle.console_run.specs.Standing.{HasState}
+use Rattle.machine.specs.Standing.{HasState}
 use Rattle.secvisor_cli.specs.Answers.{Writes}
 use Rattle.outside.specs.declared.trouble.Trouble.{Trouble}
 use Rattle.outside.specs.declared.trouble.Trouble.TheVariants.{Memory}

@@ -11,7 +11,7 @@ use Rattle.snapshot_form.specs.Snapshots.{contents, snapshot}
 use Rattle.snapshot_form.specs.declared.whole.Snapshot.{Snapshot}
 use Rattle.resumed_start.specs.SnapLaws.{IsSnapshotOf}
 use Rattle.outside.specs.Outside.{FilesState, SinkState, after_taking, TookPrefix}
-use Rattle.console_run.specs.Standing.{Stands}
+use Rattle.machine.specs.Standing.{Stands}
 use Rattle.secvisor_cli.specs.Answers.{Outside, outside, Writes, SavedBehind, WritesAndSaves}
 use Rattle.outside.specs.Endings.{status_of_end}
 use Rattle.command_plans.specs.Plans.{Due, Refuse, RunFrom, Make, Saving, Exactly, Plan}

@@ -2,7 +2,7 @@
 ghost use Rattle.std.specs.Prelude.{◌≡◌, ◌<◌, ◌-◌, ◌^◌, [], ◌∷◌, true, Some, IfOk, IsTrue};
 ghost use Rattle.resume_laws.specs.DiskKinds.{is_block_disk};
 ghost use Rattle.resume_laws.specs.EventCounts.{events_counted};
-ghost use Rattle.console_run.specs.Standing.{HasState};
+ghost use Rattle.machine.specs.Standing.{HasState};
 ghost use Rattle.secvisor_cli.specs.Answers.{AfterSave};
 ghost use Rattle.command_plans.specs.Plans.{Exactly};
 ghost use Rattle.snap_cli.specs.Spelling.{SpellsMachine, SavesMachine};

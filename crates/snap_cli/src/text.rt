@@ -2,7 +2,7 @@
 ghost use Rattle.std.specs.Prelude.{◌≡◌, IfOk};
 ghost use Rattle.reference.specs.States.{State};
 ghost use Rattle.machine_model.specs.StandsFor.{StandsFor};
-ghost use Rattle.console_run.specs.Standing.{HasState};
+ghost use Rattle.machine.specs.Standing.{HasState};
 ghost use Rattle.resumed_start.specs.TextPages.{digested_text};
 
 use machine::Machine;

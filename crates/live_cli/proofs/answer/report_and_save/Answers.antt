@@ -1,7 +1,7 @@
 use Rattle.std.proofs.Common.{ℕ, List, refl, subst, string_bytes, Some, Result, Ok, Err}
 use Rattle.sv_types.specs.declared.status.Status.{Status}
 use Rattle.sv_types.specs.Output.{run_status}
-use Rattle.console_run.specs.Standing.{machine_output}
+use Rattle.machine.specs.Standing.{machine_output}
 use Rattle.live_cli.specs.LiveRuns.{harts_of, events_made}
 use Rattle.outside.specs.declared.trouble.Trouble.{Trouble}
 use Rattle.outside.specs.declared.trouble.Trouble.TheVariants.{Memory}

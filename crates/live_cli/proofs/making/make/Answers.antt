@@ -1,9 +1,9 @@
 use Rattle.std.proofs.Common.{◌+◌, ◌∷◌, ◌++◌, [], sym, ◌∙◌, ap, subst}
 use Rattle.reference.specs.Run.{step}
 use Rattle.machine_model.specs.Machine.{Machine}
-use Rattle.console_run.specs.Standing.{HasState}
-use Rattle.console_run.proofs.Standing.{event_stays}
-use Rattle.console_run.proofs.ConsoleLemmas.{room_after}
+use Rattle.machine.specs.Standing.{HasState}
+use Rattle.machine.proofs.Standing.{event_stays}
+use Rattle.machine.proofs.ConsoleLemmas.{room_after}
 use Rattle.machine.proofs.Repeated.{step_counts}
 use Rattle.machine.specs.Repeats.{Makes}
 use Rattle.live_cli.specs.Drives.{Breaks}

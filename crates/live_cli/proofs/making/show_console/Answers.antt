@@ -1,7 +1,7 @@
 use Rattle.std.proofs.Common.{ℕ, List, subst}
 use Rattle.outside.specs.Outside.{BreaksOff}
 use Rattle.outside.proofs.SinkLemmas.{on_err}
-use Rattle.console_run.proofs.Standing.{cleared_none, flushed_all}
+use Rattle.machine.proofs.Standing.{cleared_none, flushed_all}
 use Rattle.live_cli.proofs.MadeEvents.{shown, broken_show}
 use Rattle.live_cli.proofs.making.show_console.Goals as goal
 

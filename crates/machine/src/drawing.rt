@@ -2,7 +2,7 @@
 
 ghost use Rattle.std.specs.Prelude.{◌≡◌, ◌+◌, ◌<◌, ◌++◌, ◌≤◌, [], replicate, None, IfSome};
 ghost use Rattle.sv_types.specs.Schedule.{first_events};
-ghost use Rattle.console_run.specs.Drawing.{count_left, events_left, IsAtHand};
+ghost use Rattle.machine.specs.Drawing.{count_left, events_left, IsAtHand};
 
 use script::{EventRun, EventSource};
 use sv_types::Event;

@@ -7,10 +7,10 @@ use Rattle.sv_types.specs.Schedule.{first_events}
 use Rattle.script.specs.declared.event_run.EventRun.{EventRun}
 use Rattle.machine.specs.Limits.{most_counts}
 use Rattle.machine.proofs.Repeated.{counts_within}
-use Rattle.console_run.specs.Console.{is_due, RunBrokeFromStart}
-use Rattle.console_run.specs.Drawing.{count_left, events_left, IsAtHand}
-use Rattle.console_run.proofs.ConsoleLemmas.{runs_none, runs_more, runs_broke, ran_ended, ran_all, taken_none, taken_more, state_after, flushed_counts, room_again}
-use Rattle.console_run.proofs.running.run_in_rows.Goals as goal
+use Rattle.machine.specs.Console.{is_due, RunBrokeFromStart}
+use Rattle.machine.specs.Drawing.{count_left, events_left, IsAtHand}
+use Rattle.machine.proofs.ConsoleLemmas.{runs_none, runs_more, runs_broke, ran_ended, ran_all, taken_none, taken_more, state_after, flushed_counts, room_again}
+use Rattle.machine.proofs.running.run_in_rows.Goals as goal
 
 pub events-init : goal.events-init
 events-init g c =

@@ -5,10 +5,10 @@ use Rattle.sv_types.specs.Schedule.{first_events}
 use Rattle.outside.proofs.SinkLemmas.{on_err}
 use Rattle.script.proofs.FirstEvents.{begun_none}
 use Rattle.machine.proofs.Repeated.{counts_within}
-use Rattle.console_run.specs.Console.{is_due, RunBrokeFromStart}
-use Rattle.console_run.proofs.ConsoleLemmas.{runs_none, runs_more, runs_broke, ran_ended, ran_all, taken_none, taken_more, state_after, flushed_counts, room_again}
-use Rattle.console_run.proofs.DrawnRows.{none_left, one_drawn}
-use Rattle.console_run.proofs.running.run_one_by_one.Goals as goal
+use Rattle.machine.specs.Console.{is_due, RunBrokeFromStart}
+use Rattle.machine.proofs.ConsoleLemmas.{runs_none, runs_more, runs_broke, ran_ended, ran_all, taken_none, taken_more, state_after, flushed_counts, room_again}
+use Rattle.machine.proofs.DrawnRows.{none_left, one_drawn}
+use Rattle.machine.proofs.running.run_one_by_one.Goals as goal
 
 pub events-init : goal.events-init
 events-init g c = record {

@@ -3,7 +3,7 @@ use Rattle.std.specs.Prelude.{◌≡◌, ◌<◌, ℕ, ◌+◌, List, ◌++◌, 
 use Rattle.sv_types.specs.declared.event.Event.{Event}
 use Rattle.sv_types.specs.Schedule.{Schedule, first_events}
 use Rattle.script.specs.declared.event_run.EventRun.{EventRun}
-use Rattle.console_run.specs.declared.drawing.Drawing.{Drawing}
+use Rattle.machine.specs.declared.drawing.Drawing.{Drawing}
 
 -- those of the row that was drawn, and those that the source still has
 abbrev pub events_left : {S : Type 0} → (schedule : S → Schedule) → Drawing S → List Event

@@ -9,7 +9,7 @@ use Rattle.reference.specs.Run.{run}
 use Rattle.machine_model.specs.Machine.{Machine}
 use Rattle.machine_model.specs.Reaches.{IsNew, ReachesFrom}
 use Rattle.outside.specs.Outside.{SinkState, after_taking, BreaksOff, MayWrite}
-use Rattle.console_run.specs.Standing.{HasState, Stands, TakesAway}
+use Rattle.machine.specs.Standing.{HasState, Stands, TakesAway}
 
 -- ---- when the console's bytes are written
 

@@ -1,5 +1,5 @@
-use Rattle.console_run.proofs.DrawnRows.{none_asked, none_drawn}
-use Rattle.console_run.proofs.drawing.Drawing.draw.Goals as goal
+use Rattle.machine.proofs.DrawnRows.{none_asked, none_drawn}
+use Rattle.machine.proofs.drawing.Drawing.draw.Goals as goal
 
 pub returns-then-self-eq0-2-clause-none : goal.returns-then-self-eq0-2-clause-none
 returns-then-self-eq0-2-clause-none g c = λ none.

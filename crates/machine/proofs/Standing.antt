@@ -22,8 +22,8 @@ use Rattle.run_laws.proofs.StepsGrow.{grows_law}
 use Rattle.answer_laws.proofs.RunsReach.{clear_law}
 use Rattle.outside.specs.Outside.{SinkState, after_taking}
 use Rattle.outside.proofs.SinkLemmas.{after_taking-nil}
-use Rattle.console_run.specs.Console.{Flushed}
-use Rattle.console_run.specs.Standing.{Stands, TakesAway, machine_output}
+use Rattle.machine.specs.Console.{Flushed}
+use Rattle.machine.specs.Standing.{Stands, TakesAway, machine_output}
 
 -- ---- the journal of a machine that stands for a state
 

@@ -4,10 +4,10 @@ ghost use Rattle.sv_types.specs.Limits.{most_printed};
 ghost use Rattle.sv_types.specs.Schedule.{first_events};
 ghost use Rattle.machine_model.specs.Reaches.{Cleared};
 ghost use Rattle.outside.specs.Outside.{BreaksOff, MayWrite};
-ghost use Rattle.console_run.specs.Console.{is_due, Flushed, HasRunAll, MayRun, RunBrokeFromStart};
+ghost use Rattle.machine.specs.Console.{is_due, Flushed, HasRunAll, MayRun, RunBrokeFromStart};
 
 use crate::drawing::Drawing;
-use machine::Machine;
+use crate::machine::Machine;
 use outside::{Failed, Sink, write_all};
 use script::{EventSource, Script, Source};
 use sv_types::{MOST_PRINTED, Verdict};

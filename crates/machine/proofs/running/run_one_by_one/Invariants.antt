@@ -4,10 +4,10 @@ use Rattle.sv_types.specs.Schedule.{first_events}
 use Rattle.reference.specs.Counting.{CountsAtMost}
 use Rattle.reference.specs.States.{State}
 use Rattle.machine_model.specs.Reaches.{IsNew}
-use Rattle.console_run.specs.Standing.{HasState}
-use Rattle.console_run.specs.Console.{is_due, HasTaken}
-use Rattle.console_run.proofs.ConsoleLemmas.{RunsOn}
-use Rattle.console_run.proofs.running.run_one_by_one.Given as goal
+use Rattle.machine.specs.Standing.{HasState}
+use Rattle.machine.specs.Console.{is_due, HasTaken}
+use Rattle.machine.proofs.ConsoleLemmas.{RunsOn}
+use Rattle.machine.proofs.running.run_one_by_one.Given as goal
 
 abbrev pub invariant-events : goal.invariant-events
 invariant-events g l = record {

@@ -19,9 +19,9 @@ use Rattle.machine.specs.Repeats.{Makes, Repeats}
 use Rattle.machine.proofs.Repeated.{one_more, repeats_stand}
 use Rattle.outside.specs.Outside.{SinkState, after_taking, BreaksOff}
 use Rattle.outside.proofs.SinkLemmas.{after_taking-append, after_taking-nil}
-use Rattle.console_run.specs.Standing.{Stands, HasState}
-use Rattle.console_run.specs.Console.{is_due, HasTaken, Flushed, HasRun, RunBroke}
-use Rattle.console_run.proofs.Standing.{stands_new, stands_step, stands_away, stands_verdict, away_counts, cleared_none, event_ended, flushed_none, step_room, verdict_is}
+use Rattle.machine.specs.Standing.{Stands, HasState}
+use Rattle.machine.specs.Console.{is_due, HasTaken, Flushed, HasRun, RunBroke}
+use Rattle.machine.proofs.Standing.{stands_new, stands_step, stands_away, stands_verdict, away_counts, cleared_none, event_ended, flushed_none, step_room, verdict_is}
 
 -- ---- the machines on the way
 

@@ -1,8 +1,8 @@
 use Rattle.std.proofs.Common.{OnOk, ap, subst, sym, ◌∙◌}
 use Rattle.sv_types.specs.Schedule.{Schedule, first_events}
 use Rattle.script.specs.Sources.{schedule_of}
-use Rattle.console_run.specs.Console.{HasRunAll}
-use Rattle.console_run.proofs.running.run.Goals as goal
+use Rattle.machine.specs.Console.{HasRunAll}
+use Rattle.machine.proofs.running.run.Goals as goal
 
 pub returns-in-Listed-clause-all : goal.returns-in-Listed-clause-all
 returns-in-Listed-clause-all g c =

@@ -1,6 +1,6 @@
 use Rattle.sv_types.specs.Schedule.{first_events}
 use Rattle.script.proofs.EventRuns.{in_two}
-use Rattle.console_run.proofs.drawing.Drawing.count_down.Goals as goal
+use Rattle.machine.proofs.drawing.Drawing.count_down.Goals as goal
 
 pub returns-clause-left : goal.returns-clause-left
 returns-clause-left g c =
