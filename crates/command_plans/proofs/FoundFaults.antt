@@ -15,10 +15,10 @@ use Rattle.sv_types.specs.Kernel.{header_entry, kernel_refusal, kernel_segments}
 use Rattle.sv_types.specs.Policies.{Rules}
 use Rattle.policy.specs.Refusals.{Judged}
 use Rattle.policy.specs.Text.{rules_of_text}
-use Rattle.entry_binding.specs.Binding.{bound_rules}
-use Rattle.entry_binding.specs.Faults.{Judged as Bound}
-use Rattle.entry_binding.specs.declared.fault.BindFault.{BindFault}
-use Rattle.entry_binding.specs.declared.fault.BindFault.TheVariants as binding
+use Rattle.policy_making.specs.Binding.{bound_rules}
+use Rattle.policy_making.specs.Faults.{Judged as Bound}
+use Rattle.policy_making.specs.declared.bind_fault.BindFault.{BindFault}
+use Rattle.policy_making.specs.declared.bind_fault.BindFault.TheVariants as binding
 use Rattle.reference.specs.Run.{run}
 use Rattle.sv_types.specs.Schedule.{Schedule, first_events}
 use Rattle.sv_types.specs.Limits.{most_events}

@@ -31,10 +31,10 @@ use Rattle.policy_making.specs.declared.refusal.MakingFault.{MakingFault}
 use Rattle.policy_making.specs.declared.refusal.MakingFault.TheVariants as making
 use Rattle.policy_making.specs.Refusals.{Judged as Judging}
 use Rattle.policy_making.specs.Making.{ModuleFile, kernel_digest, names_with, policy_behind}
-use Rattle.entry_binding.specs.Binding.{bound_rules}
-use Rattle.entry_binding.specs.Faults.{Judged as Bound}
-use Rattle.entry_binding.specs.declared.fault.BindFault.{BindFault}
-use Rattle.entry_binding.specs.declared.fault.BindFault.TheVariants as binding
+use Rattle.policy_making.specs.Binding.{bound_rules}
+use Rattle.policy_making.specs.Faults.{Judged as Bound}
+use Rattle.policy_making.specs.declared.bind_fault.BindFault.{BindFault}
+use Rattle.policy_making.specs.declared.bind_fault.BindFault.TheVariants as binding
 use Rattle.command_plans.specs.declared.file_fault.Part.{Part}
 use Rattle.command_plans.specs.declared.file_fault.FileFault.{FileFault}
 use Rattle.command_plans.specs.declared.refusal.Refusal.{Refusal}

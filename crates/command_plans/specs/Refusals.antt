@@ -6,7 +6,7 @@ use Rattle.sv_types.specs.declared.status.Status.{Status}
 use Rattle.sv_types.specs.ImageFaults.{image_fault_number}
 use Rattle.policy_limits.specs.PolicyFaults.{policy_fault_number}
 use Rattle.elf64_reloc.specs.ObjectFaults.{object_fault_number}
-use Rattle.entry_binding.specs.Faults.{convert_fault_number}
+use Rattle.policy_making.specs.Faults.{convert_fault_number}
 use Rattle.snapshot_form.specs.Refusals as form
 use Rattle.resumption.specs.Judgements as resuming
 use Rattle.command_plans.specs.declared.file_fault.Part.{Part}

@@ -3,7 +3,7 @@ ghost use Rattle.std.specs.Prelude.{◌≡◌};
 ghost use Rattle.command_plans.specs.Refusals.{fault_number, fault_part, part_name};
 
 use elf64_reloc::ObjectFault;
-use entry_binding::ConvertFault;
+use policy_making::ConvertFault;
 use policy_limits::PolicyFault;
 use resumption::ResumeRefusal;
 use snapshot_form::SnapRefusal;

@@ -10,3 +10,8 @@ pub mod MadeWithin
 pub mod WordLemmas
 pub mod WordsWithin
 pub mod Spans
+pub mod Searches
+pub mod TextPlaces
+pub mod SegmentPlaces
+pub mod OnceEach
+pub mod BoundWithin

@@ -4,7 +4,7 @@ use crate::faults::{convert_fault, image_fault};
 use crate::files::{Again, Found, MostBytes, read_part, remark_on};
 use crate::running::policy_file;
 use elf64_load::{ElfRefusal, read_kernel};
-use entry_binding::{BindFault, BindRefusal, bind};
+use policy_making::{BindFault, BindRefusal, bind};
 use std::alloc::Global;
 use std::thread::Threads;
 use sv_types::Policy;

@@ -1,7 +1,7 @@
 // Faults in words.
 
 use elf64_reloc::ObjectFault;
-use entry_binding::ConvertFault;
+use policy_making::ConvertFault;
 use policy_limits::PolicyFault;
 use sv_types::{HeaderFault, ImageFault};
 

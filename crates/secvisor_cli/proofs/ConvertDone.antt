@@ -10,11 +10,11 @@ use Rattle.sv_types.specs.Steps.{◌>>=◌}
 use Rattle.policy.specs.Refusals.{Judged}
 use Rattle.policy.specs.Text.{rules_of_members, rules_of_text, table_of_text}
 use Rattle.policy.proofs.ReadWithin.{rules_read}
-use Rattle.entry_binding.specs.Binding.{bound_rules}
-use Rattle.entry_binding.specs.Faults.{Judged as Bound}
-use Rattle.entry_binding.specs.declared.fault.BindFault.{BindFault}
-use Rattle.entry_binding.specs.declared.fault.BindFault.TheVariants as binding
-use Rattle.entry_binding.proofs.BoundWithin.{law_in_text}
+use Rattle.policy_making.specs.Binding.{bound_rules}
+use Rattle.policy_making.specs.Faults.{Judged as Bound}
+use Rattle.policy_making.specs.declared.bind_fault.BindFault.{BindFault}
+use Rattle.policy_making.specs.declared.bind_fault.BindFault.TheVariants as binding
+use Rattle.policy_making.proofs.BoundWithin.{law_in_text}
 use Rattle.outside.specs.Outside.{FilesState, after_asking}
 use Rattle.command_plans.specs.declared.file_fault.FileFault.{FileFault}
 use Rattle.secvisor_cli.specs.Answers.{Headline, Meets, MeetsReached, Outside, outside}

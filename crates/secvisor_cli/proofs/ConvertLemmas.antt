@@ -5,12 +5,12 @@ use Rattle.sv_types.specs.Kernel.{LoadedSegment, kernel_refusal, kernel_segments
 use Rattle.sv_types.specs.Policies.{Rules}
 use Rattle.elf64_load.specs.Images.{segments_of}
 use Rattle.elf64_load.specs.declared.image.KernelImage.{KernelImage}
-use Rattle.entry_binding.specs.Binding.{bound_rules}
-use Rattle.entry_binding.specs.Faults.{Judged, Refuses, as_answer}
-use Rattle.entry_binding.specs.InText.{AreOfKernel}
-use Rattle.entry_binding.specs.declared.fault.BindFault.{BindFault}
-use Rattle.entry_binding.specs.declared.fault.BindRefusal.{BindRefusal}
-use Rattle.entry_binding.specs.declared.fault.BindRefusal.TheVariants as binding
+use Rattle.policy_making.specs.Binding.{bound_rules}
+use Rattle.policy_making.specs.Faults.{Judged, Refuses, as_answer}
+use Rattle.policy_making.specs.InText.{AreOfKernel}
+use Rattle.policy_making.specs.declared.bind_fault.BindFault.{BindFault}
+use Rattle.policy_making.specs.declared.bind_fault.BindRefusal.{BindRefusal}
+use Rattle.policy_making.specs.declared.bind_fault.BindRefusal.TheVariants as binding
 use Rattle.machine.specs.Boot.{IsImageOf}
 use Rattle.outside.specs.Outside.{FilesState}
 use Rattle.secvisor_cli.specs.declared.ready.Ready.TheVariants.{Save}

@@ -5,8 +5,8 @@ use Rattle.std.specs.List.{list_all}
 use Rattle.sv_types.specs.Kernel.{kernel_segments}
 use Rattle.sv_types.specs.Policies.{Rules}
 use Rattle.policy.specs.Text.{rules_of_text}
-use Rattle.entry_binding.specs.Binding.{bound_rules}
-use Rattle.entry_binding.specs.InText.{is_in_text}
+use Rattle.policy_making.specs.Binding.{bound_rules}
+use Rattle.policy_making.specs.InText.{is_in_text}
 use Rattle.outside.specs.Outside.{FilesState, after_taking}
 use Rattle.secvisor_cli.specs.Answers.{Outside}
 use Rattle.command_plans.specs.Plans.{converted_line, policy_saving}

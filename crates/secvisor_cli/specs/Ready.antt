@@ -21,8 +21,8 @@ use Rattle.policy_making.specs.Making.{file_of}
 use Rattle.policy_making.specs.declared.refusal.MakingRefusal.{MakingRefusal}
 use Rattle.policy_making.specs.declared.refusal.MakingRefusal.TheVariants as making
 use Rattle.elf64_load.specs.declared.image.KernelImage.{KernelImage}
-use Rattle.entry_binding.specs.declared.fault.BindRefusal.{BindRefusal}
-use Rattle.entry_binding.specs.declared.fault.BindRefusal.TheVariants as binding
+use Rattle.policy_making.specs.declared.bind_fault.BindRefusal.{BindRefusal}
+use Rattle.policy_making.specs.declared.bind_fault.BindRefusal.TheVariants as binding
 use Rattle.machine.specs.Boot.{IsImageOf}
 use Rattle.outside.specs.Outside.{FilesState, after_asking}
 use Rattle.machine.specs.declared.boot.BootRefusal.{BootRefusal}

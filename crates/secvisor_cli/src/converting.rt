@@ -13,7 +13,7 @@ use crate::parts::read_part;
 use crate::ready::{Made, Ready, Stop};
 use command_plans::Part;
 use command_words::ConvertWords;
-use entry_binding::bind;
+use policy_making::bind;
 use outside::Files;
 use std::alloc::{AllocError, Global};
 use std::thread::Threads;

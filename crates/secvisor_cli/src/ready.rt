@@ -5,10 +5,9 @@ ghost use Rattle.command_plans.specs.Plans.{binding_refusal, making_fault};
 ghost use Rattle.secvisor_cli.specs.Ready.{stop_of, stop_of_binding, stop_of_making};
 
 use command_plans::{FileFault, Refusal};
-use entry_binding::{BindFault, BindRefusal};
 use machine::{BootRefusal, Machine};
 use policy_limits::PolicyFault;
-use policy_making::{MakingFault, MakingRefusal};
+use policy_making::{BindFault, BindRefusal, MakingFault, MakingRefusal};
 use script::Script;
 use std::alloc::{AllocError, AllocFailed};
 

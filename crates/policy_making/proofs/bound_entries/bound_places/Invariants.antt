@@ -1,8 +1,8 @@
 use Rattle.std.proofs.Common.{◌≡◌, [], drop, map}
 use Rattle.elf64_sections.specs.Judged.{each}
 use Rattle.elf64_load.specs.Images.{segment_of}
-use Rattle.entry_binding.specs.Binding.{bound_place}
-use Rattle.entry_binding.proofs.entries.bound_places.Given as goal
+use Rattle.policy_making.specs.Binding.{bound_place}
+use Rattle.policy_making.proofs.bound_entries.bound_places.Given as goal
 
 abbrev pub invariant-entries : goal.invariant-entries
 invariant-entries l =

@@ -6,10 +6,10 @@ use Rattle.std.proofs.lemmas.List.Elements.{All-nil, All-cons}
 use Rattle.sv_types.specs.Kernel.{LoadedSegment}
 use Rattle.elf64_load.specs.Images.{segment_of}
 use Rattle.elf64_load.specs.declared.image.Segment.{Segment}
-use Rattle.entry_binding.specs.Binding.{holds, maps, place_by, place_in, place_of}
-use Rattle.entry_binding.specs.InText.{EndInWords}
-use Rattle.entry_binding.proofs.Searches.{IsMet, find_map, found_met}
-use Rattle.entry_binding.proofs.TextPlaces.{held_parts}
+use Rattle.policy_making.specs.Binding.{holds, maps, place_by, place_in, place_of}
+use Rattle.policy_making.specs.InText.{EndInWords}
+use Rattle.policy_making.proofs.Searches.{IsMet, find_map, found_met}
+use Rattle.policy_making.proofs.TextPlaces.{held_parts}
 use Rattle.policy_making.proofs.WordLemmas.{list_any_map}
 
 all_any : (ss : List LoadedSegment) → All (λ s. Unit {0}) ss

@@ -12,13 +12,13 @@ use Rattle.sv_types.specs.Measure.{measure}
 use Rattle.sv_types.specs.Policies.{Rules, all_bound, bound_within, each_within, entries_count_within, entries_within, exports_count_within, exports_within, format_within, harts_within, init_within, lists_within, modules_count_within, modules_within, numbers_within, ram_pages_within, rules_within}
 use Rattle.sv_types.specs.Steps.{◌>>=◌}
 use Rattle.elf64_sections.specs.Judged.{each}
-use Rattle.entry_binding.specs.Binding.{bound_place, bound_places, bound_rules, each_once, entries_bound, measured_bound, with_places}
-use Rattle.entry_binding.specs.Faults.{Judged}
-use Rattle.entry_binding.specs.InText.{is_in_text}
-use Rattle.entry_binding.specs.declared.fault.BindFault.TheVariants.{Convert, Measure}
-use Rattle.entry_binding.specs.declared.fault.ConvertFault.TheVariants.{OtherFormat}
-use Rattle.entry_binding.proofs.OnceEach.{is_new, once, some_once}
-use Rattle.entry_binding.proofs.TextPlaces.{IsBoundWell, IsInRam, accepted_in_ram, bound_well, well_fits, well_in_text}
+use Rattle.policy_making.specs.Binding.{bound_place, bound_places, bound_rules, each_once, entries_bound, measured_bound, with_places}
+use Rattle.policy_making.specs.Faults.{Judged}
+use Rattle.policy_making.specs.InText.{is_in_text}
+use Rattle.policy_making.specs.declared.bind_fault.BindFault.TheVariants.{Convert, Measure}
+use Rattle.policy_making.specs.declared.bind_fault.ConvertFault.TheVariants.{OtherFormat}
+use Rattle.policy_making.proofs.OnceEach.{is_new, once, some_once}
+use Rattle.policy_making.proofs.TextPlaces.{IsBoundWell, IsInRam, accepted_in_ram, bound_well, well_fits, well_in_text}
 
 -- each entry with its place
 abbrev AreBound : ℕ → List LoadedSegment → (entries places : List ℕ) → Type 0

@@ -1,10 +1,10 @@
 -- Why a policy's entries aren't bound: the first fault, or want of memory.
 use Rattle.std.specs.Prelude.{◌≡◌, ◌≢◌, ℕ, Result, Ok, Err}
-use Rattle.entry_binding.specs.declared.fault.ConvertFault.{ConvertFault}
-use Rattle.entry_binding.specs.declared.fault.ConvertFault.TheVariants.{OtherFormat, NoPlace, OtherByte}
-use Rattle.entry_binding.specs.declared.fault.BindFault.{BindFault}
-use Rattle.entry_binding.specs.declared.fault.BindRefusal.{BindRefusal}
-use Rattle.entry_binding.specs.declared.fault.BindRefusal.TheVariants.{Fault, Memory}
+use Rattle.policy_making.specs.declared.bind_fault.ConvertFault.{ConvertFault}
+use Rattle.policy_making.specs.declared.bind_fault.ConvertFault.TheVariants.{OtherFormat, NoPlace, OtherByte}
+use Rattle.policy_making.specs.declared.bind_fault.BindFault.{BindFault}
+use Rattle.policy_making.specs.declared.bind_fault.BindRefusal.{BindRefusal}
+use Rattle.policy_making.specs.declared.bind_fault.BindRefusal.TheVariants.{Fault, Memory}
 
 -- the number in the line that refuses
 abbrev pub convert_fault_number : ConvertFault → ℕ

@@ -10,9 +10,9 @@ use Rattle.sv_types.specs.Measure.{measure}
 use Rattle.sv_types.specs.Policies.{Rules}
 use Rattle.sv_types.specs.Steps.{◌>>=◌}
 use Rattle.elf64_sections.specs.Judged.{each}
-use Rattle.entry_binding.specs.Faults.{Judged}
-use Rattle.entry_binding.specs.declared.fault.BindFault.TheVariants.{Convert, Measure}
-use Rattle.entry_binding.specs.declared.fault.ConvertFault.TheVariants.{OtherFormat, NoPlace, OtherByte}
+use Rattle.policy_making.specs.Faults.{Judged}
+use Rattle.policy_making.specs.declared.bind_fault.BindFault.TheVariants.{Convert, Measure}
+use Rattle.policy_making.specs.declared.bind_fault.ConvertFault.TheVariants.{OtherFormat, NoPlace, OtherByte}
 
 -- ---- the place of an entry
 

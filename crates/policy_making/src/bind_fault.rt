@@ -1,8 +1,8 @@
 // Why a policy's entries aren't bound.
 
 ghost use Rattle.std.specs.Prelude.{◌≡◌};
-ghost use Rattle.entry_binding.specs.Faults.{convert_fault_number};
-ghost use Rattle.entry_binding.specs.declared.fault.BindRefusal.TheVariants.{Fault, Memory};
+ghost use Rattle.policy_making.specs.Faults.{convert_fault_number};
+ghost use Rattle.policy_making.specs.declared.bind_fault.BindRefusal.TheVariants.{Fault, Memory};
 
 use std::alloc::{AllocError, AllocFailed};
 use sv_types::Digest;

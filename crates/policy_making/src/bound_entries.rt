@@ -2,11 +2,11 @@
 
 ghost use Rattle.std.specs.Prelude.{◌≡◌, map, IfOk, IfErr, OnOk, Ok};
 ghost use Rattle.elf64_load.specs.Images.{segment_of};
-ghost use Rattle.entry_binding.specs.Binding as spec;
-ghost use Rattle.entry_binding.specs.Faults.{Refuses};
-ghost use Rattle.entry_binding.specs.InText.{EndInWords};
+ghost use Rattle.policy_making.specs.Binding as spec;
+ghost use Rattle.policy_making.specs.Faults.{Refuses};
+ghost use Rattle.policy_making.specs.InText.{EndInWords};
 
-use crate::fault::BindRefusal;
+use crate::bind_fault::BindRefusal;
 use crate::places::bound_place;
 use elf64_load::Segment;
 use std::alloc::{AllocError, Global};

@@ -4,7 +4,7 @@ use Rattle.std.specs.Prelude.{◌==◌}
 use Rattle.std.specs.List.{fold, list_any}
 use Rattle.std.proofs.lemmas.Bool.{and_parts}
 use Rattle.sv_types.specs.Policies.{each_within, entries_within, entry_within}
-use Rattle.entry_binding.specs.Binding.{each_once, with_entry}
+use Rattle.policy_making.specs.Binding.{each_once, with_entry}
 
 -- it stands not among those before it
 abbrev pub is_new : (before : List ℕ) (entry : ℕ) → Bool

@@ -12,12 +12,12 @@ use Rattle.sv_types.specs.ApprovedPages.{numbers_from}
 use Rattle.sv_types.specs.Kernel.{LoadedSegment, first_refusal, is_text_of, kernel_refusal, kernel_segments, loaded_headers, loaded_segment, segment_checks, text_pages}
 use Rattle.sv_types.specs.Policies.{bound_fits}
 use Rattle.sv_types.specs.declared.kernel.ProgramHeader.{ProgramHeader}
-use Rattle.entry_binding.specs.Binding.{at_place, bound_place, holds, holds_from, maps, place_by, place_in, place_of}
-use Rattle.entry_binding.specs.Faults.{Judged}
-use Rattle.entry_binding.specs.InText.{AreOfKernel, EndInWords, is_in_text}
-use Rattle.entry_binding.specs.declared.fault.BindFault.TheVariants.{Convert}
-use Rattle.entry_binding.specs.declared.fault.ConvertFault.TheVariants.{OtherByte}
-use Rattle.entry_binding.proofs.Searches.{IsMet, any_met, found_met}
+use Rattle.policy_making.specs.Binding.{at_place, bound_place, holds, holds_from, maps, place_by, place_in, place_of}
+use Rattle.policy_making.specs.Faults.{Judged}
+use Rattle.policy_making.specs.InText.{AreOfKernel, EndInWords, is_in_text}
+use Rattle.policy_making.specs.declared.bind_fault.BindFault.TheVariants.{Convert}
+use Rattle.policy_making.specs.declared.bind_fault.ConvertFault.TheVariants.{OtherByte}
+use Rattle.policy_making.proofs.Searches.{IsMet, any_met, found_met}
 use Rattle.sv_types.proofs.FileChecks.{first_passed, rest_passed, accepted_headers, Passed, segment_passed}
 
 -- ---- segments in RAM

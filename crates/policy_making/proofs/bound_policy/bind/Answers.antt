@@ -3,11 +3,11 @@ use Rattle.std.proofs.lemmas.Result.{IfOk-weaker}
 use Rattle.elf64_load.specs.Images.{segment_of, segments_of}
 use Rattle.elf64_load.specs.declared.image.Segment.{Segment}
 use Rattle.sv_types.specs.Policies.{rules_of}
-use Rattle.entry_binding.specs.Binding.{measured_bound}
-use Rattle.entry_binding.specs.InText.{EndInWords}
-use Rattle.entry_binding.proofs.TextPlaces.{kernel_ends, kernel_in_ram}
-use Rattle.entry_binding.proofs.BoundWithin.{measured_within}
-use Rattle.entry_binding.proofs.bound_policy.bind.Goals as goal
+use Rattle.policy_making.specs.Binding.{measured_bound}
+use Rattle.policy_making.specs.InText.{EndInWords}
+use Rattle.policy_making.proofs.TextPlaces.{kernel_ends, kernel_in_ram}
+use Rattle.policy_making.proofs.BoundWithin.{measured_within}
+use Rattle.policy_making.proofs.bound_policy.bind.Goals as goal
 
 pub bind_measured-requires : goal.bind_measured-requires
 bind_measured-requires g c =

@@ -3,15 +3,15 @@
 ghost use Rattle.std.specs.Prelude.{◌≡◌, true, map, Ok, IfOk, IfErr};
 ghost use Rattle.sv_types.specs.Policies.{rules_of, rules_within};
 ghost use Rattle.elf64_load.specs.Images.{segment_of, segments_of};
-ghost use Rattle.entry_binding.specs.Binding as spec;
-ghost use Rattle.entry_binding.specs.Faults.{Refuses};
-ghost use Rattle.entry_binding.specs.InText.{AreOfKernel, EndInWords};
+ghost use Rattle.policy_making.specs.Binding as spec;
+ghost use Rattle.policy_making.specs.Faults.{Refuses};
+ghost use Rattle.policy_making.specs.InText.{AreOfKernel, EndInWords};
 
-use crate::entries::{bound_places, each_once};
-use crate::fault::{BindFault, BindRefusal, ConvertFault};
+use crate::bound_entries::{bound_places, each_once};
+use crate::bind_fault::{BindFault, BindRefusal, ConvertFault};
 use elf64_load::{KernelImage, Segment};
 use policy_limits::{BOUND_FORMAT, PLAIN_FORMAT};
-use policy_making::text_digest;
+use crate::text_digest;
 use std::alloc::Global;
 use std::thread::Threads;
 use sv_types::{Digest, Policy};

@@ -1,6 +1,6 @@
 use Rattle.std.proofs.Common.{◌∙◌, Some, ap, sym}
-use Rattle.entry_binding.proofs.SegmentPlaces.{mapped_from, mapped_before, mapped_end, place_mapped, place_own, no_place}
-use Rattle.entry_binding.proofs.places.place_of.Goals as goal
+use Rattle.policy_making.proofs.SegmentPlaces.{mapped_from, mapped_before, mapped_end, place_mapped, place_own, no_place}
+use Rattle.policy_making.proofs.places.place_of.Goals as goal
 
 pub place_in-requires-clause-from : goal.place_in-requires-clause-from
 place_in-requires-clause-from c = mapped_from c.args.segments.now c.args.entry c.in-Some.segment (sym c.mapping.ensures ∙ c.in-Some.is)

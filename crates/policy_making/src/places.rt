@@ -3,10 +3,10 @@
 ghost use Rattle.std.specs.Prelude.{◌≡◌, ◌+◌, ◌≤◌, ◌<◌, ◌^◌, find, map};
 ghost use Rattle.std.specs.List.{list_any};
 ghost use Rattle.elf64_load.specs.Images.{segment_of};
-ghost use Rattle.entry_binding.specs.Binding as spec;
-ghost use Rattle.entry_binding.specs.InText.{EndInWords};
+ghost use Rattle.policy_making.specs.Binding as spec;
+ghost use Rattle.policy_making.specs.InText.{EndInWords};
 
-use crate::fault::{BindFault, ConvertFault};
+use crate::bind_fault::{BindFault, ConvertFault};
 use elf64_load::Segment;
 use processor::PAGE_BYTES;
 

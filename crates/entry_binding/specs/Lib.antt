@@ -1,3 +1,0 @@
-pub mod Binding
-pub mod Faults
-pub mod InText
