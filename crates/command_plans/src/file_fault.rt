@@ -3,8 +3,8 @@ ghost use Rattle.std.specs.Prelude.{◌≡◌};
 ghost use Rattle.command_plans.specs.Refusals.{fault_number, fault_part, part_name};
 
 use elf64_reloc::ObjectFault;
-use policy_making::ConvertFault;
 use policy_limits::PolicyFault;
+use policy_making::ConvertFault;
 use resumption::ResumeRefusal;
 use snapshot_form::SnapRefusal;
 use sv_types::ImageFault;

@@ -7,11 +7,11 @@ ghost use Rattle.policy_making.specs.Binding as spec;
 ghost use Rattle.policy_making.specs.Faults.{Refuses};
 ghost use Rattle.policy_making.specs.InText.{AreOfKernel, EndInWords};
 
-use crate::bound_entries::{bound_places, each_once};
 use crate::bind_fault::{BindFault, BindRefusal, ConvertFault};
+use crate::bound_entries::{bound_places, each_once};
+use crate::text_digest;
 use elf64_load::{KernelImage, Segment};
 use policy_limits::{BOUND_FORMAT, PLAIN_FORMAT};
-use crate::text_digest;
 use std::alloc::Global;
 use std::thread::Threads;
 use sv_types::{Digest, Policy};

@@ -1,8 +1,8 @@
 // Faults in words.
 
 use elf64_reloc::ObjectFault;
-use policy_making::ConvertFault;
 use policy_limits::PolicyFault;
+use policy_making::ConvertFault;
 use sv_types::{HeaderFault, ImageFault};
 
 pub(crate) fn policy_fault(fault: PolicyFault) -> &'static str {
