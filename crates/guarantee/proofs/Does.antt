@@ -18,7 +18,7 @@ use Rattle.reference.specs.Counting.{stopped_by}
 use Rattle.reference.specs.Devices.{hart_after_write}
 use Rattle.reference.specs.Soundness.{IsSound, IsSoundEntry}
 use Rattle.reference.specs.States.{State, Hart, has_number, is_approved_in, is_protected}
-use Rattle.reference.specs.Trapping.{hart_at_trap, hart_at_return, entry_in}
+use Rattle.reference.specs.Trapping.{trap_from, hart_at_trap, hart_at_return, entry_in}
 use Rattle.reference.specs.Turn.{after_going, demote, in_user_mode, leave_entry, outside}
 use Rattle.run_laws.proofs.Lookups.{both}
 use Rattle.run_laws.proofs.Sounds.{InFreePage, apart}
@@ -39,7 +39,8 @@ pub data Own (returns : Type 0) (q : State) (h : ℕ) (hart : Hart) (next : Stat
   Same : (mode : after.mode ≡ hart.mode) → (started : after.started ≡ hart.started) → Own returns q h hart next after
   Entered : (interrupt : Bool) → (cause tval : ℕ) → (user : hart.mode ≡ User)
       → (permitted : has_number q.rules.entries (trap_target hart.supervisor.stvec interrupt cause) ≡ true)
-      → (same : after ≡ hart_at_trap q.rules hart User interrupt cause tval) → Own returns q h hart next after
+      → (same : after ≡ hart_at_trap q.rules hart User interrupt cause tval) → (all : next ≡ trap_from q h hart User interrupt cause tval)
+      → Own returns q h hart next after
   Returned : (why : returns) → (user : mode_at_return hart.supervisor.sstatus ≡ User) → (same : after ≡ hart_at_return hart) → Own returns q h hart next after
   Demoted : (gpa : ℕ) → (same : after ≡ in_user_mode hart) → (all : next ≡ demote q h hart gpa) → Own returns q h hart next after
   Halted : (stopped : after.started ≡ false) → Own returns q h hart next after
@@ -160,7 +161,7 @@ ends_for first second q h hart next f (StopsAtWrite left gpa at same) = StopsAtW
 
 own_for : (first second : Type 0) (q : State) (h : ℕ) (hart : Hart) (next : State) (after : Hart) → (first → second) → Own first q h hart next after → Own second q h hart next after
 own_for first second q h hart next after f (Same mode started) = Same mode started
-own_for first second q h hart next after f (Entered interrupt cause tval user permitted same) = Entered interrupt cause tval user permitted same
+own_for first second q h hart next after f (Entered interrupt cause tval user permitted same all) = Entered interrupt cause tval user permitted same all
 own_for first second q h hart next after f (Returned why user same) = Returned (f why) user same
 own_for first second q h hart next after f (Demoted gpa same all) = Demoted gpa same all
 own_for first second q h hart next after f (Halted stopped) = Halted stopped
@@ -191,14 +192,6 @@ unfolding hart_at_return
 return_left hart user =
     ap (λ (e : Option ℕ). record (hart_at_return hart) { entry = e }) (no_entry_in (mode_at_return hart.supervisor.sstatus) hart.entry user)
 
-own_left : (returns : Type 0) (q : State) (h : ℕ) (hart : Hart) (next : State) (after : Hart) → Own returns (leave_entry q h hart) h (outside hart) next after → Own returns q h hart next after
-unfolding hart_at_trap
-own_left returns q h hart next after (Same mode started) = Same mode started
-own_left returns q h hart next after (Entered interrupt cause tval user permitted same) = Entered interrupt cause tval user permitted same
-own_left returns q h hart next after (Returned why user same) = Returned why user (same ∙ return_left hart user)
-own_left returns q h hart next after (Demoted gpa same all) = Demoted gpa same (all ∙ demote_left q h hart gpa)
-own_left returns q h hart next after (Halted stopped) = Halted stopped
-
 other_left : (q : State) (h : ℕ) (hart : Hart) (k : ℕ) (before after : Hart) → Other (leave_entry q h hart) k before after → Other q k before after
 other_left q h hart k before after (Rests mode started) = Rests mode started
 other_left q h hart k before after (Begins pc opaque stopped permitted same) = Begins pc opaque stopped permitted same
@@ -209,16 +202,29 @@ set_same (a ∷ harts) zero x found = let same : a ≡ x = cc in ap (λ (y : Har
 set_same (a ∷ harts) (suc h) x found = ap (◌∷◌ a) (set_same harts h x found)
 
 -- in user mode there is none to leave
-no_entry_of : (rules : Rules) (mode : Mode) (entry : Option ℕ) → IsSoundEntry rules mode entry → mode ≡ User → entry ≡ None
+pub no_entry_of : (rules : Rules) (mode : Mode) (entry : Option ℕ) → IsSoundEntry rules mode entry → mode ≡ User → entry ≡ None
 no_entry_of rules mode None known user = refl
 no_entry_of rules Kernel (Some i) known user = absurd (cc)
 no_entry_of rules User (Some i) known user = absurd known
 
+same_outside : (q : State) (h : ℕ) (hart : Hart) → IsMoving q h hart → hart.mode ≡ User → outside hart ≡ hart
+same_outside q h hart at user =
+    ap (λ (e : Option ℕ). record hart { entry = e }) (sym (no_entry_of q.rules hart.mode hart.entry (at.sound.harts h hart at.found).entry user))
+
 nothing_left : (q : State) (h : ℕ) (hart : Hart) → IsMoving q h hart → hart.mode ≡ User → leave_entry q h hart ≡ q
 nothing_left q h hart at user =
-    let none : hart.entry ≡ None = no_entry_of q.rules hart.mode hart.entry (at.sound.harts h hart at.found).entry user in
-    let same : outside hart ≡ hart = ap (λ (e : Option ℕ). record hart { entry = e }) (sym none) in
-    ap (λ (l : List Hart). record q { harts = l }) (ap (slice_set q.harts h) same ∙ set_same q.harts h hart at.found)
+    ap (λ (l : List Hart). record q { harts = l }) (ap (slice_set q.harts h) (same_outside q h hart at user) ∙ set_same q.harts h hart at.found)
+
+own_left : (returns : Type 0) (q : State) (h : ℕ) (hart : Hart) (next : State) (after : Hart) → IsMoving q h hart → Own returns (leave_entry q h hart) h (outside hart) next after → Own returns q h hart next after
+unfolding hart_at_trap
+own_left returns q h hart next after at (Same mode started) = Same mode started
+own_left returns q h hart next after at (Entered interrupt cause tval user permitted same all) =
+    Entered interrupt cause tval user permitted same
+    (all ∙ ap (λ (x : State). trap_from x h (outside hart) User interrupt cause tval) (nothing_left q h hart at user)
+    ∙ ap (λ (x : Hart). trap_from q h x User interrupt cause tval) (same_outside q h hart at user))
+own_left returns q h hart next after at (Returned why user same) = Returned why user (same ∙ return_left hart user)
+own_left returns q h hart next after at (Demoted gpa same all) = Demoted gpa same (all ∙ demote_left q h hart gpa)
+own_left returns q h hart next after at (Halted stopped) = Halted stopped
 
 ends_left : (writes : ℕ → Type 0) (q : State) (h : ℕ) (hart : Hart) (next : State) → IsMoving q h hart → Ends writes (leave_entry q h hart) h (outside hart) next
     → Ends writes q h hart next
@@ -234,7 +240,7 @@ pub does_left : (writes : ℕ → Type 0) (returns : Type 0) (q : State) (h : �
 unfolding is_protected
 does_left writes returns q h hart next at d = record {
   bytes = λ page e. d.bytes page e;
-  own = λ after e. own_left returns q h hart next after (d.own after e);
+  own = λ after e. own_left returns q h hart next after at (d.own after e);
   others = λ k before after other was e. other_left q h hart k before after
       (d.others k before after other (set_other q.harts h k (outside hart) other ∙ was) e);
   ends = ends_left writes q h hart next at d.ends;

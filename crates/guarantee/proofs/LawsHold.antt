@@ -3,52 +3,44 @@ use Rattle.std.proofs.Common.{◌≡◌, ℕ, ◌+◌, ◌⊎◌, inl, inr, List
 use Rattle.run_laws.proofs.OthersRest.{same_one}
 use Rattle.std.specs.Prelude.{Option, Some, None, option_map, if◌then◌else◌, is_some, ◌==◌}
 use Rattle.std.proofs.lemmas.Bool.{eqb-true, eq-eqb, cases_Bool}
-use Rattle.std.proofs.lemmas.Option.{none-some, slice_get-map}
+use Rattle.std.proofs.lemmas.Option.{slice_get-map}
 use Rattle.sv_types.specs.ApprovedPages.{approved_bytes}
 use Rattle.processor.specs.Bytes.{low_bytes, page_bytes, page_of, ram_place, in_ram}
 use Rattle.processor.specs.Causes.{cause_number}
-use Rattle.sv_types.specs.Console.{has_room}
-use Rattle.processor.specs.Effects.{effect_of}
-use Rattle.processor.specs.Instructions.{instruction_of}
 use Rattle.processor.specs.Translation.{Destination, At, PageFault, Unreadable}
-use Rattle.processor.specs.Requests.{Writes}
-use Rattle.processor.specs.Traps.{is_kernel, trap_target, interrupt_number, deliverable}
+use Rattle.processor.specs.Traps.{is_kernel, trap_target, interrupt_number}
 use Rattle.processor.specs.declared.cause.Cause.{Cause}
-use Rattle.processor.specs.declared.effect.Effect.{Effect}
 use Rattle.sv_types.specs.declared.event.Event.{Event}
 use Rattle.sv_types.specs.declared.event.Event.TheVariants.{Turn, Beat, Key, Tick}
-use Rattle.sv_types.specs.declared.event.Rule.{Rule}
-use Rattle.sv_types.specs.declared.event.Rule.TheVariants.{Entry, Write}
 use Rattle.sv_types.specs.declared.event.Verdict.{Verdict}
 use Rattle.sv_types.specs.declared.event.Verdict.TheVariants.{Running, Shutdown, Stopped}
-use Rattle.processor.specs.declared.instruction.Instr.{Instr}
-use Rattle.processor.specs.declared.interrupt.Interrupt.{Interrupt}
 use Rattle.processor.specs.declared.mode.Mode.{Mode}
 use Rattle.processor.specs.declared.mode.Mode.TheVariants.{Kernel, User}
 use Rattle.reference.specs.Calls.{hart_at, started_hart}
-use Rattle.reference.specs.Counting.{count, with_count, count_dropped, count_turn, count_beat, count_key, stopped_by}
-use Rattle.reference.specs.Devices.{beat, key, tick, lines_at, with_disk, with_bytes, after_move, hart_after_write}
+use Rattle.reference.specs.Counting.{count, count_turn, count_beat}
+use Rattle.reference.specs.Devices.{beat, key, tick, with_disk, with_bytes, after_move, hart_after_write}
 use Rattle.sv_types.specs.declared.virtio.VirtioMove.{VirtioMove}
 use Rattle.reference.specs.BlockDisk.{BlockBeat, block_beat, block_to_memory, beat_gpa, beat_size, is_busy, is_to_memory}
 use Rattle.reference.specs.VirtioDevice.{VirtioDevice, Request}
 use Rattle.reference.specs.VirtioBeats.{VirtioBeat, nothing, broken_beat, with_request, to_memory, to_disk, put_last, finish_request, make, make_first, go_on, is_live, virtio_beat}
 use Rattle.reference.specs.Disk.{Beaten, disk_beat}
 use Rattle.reference.specs.Move.{Move, Idle, FromRam, IntoRam, DeniedAt, OutsideRam}
-use Rattle.reference.specs.Requests.{Guarded, target_of, carry_out_store, carry_out_store_conditional, carry_out_amo}
-use Rattle.reference.specs.Run.{run, step, happen, happen_under}
+use Rattle.reference.specs.Run.{step, happen, happen_under}
 use Rattle.reference.specs.Soundness.{IsSound}
-use Rattle.reference.specs.Start.{IsStart}
-use Rattle.reference.specs.States.{State, Hart, Disk, BlockDevice, BlockDisk, VirtioDisk, Binding, Loading, has_number, in_kernel, is_approved_in, is_protected}
+use Rattle.reference.specs.States.{State, Hart, Disk, BlockDevice, BlockDisk, VirtioDisk, Loading, has_number, in_kernel, is_approved_in, is_protected}
 use Rattle.reference.specs.Trapping.{trap_from, hart_at_trap, hart_at_return}
-use Rattle.reference.specs.Turn.{going_hart, after_going, Fetched, NoWord, Stray, Word, fetched_in, fetched_at, fetch, fetch_of, place_of_pc, leads_into, noted_gpa, fetch_in_entry, bound_entry, demote, act_on_fetch, act_on_pending, act, turn_of_started, turn_of, turn, carry_out_word, carry_out_instruction, carry_out_effect}
+use Rattle.reference.specs.Turn.{going_hart, after_going, Fetched, NoWord, Stray, Word, fetched_in, fetched_at, fetch, fetch_of, place_of_pc, act, turn_of_started, turn_of, turn}
 use Rattle.run_laws.proofs.Lookups.{both}
-use Rattle.run_laws.proofs.StateLawsHold.{reached_sound, bytes_law, modules_law}
 use Rattle.run_laws.proofs.BeatsSound.{FreeMove, beat_page, beat_sound}
 use Rattle.run_laws.proofs.StepsSound.{counted_sound}
 use Rattle.run_laws.proofs.EntriesHold.{runs_on}
-use Rattle.guarantee.specs.Guarantee.{move_gpa, first_gpa, request_gpa, disk_gpa, IsMeasuredWord, KernelTurn, Loads, Traps, Demotes, Executes, KernelWordsLaw, Enters, ByTrap, ByStart, EntriesLaw, Leaves, ByReturn, ByDemotion, ByStop, ExitsLaw, ProtectedBytesLaw, WritesGuarded, Stops, AtEntry, AtWrite, StopsRight, StopsLaw}
-use Rattle.guarantee.proofs.Does.{IsMoving, Own, Same, Entered, Returned, Demoted, Halted, Other, Rests, Begins, IsNoStop, Ends, GoesOn, StopsAtEntry, StopsAtWrite, page_kept, demote_left}
-use Rattle.guarantee.proofs.Turns.{FetchedWrites, FetchedReturns, turn_does}
+use Rattle.guarantee.specs.Guarantee.{move_gpa, first_gpa, request_gpa, disk_gpa, IsMeasuredWord, KernelTurn, Loads, Interrupts, Traps, Demotes, DemotesAtEntry, Executes, KernelWordsLaw, Enters, ByTrap, ByStart, EntriesLaw, Leaves, ByReturn, ByDemotion, ByStop, ExitsLaw, ProtectedBytesLaw}
+use Rattle.guarantee.proofs.Does.{IsMoving, Own, Same, Entered, Returned, Demoted, Halted, Other, Rests, Begins, page_kept}
+use Rattle.guarantee.proofs.TurnCases.{Attempts, ByInterrupt, ByFault, ByStray, ByPlace, ByWord, act_is}
+use Rattle.run_laws.specs.StateLaws.{HasOrigins}
+use Rattle.attempt_laws.specs.Agree.{IsNotLoading}
+use Rattle.guarantee.proofs.ReachedHolds.{user_unloading}
+use Rattle.guarantee.proofs.Turns.{FetchedReturns, turn_does}
 use Rattle.processor_laws.proofs.GuestViews.{and_false}
 use Rattle.attempt_laws.proofs.AttemptsAgree.{turn_none, turn_stopped}
 use Rattle.sv_types.specs.VirtioResults.{result_number}
@@ -56,7 +48,7 @@ use Rattle.sv_types.specs.VirtioResults.{result_number}
 -- ---- a turn, while the machine runs
 
 -- nothing is done, or a started hart moves
-abbrev Moves : State → ℕ → Type 0
+abbrev pub Moves : State → ℕ → Type 0
 Moves q h = (turn q h ≡ q) ⊎ ((hart : Hart) × IsMoving q h hart)
 
 moves_by : (q : State) (h : ℕ) (x : Option Hart) → IsSound q → q.journal.verdict ≡ Running → slice_get q.harts h ≡ x → Moves q h
@@ -66,7 +58,7 @@ moves_by q h (Some hart) s on found = elim (cases_Bool hart.started) [
   | inr off ↦ inl (turn_stopped q h hart found off)
 ]
 
-moves : (q : State) (h : ℕ) → IsSound q → q.journal.verdict ≡ Running → Moves q h
+pub moves : (q : State) (h : ℕ) → IsSound q → q.journal.verdict ≡ Running → Moves q h
 moves q h s on = moves_by q h (slice_get q.harts h) s on refl
 
 -- ---- protected bytes
@@ -206,12 +198,10 @@ under_denied (Stopped rule h at) r gpa there e = (refl, refl)
 
 pub protected_bytes_law : ProtectedBytesLaw
 unfolding step
-protected_bytes_law s events e is_start =
-    let r : State = run s events in
-    record {
-      bytes = λ page guarded. under_bytes r.journal.verdict r e page (reached_sound s events is_start) refl guarded;
-      moves = λ gpa there guarded. under_denied r.journal.verdict r gpa there guarded;
-    }
+protected_bytes_law r e sound = record {
+  bytes = λ page guarded. under_bytes r.journal.verdict r e page sound refl guarded;
+  moves = λ gpa there guarded. under_denied r.journal.verdict r gpa there guarded;
+}
 
 -- ---- what becomes of a hart
 
@@ -288,11 +278,10 @@ under_becomes Running r e h before after s on was is = happens_becomes r e h bef
 under_becomes Shutdown r e h before after s on was is = rested r e h before r after (same_one (slice_get r.harts h) before after was is)
 under_becomes (Stopped rule k at) r e h before after s on was is = rested r e h before r after (same_one (slice_get r.harts h) before after was is)
 
-becomes : (s : State) (events : List Event) (e : Event) (h : ℕ) (before after : Hart) → IsStart s → slice_get (run s events).harts h ≡ Some before
-    → slice_get (step (run s events) e).harts h ≡ Some after → Becomes (run s events) e h before (step (run s events) e) after
+becomes : (r : State) (e : Event) (h : ℕ) (before after : Hart) → IsSound r → slice_get r.harts h ≡ Some before
+    → slice_get (step r e).harts h ≡ Some after → Becomes r e h before (step r e) after
 unfolding step
-becomes s events e h before after is_start was is =
-    under_becomes (run s events).journal.verdict (run s events) e h before after (reached_sound s events is_start) refl was is
+becomes r e h before after sound was is = under_becomes r.journal.verdict r e h before after sound refl was is
 
 -- ---- entries and exits
 
@@ -309,36 +298,57 @@ off_no_kernel x off = ap (λ (on : Bool). on && is_kernel x.mode) off
 abbrev EntersRight : State → Event → ℕ → Hart → Hart → Type 0
 EntersRight r e h before after = Enters r e h before after × (has_number r.rules.entries after.pc ≡ true)
 
-own_enters : (r : State) (e : Event) (h : ℕ) (before : Hart) (next : State) (after : Hart) → e ≡ Turn h → in_kernel before ≡ false → in_kernel after ≡ true
-    → Own (FetchedReturns (count r count_turn) before) (count r count_turn) h before next after → EntersRight r e h before after
-unfolding hart_at_trap hart_at_return
-own_enters r e h before next after turn out within (Same mode started) = absurd (both (in_kernel after) within (kernel_by after before false mode started out))
-own_enters r e h before next after turn out within (Entered interrupt cause tval user permitted same) =
-    (ByTrap interrupt cause tval turn user same, subst (λ (x : Hart). has_number r.rules.entries x.pc ≡ true) (sym same) permitted)
-own_enters r e h before next after turn out within (Returned why user same) =
-    absurd (both (in_kernel after) within (user_no_kernel after (ap (λ (x : Hart). x.mode) same ∙ user)))
-own_enters r e h before next after turn out within (Demoted gpa same all) =
-    absurd (both (in_kernel after) within (user_no_kernel after (ap (λ (x : Hart). x.mode) same)))
-own_enters r e h before next after turn out within (Halted stopped) = absurd (both (in_kernel after) within (off_no_kernel after stopped))
+trap_enters : (r : State) (h : ℕ) (before after : Hart) (interrupt : Bool) (cause tval : ℕ) → IsMoving (count r count_turn) h before → (before.mode ≡ User → IsNotLoading h r.loading)
+    → before.mode ≡ User → has_number r.rules.entries (trap_target before.supervisor.stvec interrupt cause) ≡ true
+    → after ≡ hart_at_trap r.rules before User interrupt cause tval → step r (Turn h) ≡ trap_from (count r count_turn) h before User interrupt cause tval
+    → Enters r (Turn h) h before after
+trap_enters r h before after interrupt cause tval at free user permitted same all =
+    ByTrap (record {
+      hart = before;
+      found = at.found;
+      started = at.started;
+      free = free user;
+      interrupt = interrupt;
+      cause = cause;
+      tval = tval;
+      same = all;
+      permitted = permitted;
+    }) refl refl user same
 
-enters : (r : State) (e : Event) (h : ℕ) (before : Hart) (next : State) (after : Hart) → in_kernel before ≡ false → in_kernel after ≡ true
-    → Becomes r e h before next after → EntersRight r e h before after
+own_enters : (r : State) (e : Event) (h : ℕ) (before after : Hart) → e ≡ Turn h → in_kernel before ≡ false → in_kernel after ≡ true
+    → IsMoving (count r count_turn) h before → (before.mode ≡ User → IsNotLoading h r.loading)
+    → Own (FetchedReturns (count r count_turn) before) (count r count_turn) h before (step r e) after → EntersRight r e h before after
+unfolding hart_at_trap hart_at_return
+own_enters r e h before after turn out within at free (Same mode started) = absurd (both (in_kernel after) within (kernel_by after before false mode started out))
+own_enters r e h before after turn out within at free (Entered interrupt cause tval user permitted same all) = (
+  subst (λ (x : Event). Enters r x h before after) (sym turn)
+      (trap_enters r h before after interrupt cause tval at free user permitted same (ap (step r) (sym turn) ∙ all)),
+  subst (λ (x : Hart). has_number r.rules.entries x.pc ≡ true) (sym same) permitted,
+)
+own_enters r e h before after turn out within at free (Returned why user same) =
+    absurd (both (in_kernel after) within (user_no_kernel after (ap (λ (x : Hart). x.mode) same ∙ user)))
+own_enters r e h before after turn out within at free (Demoted gpa same all) =
+    absurd (both (in_kernel after) within (user_no_kernel after (ap (λ (x : Hart). x.mode) same)))
+own_enters r e h before after turn out within at free (Halted stopped) = absurd (both (in_kernel after) within (off_no_kernel after stopped))
+
+enters : (r : State) (e : Event) (h : ℕ) (before after : Hart) → in_kernel before ≡ false → in_kernel after ≡ true
+    → (before.mode ≡ User → IsNotLoading h r.loading) → Becomes r e h before (step r e) after → EntersRight r e h before after
 unfolding hart_at
-enters r e h before next after out within (Rested mode started) = absurd (both (in_kernel after) within (kernel_by after before false mode started out))
-enters r e h before next after out within (Moved turn at own) = own_enters r e h before next after turn out within own
-enters r e h before next after out within (Began pc opaque stopped permitted same) =
+enters r e h before after out within free (Rested mode started) = absurd (both (in_kernel after) within (kernel_by after before false mode started out))
+enters r e h before after out within free (Moved turn at own) = own_enters r e h before after turn out within at free own
+enters r e h before after out within free (Began pc opaque stopped permitted same) =
     let its : after.pc ≡ pc = ap (λ (x : Hart). x.pc) same in
     (ByStart opaque stopped (same ∙ ap (λ (n : ℕ). started_hart h n opaque) (sym its)), ap (has_number r.rules.entries) its ∙ permitted)
 
 pub entries_law : EntriesLaw
-entries_law s events e h before after is_start was is out within =
-    enters (run s events) e h before (step (run s events) e) after out within (becomes s events e h before after is_start was is)
+entries_law s r e h before after reached was is out within =
+    enters r e h before after out within (λ user. user_unloading r h before r.loading reached.load was user) (becomes r e h before after reached.sound was is)
 
 own_leaves : (r : State) (h : ℕ) (before : Hart) (next : State) (after : Hart) → in_kernel before ≡ true → in_kernel after ≡ false
     → Own (FetchedReturns (count r count_turn) before) (count r count_turn) h before next after → Leaves r next h before after
 own_leaves r h before next after within out (Same mode started) =
     absurd (both (in_kernel before) within (kernel_by before after false (sym mode) (sym started) out))
-own_leaves r h before next after within out (Entered interrupt cause tval user permitted same) = absurd (both (in_kernel before) within (user_no_kernel before user))
+own_leaves r h before next after within out (Entered interrupt cause tval user permitted same all) = absurd (both (in_kernel before) within (user_no_kernel before user))
 own_leaves r h before next after within out (Returned why user same) = ByReturn why.0 why.1.0 why.1.1 user same
 own_leaves r h before next after within out (Demoted gpa same all) = ByDemotion gpa all
 own_leaves r h before next after within out (Halted stopped) = ByStop stopped
@@ -351,123 +361,9 @@ leaves r e h before next after within out (Moved turn at own) = (own_leaves r h 
 leaves r e h before next after within out (Began pc opaque stopped permitted same) = absurd (both (in_kernel before) within (off_no_kernel before stopped))
 
 pub exits_law : ExitsLaw
-exits_law s events e h before after is_start was is within out =
-    leaves (run s events) e h before (step (run s events) e) after within out (becomes s events e h before after is_start was is)
-
--- ---- stops
-
-abbrev hart_of : Verdict → ℕ
-hart_of Running = 0
-hart_of Shutdown = 0
-hart_of (Stopped rule h at) = h
-
-no_stop_there : (v : Verdict) (rule : Rule) (h at : ℕ) → IsNoStop v → v ≡ Stopped rule h at → ⊥
-no_stop_there v rule h at on e = subst IsNoStop e on
-
-still_runs : (v : Verdict) (rule : Rule) (h at : ℕ) → v ≡ Running → v ≡ Stopped rule h at → ⊥
-still_runs v rule h at on e = subst IsNoStop (sym on ∙ e) tt
-
-named : (next q : State) (rule other : Rule) (k h at : ℕ) → next ≡ stopped_by q k rule → next.journal.verdict ≡ Stopped other h at → k ≡ h
-named next q rule other k h at same e = ap hart_of (sym (ap (λ (x : State). x.journal.verdict) same) ∙ e)
-
-stops_here : (r : State) (k : ℕ) (hart : Hart) (next : State) (left : Bool) → step r (Turn k) ≡ next → slice_get r.harts k ≡ Some hart
-    → Stops (count r count_turn) k hart next → StopsRight r (Turn k) k
-stops_here r k hart next left same found stops = record { hart = hart; found = found; turn = refl; stops = subst (Stops (count r count_turn) k hart) (sym same) stops }
-
-stops_by : (r : State) (k : ℕ) (hart : Hart) (next : State) (rule : Rule) (h at : ℕ) → step r (Turn k) ≡ next → slice_get r.harts k ≡ Some hart
-    → next.journal.verdict ≡ Stopped rule h at → Ends (FetchedWrites (count r count_turn) hart) (count r count_turn) k hart next → StopsRight r (Turn k) h
-stops_by r k hart next rule h at same found verdict (GoesOn on) = absurd (no_stop_there next.journal.verdict rule h at on verdict)
-stops_by r k hart next rule h at same found verdict (StopsAtEntry interrupt cause user other all) =
-    subst (StopsRight r (Turn k)) (named next (count r count_turn) _ rule k h at all verdict)
-    (stops_here r k hart next false same found (AtEntry interrupt cause user other all))
-stops_by r k hart next rule h at same found verdict (StopsAtWrite left gpa w all) =
-    subst (StopsRight r (Turn k)) (named next (after_going left (count r count_turn) k hart) _ rule k h at all verdict)
-    (stops_here r k hart next left same found (AtWrite left w.0 gpa w.1.0 w.1.1 all))
-
-turn_stops : (r : State) (k : ℕ) (rule : Rule) (h at : ℕ) → IsSound r → r.journal.verdict ≡ Running → step r (Turn k) ≡ turn (count r count_turn) k
-    → (turn (count r count_turn) k).journal.verdict ≡ Stopped rule h at → StopsRight r (Turn k) h
-turn_stops r k rule h at s on same verdict = elim (moves (count r count_turn) k (counted_sound r count_turn s).sound on) [
-  | inl none ↦ absurd (still_runs (turn (count r count_turn) k).journal.verdict rule h at (ap (λ (x : State). x.journal.verdict) none ∙ on) verdict)
-  | inr m ↦ stops_by r k m.0 (turn (count r count_turn) k) rule h at same m.1.found verdict (turn_does (count r count_turn) k m.0 m.1).ends
-]
-
-move_verdict : (q : State) (disk : Disk) (x : Move) → (after_move (with_disk q disk) x).journal.verdict ≡ q.journal.verdict
-unfolding after_move with_bytes
-move_verdict q disk Idle = refl
-move_verdict q disk (FromRam gpa) = refl
-move_verdict q disk (IntoRam gpa bytes) = refl
-move_verdict q disk (DeniedAt gpa) = refl
-move_verdict q disk OutsideRam = refl
-
-beat_verdict : (q : State) → (beat q).journal.verdict ≡ q.journal.verdict
-unfolding beat
-beat_verdict q = let b : Beaten = disk_beat q.devices.disk q.ram (λ page. not (is_protected q page)) in move_verdict q b.disk b.move
-
-key_verdict : (q : State) (byte : ℕ) → (key q byte).journal.verdict ≡ q.journal.verdict
-unfolding key
-key_verdict q byte = by_room (has_room q.devices.console)
-  where
-    by_room : (b : Bool) → (if b then q.journal else with_count count_dropped q.journal).verdict ≡ q.journal.verdict
-    by_room true = refl
-    by_room false = refl
-
-event_stops : (r : State) (e : Event) (rule : Rule) (h at : ℕ) → IsSound r → r.journal.verdict ≡ Running → step r e ≡ happen r e
-    → (happen r e).journal.verdict ≡ Stopped rule h at → StopsRight r e h
-unfolding happen tick
-event_stops r (Turn k) rule h at s on same verdict = turn_stops r k rule h at s on same verdict
-event_stops r Beat rule h at s on same verdict = absurd (still_runs _ rule h at (beat_verdict (count r count_beat) ∙ on) verdict)
-event_stops r (Key byte) rule h at s on same verdict = absurd (still_runs _ rule h at (key_verdict (count r count_key) byte ∙ on) verdict)
-event_stops r (Tick n) rule h at s on same verdict = absurd (still_runs _ rule h at on verdict)
-
-only_there : (s : State) (events : List Event) (e : Event) (rule : Rule) (h at : ℕ) → IsStart s → (run s events).journal.verdict ≡ Running
-    → (step (run s events) e).journal.verdict ≡ Stopped rule h at → StopsRight (run s events) e h
-only_there s events e rule h at is_start on verdict =
-    event_stops (run s events) e rule h at (reached_sound s events is_start) on (runs_on (run s events) e on)
-    (sym (ap (λ (x : State). x.journal.verdict) (runs_on (run s events) e on)) ∙ verdict)
-
-trap_stops : (q : State) (h : ℕ) (hart : Hart) (interrupt : Bool) (cause tval : ℕ) → has_number q.rules.entries (trap_target hart.supervisor.stvec interrupt cause) ≡ false
-    → trap_from q h hart User interrupt cause tval ≡ stopped_by q h (Entry (trap_target hart.supervisor.stvec interrupt cause))
-unfolding trap_from
-trap_stops q h hart interrupt cause tval e = rw e refl
-
-guarded_there : (q : State) (hart : Hart) (gpa at address bytes width : ℕ) → at ≡ address → bytes ≡ width → target_of q hart address width ≡ Guarded gpa
-    → target_of q hart at bytes ≡ Guarded gpa
-guarded_there q hart gpa at address bytes width same size leads =
-    subst (λ (a : ℕ). target_of q hart a bytes ≡ Guarded gpa) (sym same) (subst (λ (n : ℕ). target_of q hart address n ≡ Guarded gpa) (sym size) leads)
-
--- a write into a protected page, by the effects that write
-effect_stops : (q : State) (h : ℕ) (hart : Hart) (w gpa : ℕ) (e : Effect) (address width : ℕ) → Writes e address width → target_of q hart address width ≡ Guarded gpa
-    → carry_out_effect q h hart w e ≡ stopped_by q h (Write hart.pc gpa)
-unfolding carry_out_effect carry_out_store carry_out_store_conditional carry_out_amo
-effect_stops q h hart w gpa (Effect.Store at bytes value) address width is leads =
-    ap (carry_out_store q h hart at bytes value) (guarded_there q hart gpa at address bytes width is.0 is.1 leads)
-effect_stops q h hart w gpa (Effect.StoreConditional rd at bytes value) address width is leads =
-    ap (carry_out_store_conditional q h hart rd at bytes value) (guarded_there q hart gpa at address bytes width is.0 is.1 leads)
-effect_stops q h hart w gpa (Effect.Amo rd at bytes op value) address width is leads =
-    ap (carry_out_amo q h hart rd at bytes op value) (guarded_there q hart gpa at address bytes width is.0 is.1 leads)
-effect_stops q h hart w gpa _ address width is leads = absurd is
-
-instruction_stops : (q : State) (h : ℕ) (hart : Hart) (w gpa : ℕ) (x : Option Instr) (e : Effect) (address width : ℕ)
-    → option_map (λ (i : Instr). effect_of i hart.registers hart.pc) x ≡ Some e → Writes e address width → target_of q hart address width ≡ Guarded gpa
-    → carry_out_instruction q h hart w x ≡ stopped_by q h (Write hart.pc gpa)
-unfolding carry_out_instruction
-instruction_stops q h hart w gpa None e address width is writes leads = absurd (none-some e is)
-instruction_stops q h hart w gpa (Some i) e address width is writes leads =
-    let same : effect_of i hart.registers hart.pc ≡ e = cc in
-    effect_stops q h hart w gpa (effect_of i hart.registers hart.pc) address width (subst (λ (x : Effect). Writes x address width) (sym same) writes) leads
-
-word_stops : (q : State) (h : ℕ) (hart : Hart) (w gpa : ℕ) → WritesGuarded q hart w gpa → carry_out_word q h hart w ≡ stopped_by q h (Write hart.pc gpa)
-unfolding carry_out_word
-word_stops q h hart w gpa k = instruction_stops q h hart w gpa (instruction_of w) k.effect k.address k.width k.is k.writes k.leads
-
-pub stops_law : StopsLaw
-stops_law = record { only = only_there; traps = trap_stops; writes = word_stops }
+exits_law r e h before after sound was is within out = leaves r e h before (step r e) after within out (becomes r e h before after sound was is)
 
 -- ---- words
-
-going_mode : (left : Bool) (hart : Hart) → (going_hart left hart).mode ≡ hart.mode
-going_mode true hart = refl
-going_mode false hart = refl
 
 some_there : (x : Option (List ℕ)) (bytes : List ℕ) → x ≡ Some bytes → is_some x ≡ true
 some_there None bytes e = absurd (cc)
@@ -486,110 +382,108 @@ word_in (Word w) = w
 no_word : (x : Fetched) (w : ℕ) → is_word x ≡ false → x ≡ Word w → ⊥
 no_word x w none e = both (is_word x) (ap is_word e) none
 
-measured_at : (s : State) (events : List Event) (hart : Hart) (w gpa : ℕ) (inside : Bool) (x : Option (List ℕ)) → IsStart s → place_of_pc (run s events) hart ≡ At gpa
-    → approved_bytes (run s events).approved (page_of gpa) ≡ x
-    → (if inside then fetched_in (run s events).ram Kernel gpa x else NoWord Cause.InstrAccess) ≡ Word w → IsMeasuredWord s (run s events) hart w
+measured_at : (s r : State) (hart : Hart) (w gpa : ℕ) (inside : Bool) (x : Option (List ℕ)) → IsSound r → HasOrigins s r → place_of_pc r hart ≡ At gpa
+    → approved_bytes r.approved (page_of gpa) ≡ x
+    → (if inside then fetched_in r.ram Kernel gpa x else NoWord Cause.InstrAccess) ≡ Word w → IsMeasuredWord s r hart w
 unfolding fetched_in
-measured_at s events hart w gpa true (Some bytes) is_start place found e =
-    let approved : is_approved_in (run s events).approved (page_of gpa) ≡ true = some_there (approved_bytes (run s events).approved (page_of gpa)) bytes found in
+measured_at s r hart w gpa true (Some bytes) sound origins place found e =
+    let approved : is_approved_in r.approved (page_of gpa) ≡ true = some_there (approved_bytes r.approved (page_of gpa)) bytes found in
     record {
       gpa = gpa;
       bytes = bytes;
       place = place;
       approved = found;
-      kept = (bytes_law s events is_start).same (page_of gpa) bytes found;
-      origin = (modules_law s events is_start).origin (page_of gpa) approved;
+      kept = sound.text.same (page_of gpa) bytes found;
+      origin = origins.origin (page_of gpa) approved;
       word = sym (ap word_in e);
     }
-measured_at s events hart w gpa true None is_start place found e = absurd (no_word (Stray gpa) w refl e)
-measured_at s events hart w gpa false x is_start place found e = absurd (no_word (NoWord Cause.InstrAccess) w refl e)
+measured_at s r hart w gpa true None sound origins place found e = absurd (no_word (Stray gpa) w refl e)
+measured_at s r hart w gpa false x sound origins place found e = absurd (no_word (NoWord Cause.InstrAccess) w refl e)
 
-measured_by : (s : State) (events : List Event) (hart : Hart) (w : ℕ) (d : Destination) → IsStart s → place_of_pc (run s events) hart ≡ d
-    → fetched_at (run s events).ram (run s events).approved Kernel d ≡ Word w → IsMeasuredWord s (run s events) hart w
+measured_by : (s r : State) (hart : Hart) (w : ℕ) (d : Destination) → IsSound r → HasOrigins s r → place_of_pc r hart ≡ d
+    → fetched_at r.ram r.approved Kernel d ≡ Word w → IsMeasuredWord s r hart w
 unfolding fetched_at
-measured_by s events hart w PageFault is_start place e = absurd (no_word (NoWord Cause.InstrPage) w refl e)
-measured_by s events hart w (Unreadable entry) is_start place e = absurd (no_word (NoWord Cause.InstrAccess) w refl e)
-measured_by s events hart w (At gpa) is_start place e =
-    measured_at s events hart w gpa (in_ram (run s events).ram gpa 4) (approved_bytes (run s events).approved (page_of gpa)) is_start place refl e
+measured_by s r hart w PageFault sound origins place e = absurd (no_word (NoWord Cause.InstrPage) w refl e)
+measured_by s r hart w (Unreadable entry) sound origins place e = absurd (no_word (NoWord Cause.InstrAccess) w refl e)
+measured_by s r hart w (At gpa) sound origins place e =
+    measured_at s r hart w gpa (in_ram r.ram gpa 4) (approved_bytes r.approved (page_of gpa)) sound origins place refl e
 
-fetched_measured : (s : State) (events : List Event) (hart : Hart) (w : ℕ) → IsStart s → hart.mode ≡ Kernel → fetch_of (run s events) hart ≡ Word w
-    → IsMeasuredWord s (run s events) hart w
+fetched_measured : (s r : State) (hart : Hart) (w : ℕ) → IsSound r → HasOrigins s r → hart.mode ≡ Kernel → fetch_of r hart ≡ Word w
+    → IsMeasuredWord s r hart w
 unfolding fetch
-fetched_measured s events hart w is_start mode e =
-    measured_by s events hart w (place_of_pc (run s events) hart) is_start refl
-    (subst (λ (m : Mode). fetched_at (run s events).ram (run s events).approved m (place_of_pc (run s events) hart) ≡ Word w) mode e)
+fetched_measured s r hart w sound origins mode e =
+    measured_by s r hart w (place_of_pc r hart) sound origins refl
+    (subst (λ (m : Mode). fetched_at r.ram r.approved m (place_of_pc r hart) ≡ Word w) mode e)
+
+-- ---- pages that aren't approved
+
+-- where a hart strays
+record StraysAt (q : State) (hart : Hart) (gpa : ℕ) : Type 0 where
+  place : place_of_pc q hart ≡ At gpa
+  inside : in_ram q.ram gpa 4 ≡ true
+  unapproved : is_approved_in q.approved (page_of gpa) ≡ false
+
+stray_in : (q : State) (hart : Hart) (at gpa : ℕ) (inside : Bool) (x : Option (List ℕ)) → place_of_pc q hart ≡ At gpa → in_ram q.ram gpa 4 ≡ inside
+    → approved_bytes q.approved (page_of gpa) ≡ x → (if inside then fetched_in q.ram Kernel gpa x else NoWord Cause.InstrAccess) ≡ Stray at → StraysAt q hart at
+unfolding fetched_in
+stray_in q hart at gpa false x place inside found e = absurd (cc)
+stray_in q hart at gpa true (Some bytes) place inside found e = absurd (cc)
+stray_in q hart at gpa true None place inside found e =
+    let same : gpa ≡ at = cc in
+    subst (StraysAt q hart) same (record { place = place; inside = inside; unapproved = ap (λ (o : Option (List ℕ)). is_some o) found })
+
+stray_at : (q : State) (hart : Hart) (at : ℕ) (d : Destination) → place_of_pc q hart ≡ d → fetched_at q.ram q.approved Kernel d ≡ Stray at → StraysAt q hart at
+unfolding fetched_at
+stray_at q hart at PageFault place e = absurd (cc)
+stray_at q hart at (Unreadable entry) place e = absurd (cc)
+stray_at q hart at (At gpa) place e = stray_in q hart at gpa (in_ram q.ram gpa 4) (approved_bytes q.approved (page_of gpa)) place refl refl e
+
+strays : (q : State) (hart : Hart) (at : ℕ) → hart.mode ≡ Kernel → fetch_of q hart ≡ Stray at → StraysAt q hart at
+unfolding fetch
+strays q hart at mode e =
+    stray_at q hart at (place_of_pc q hart) refl (subst (λ (m : Mode). fetched_at q.ram q.approved m (place_of_pc q hart) ≡ Stray at) mode e)
 
 -- ---- turns in kernel mode
 
-abbrev TurnOf : State → List Event → ℕ → Hart → State → Type 0
-TurnOf s events h hart next = KernelTurn s (run s events) (count (run s events) count_turn) h hart next
+as_kernel : (s r : State) (h : ℕ) (hart : Hart) (next : State) → IsSound r → HasOrigins s r → hart.mode ≡ Kernel → Attempts (count r count_turn) h hart next
+    → KernelTurn s r (count r count_turn) h hart next
+as_kernel s r h hart next sound origins mode (ByInterrupt interrupt pending same) =
+    Interrupts interrupt pending (same ∙ ap (λ (m : Mode). trap_from (count r count_turn) h hart m true (interrupt_number interrupt) 0) mode)
+as_kernel s r h hart next sound origins mode (ByFault left cause at fetched same) =
+    Traps left cause at fetched
+    (same ∙ ap (λ (m : Mode). trap_from (after_going left (count r count_turn) h hart) h (going_hart left hart) m false (cause_number cause) hart.pc) mode)
+as_kernel s r h hart next sound origins mode (ByStray left gpa at fetched same) =
+    let k = strays (count r count_turn) hart gpa mode fetched in Demotes left gpa at k.place k.inside k.unapproved same
+as_kernel s r h hart next sound origins mode (ByPlace entry quiet bound away there same) = DemotesAtEntry entry quiet bound there away same
+as_kernel s r h hart next sound origins mode (ByWord left w at fetched same) = Executes left w at (fetched_measured s r hart w sound origins mode fetched) same
 
-choose_turn : (s : State) (events : List Event) (h : ℕ) (hart : Hart) (b : Bool) (x y : State) → TurnOf s events h hart x → TurnOf s events h hart y
-    → TurnOf s events h hart (if b then x else y)
-choose_turn s events h hart true x y k l = k
-choose_turn s events h hart false x y k l = l
+decide_turn : (s r : State) (h : ℕ) (hart : Hart) (b : Bool) (x y : State) → (b ≡ true → KernelTurn s r (count r count_turn) h hart x)
+    → KernelTurn s r (count r count_turn) h hart y → KernelTurn s r (count r count_turn) h hart (if b then x else y)
+decide_turn s r h hart true x y k l = k refl
+decide_turn s r h hart false x y k l = l
 
-decide_turn : (s : State) (events : List Event) (h : ℕ) (hart : Hart) (b : Bool) (x y : State) → (b ≡ true → TurnOf s events h hart x) → TurnOf s events h hart y
-    → TurnOf s events h hart (if b then x else y)
-decide_turn s events h hart true x y k l = k refl
-decide_turn s events h hart false x y k l = l
-
-stray_left : (left : Bool) (q : State) (h : ℕ) (hart : Hart) (gpa : ℕ) → demote (after_going left q h hart) h (going_hart left hart) gpa ≡ demote q h hart gpa
-stray_left false q h hart gpa = refl
-stray_left true q h hart gpa = demote_left q h hart gpa
-
-fetched_turn : (s : State) (events : List Event) (h : ℕ) (hart : Hart) (left : Bool) (x : Fetched) → IsStart s → hart.mode ≡ Kernel → fetch_of (run s events) hart ≡ x
-    → TurnOf s events h hart (act_on_fetch (after_going left (count (run s events) count_turn) h hart) h (going_hart left hart) x)
-unfolding act_on_fetch
-fetched_turn s events h hart left (NoWord cause) is_start mode e = Traps left false (cause_number cause) (going_hart left hart).pc
-    (ap (λ (m : Mode). trap_from (after_going left (count (run s events) count_turn) h hart) h (going_hart left hart) m false (cause_number cause) (going_hart left hart).pc)
-    (going_mode left hart ∙ mode))
-fetched_turn s events h hart left (Stray gpa) is_start mode e = Demotes gpa (stray_left left (count (run s events) count_turn) h hart gpa)
-fetched_turn s events h hart left (Word w) is_start mode e = Executes left w (fetched_measured s events hart w is_start mode e) refl
-
-entry_turn : (s : State) (events : List Event) (h : ℕ) (hart : Hart) (x : Option Binding) → IsStart s → hart.mode ≡ Kernel
-    → TurnOf s events h hart (fetch_in_entry (count (run s events) count_turn) h hart x)
-unfolding fetch_in_entry
-entry_turn s events h hart None is_start mode = fetched_turn s events h hart false (fetch_of (run s events) hart) is_start mode refl
-entry_turn s events h hart (Some entry) is_start mode =
-    let q : State = count (run s events) count_turn in
-    choose_turn s events h hart (leads_into q (page_of entry.gpa) (place_of_pc q hart)) _ _
-    (fetched_turn s events h hart false (fetch_of (run s events) hart) is_start mode refl)
-    (choose_turn s events h hart (hart.pc == entry.va) _ _ (Demotes (noted_gpa q.ram (place_of_pc q hart)) refl)
-    (fetched_turn s events h hart true (fetch_of (run s events) hart) is_start mode refl))
-
-pending_turn : (s : State) (events : List Event) (h : ℕ) (hart : Hart) (x : Option Interrupt) → IsStart s → hart.mode ≡ Kernel
-    → TurnOf s events h hart (act_on_pending (count (run s events) count_turn) h hart x)
-unfolding act_on_pending
-pending_turn s events h hart (Some interrupt) is_start mode = Traps false true (interrupt_number interrupt) 0
-    (ap (λ (m : Mode). trap_from (count (run s events) count_turn) h hart m true (interrupt_number interrupt) 0) mode)
-pending_turn s events h hart None is_start mode = entry_turn s events h hart (bound_entry (run s events).rules hart.entry) is_start mode
-
-act_turn : (s : State) (events : List Event) (h : ℕ) (hart : Hart) → IsStart s → hart.mode ≡ Kernel → TurnOf s events h hart (act (count (run s events) count_turn) h hart)
-unfolding act
-act_turn s events h hart is_start mode =
-    pending_turn s events h hart (deliverable hart.mode hart.supervisor (lines_at (run s events).devices h)) is_start mode
-
-started_turn : (s : State) (events : List Event) (h : ℕ) (hart : Hart) (x : Option Loading) → IsStart s → hart.mode ≡ Kernel → (run s events).loading ≡ x
-    → TurnOf s events h hart (turn_of_started (count (run s events) count_turn) h hart x)
+started_turn : (s r : State) (h : ℕ) (hart : Hart) (x : Option Loading) → IsSound r → HasOrigins s r → hart.mode ≡ Kernel → r.loading ≡ x
+    → KernelTurn s r (count r count_turn) h hart (turn_of_started (count r count_turn) h hart x)
 unfolding turn_of_started
-started_turn s events h hart None is_start mode under = act_turn s events h hart is_start mode
-started_turn s events h hart (Some load) is_start mode under =
-    decide_turn s events h hart (load.hart == h) _ _ (λ its. Loads load under (eqb-true load.hart h its) refl) (act_turn s events h hart is_start mode)
+started_turn s r h hart None sound origins mode under =
+    as_kernel s r h hart (act (count r count_turn) h hart) sound origins mode (act_is (count r count_turn) h hart)
+started_turn s r h hart (Some load) sound origins mode under =
+    decide_turn s r h hart (load.hart == h) _ _ (λ its. Loads load under (eqb-true load.hart h its) refl)
+    (as_kernel s r h hart (act (count r count_turn) h hart) sound origins mode (act_is (count r count_turn) h hart))
 
 kernel_is : (hart : Hart) (on : Bool) (mode : Mode) → hart.started ≡ on → hart.mode ≡ mode → (on && is_kernel mode) ≡ true → (hart.started ≡ true) × (hart.mode ≡ Kernel)
 kernel_is hart true Kernel on mode e = (on, mode)
 kernel_is hart true User on mode e = absurd (cc)
 kernel_is hart false mode_is on mode e = absurd (cc)
 
-turn_started : (q : State) (h : ℕ) (hart : Hart) → slice_get q.harts h ≡ Some hart → hart.started ≡ true → turn q h ≡ turn_of_started q h hart q.loading
+pub turn_started : (q : State) (h : ℕ) (hart : Hart) → slice_get q.harts h ≡ Some hart → hart.started ≡ true → turn q h ≡ turn_of_started q h hart q.loading
 unfolding turn turn_of
 turn_started q h hart found on = ap (turn_of q h) found ∙ ap (λ (b : Bool). if b then turn_of_started q h hart q.loading else q) on
 
 pub kernel_words_law : KernelWordsLaw
 unfolding happen
-kernel_words_law s events h hart is_start running found within =
+kernel_words_law s r h hart sound origins running found within =
     let k = kernel_is hart hart.started hart.mode refl refl within in
-    subst (TurnOf s events h hart)
-    (sym (runs_on (run s events) (Turn h) running ∙ turn_started (count (run s events) count_turn) h hart found k.0))
-    (started_turn s events h hart (run s events).loading is_start k.1 refl)
+    subst (KernelTurn s r (count r count_turn) h hart)
+    (sym (runs_on r (Turn h) running ∙ turn_started (count r count_turn) h hart found k.0))
+    (started_turn s r h hart r.loading sound origins k.1 refl)

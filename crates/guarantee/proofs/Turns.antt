@@ -30,7 +30,7 @@ use Rattle.reference.specs.ModuleCalls.{answer_of, load_decision}
 use Rattle.reference.specs.Requests.{carried_out, carried_out_writing, Source, NoSource, FromRam, FromDevice, Target, NoTarget, Guarded, ToRam, ToDevice, carry_out_device_load, carry_out_load, carry_out_load_reserved, carry_out_device_store, carry_out_store, write_stopped, carry_out_store_conditional, carry_out_amo, carry_out_csr, source_of, target_of, csr_asked}
 use Rattle.reference.specs.Soundness.{IsSoundLoad}
 use Rattle.reference.specs.States.{State, Hart, Binding, Devices, Disk, Journal, Loading, has_number, is_protected}
-use Rattle.reference.specs.Trapping.{trap_from, exception, returned_from_trap, hart_at_trap, hart_at_return}
+use Rattle.reference.specs.Trapping.{trap_from, trap_entered, exception, returned_from_trap, hart_at_trap, hart_at_return}
 use Rattle.reference.specs.Turn.{fetch_and_act, place_of_pc, leads_into, noted_gpa, outside, leave_entry, fetch_in_entry, bound_entry, carry_out_kernel_only, carry_out_ecall, carry_out_sret, carry_out_effect, carry_out_instruction, carry_out_word, effect_of_word, Fetched, NoWord, Stray, Word, fetch_of, demote, act_on_fetch, act_on_pending, act, turn_of_started, turn_of, turn}
 use Rattle.reference.specs.declared.answers.Answer.{Answer}
 use Rattle.reference.specs.declared.answers.Beside.{Beside}
@@ -52,13 +52,19 @@ use Rattle.sv_types.proofs.SetElements.{set_other}
 
 -- ---- traps
 
+entered_all : (q : State) (h : ℕ) (hart : Hart) (interrupt : Bool) (cause tval : ℕ)
+    → has_number q.rules.entries (trap_target hart.supervisor.stvec interrupt cause) ≡ true
+    → trap_entered q h hart User interrupt cause tval ≡ trap_from q h hart User interrupt cause tval
+unfolding trap_from
+entered_all q h hart interrupt cause tval permitted = rw permitted refl
+
 pub trap_does : (writes : ℕ → Type 0) (returns : Type 0) (q : State) (h : ℕ) (hart : Hart) (from : Mode) (interrupt : Bool) (cause tval : ℕ) → IsMoving q h hart → hart.mode ≡ from
     → Does writes returns q h hart (trap_from q h hart from interrupt cause tval)
 unfolding trap_from hart_at_trap
 trap_does writes returns q h hart Kernel interrupt cause tval at mode = does_set writes returns q h hart _ _ at refl refl (Same (sym mode) refl) at.running
 trap_does writes returns q h hart User interrupt cause tval at mode =
     decide_does writes returns q h hart (has_number q.rules.entries (trap_target hart.supervisor.stvec interrupt cause)) _ _
-    (λ permitted. does_set writes returns q h hart _ _ at refl refl (Entered interrupt cause tval mode permitted refl) at.running)
+    (λ permitted. does_set writes returns q h hart _ _ at refl refl (Entered interrupt cause tval mode permitted refl (entered_all q h hart interrupt cause tval permitted)) at.running)
     (λ other. does_nothing writes returns q h hart _ at refl refl (StopsAtEntry interrupt cause mode other refl))
 
 pub exception_does : (writes : ℕ → Type 0) (returns : Type 0) (q : State) (h : ℕ) (hart : Hart) (cause : Cause) (tval : ℕ) → IsMoving q h hart → Does writes returns q h hart (exception q h hart cause tval)
@@ -114,7 +120,7 @@ port_verdict d j (ConsoleAt offset) width value s e = console_verdict d j (store
 port_verdict d j (DiskAt offset) width value s e = disk_verdict d j (disk_store d.disk offset width value) s e
 port_verdict d j Nowhere width value s e = absurd (cc)
 
-store_verdict : (d : Devices) (j : Journal) (gpa width value : ℕ) (s : DeviceStore) → device_store d j gpa width value ≡ Some s → s.journal.verdict ≡ j.verdict
+pub store_verdict : (d : Devices) (j : Journal) (gpa width value : ℕ) (s : DeviceStore) → device_store d j gpa width value ≡ Some s → s.journal.verdict ≡ j.verdict
 unfolding device_store
 store_verdict d j gpa width value s e = port_verdict d j (port_at gpa) width value s e
 
@@ -262,7 +268,7 @@ unfolding pages_beside
 beside_ram q h (BeginsLoad m pages) = refl
 beside_ram q h _ = refl
 
-beside_verdict : (j : Journal) (h : ℕ) (b : Beside) → j.verdict ≡ Running → IsNoStop (journal_beside b h j).verdict
+pub beside_verdict : (j : Journal) (h : ℕ) (b : Beside) → j.verdict ≡ Running → IsNoStop (journal_beside b h j).verdict
 unfolding journal_beside
 beside_verdict j h ShutsDown on = tt
 beside_verdict j h _ on = subst IsNoStop (sym on) tt
@@ -355,7 +361,7 @@ WordReturns w hart = effect_of_word w hart ≡ Some Effect.Sret
 word_returns : (hart : Hart) (w : ℕ) (i : Instr) → instruction_of w ≡ Some i → does_as hart i ≡ Effect.Sret → WordReturns w hart
 word_returns hart w i e sret = ap (option_map (does_as hart)) e ∙ ap Some sret
 
-instruction_does : (q : State) (h : ℕ) (hart : Hart) (w : ℕ) (x : Option Instr) → IsMoving q h hart → instruction_of w ≡ x
+pub instruction_does : (q : State) (h : ℕ) (hart : Hart) (w : ℕ) (x : Option Instr) → IsMoving q h hart → instruction_of w ≡ x
     → Does (WritesGuarded q hart w) (WordReturns w hart) q h hart (carry_out_instruction q h hart w x)
 unfolding carry_out_instruction
 instruction_does q h hart w None at e = exception_does _ _ q h hart Cause.Illegal w at
@@ -381,7 +387,7 @@ fetch_does q h hart (Word w) at e =
     does_for (WritesGuarded q hart w) (FetchedWrites q hart) (WordReturns w hart) (FetchedReturns q hart) q h hart _ (λ gpa k. (w, (e, k))) (λ k. (w, (e, k)))
     (instruction_does q h hart w (instruction_of w) at refl)
 
-moving_left : (q : State) (h : ℕ) (hart : Hart) → IsMoving q h hart → IsMoving (leave_entry q h hart) h (outside hart)
+pub moving_left : (q : State) (h : ℕ) (hart : Hart) → IsMoving q h hart → IsMoving (leave_entry q h hart) h (outside hart)
 moving_left q h hart at = record {
   sound = (leave_goes q h hart at.sound (at.sound.harts h hart at.found)).sound;
   found = get_back q.harts h hart (outside hart) at.found;

@@ -1,12 +1,16 @@
--- What a guest can't do, whatever it and its devices try: in each law `r` is a state that a run reaches from a start `s`.
+-- What a guest can't do, whatever it and its devices try: in each law `r` is a sound state. Each that a run reaches is sound and
+-- has its origins, from a start and from a snapshot that isn't refused (`ReachedLaw`).
 -- This project's own.
-use Rattle.std.specs.Prelude.{◌≡◌, ℕ, Bool, true, false, List, [], ◌∷◌, Option, Some, None, slice_get}
+use Rattle.std.specs.Prelude.{◌≡◌, ℕ, ◌+◌, Bool, true, false, List, [], ◌∷◌, ◌==◌, Option, Some, None, slice_get}
 use Rattle.sv_types.specs.ApprovedPages.{approved_bytes}
-use Rattle.processor.specs.Bytes.{word, page_bytes, page_of, place_in_page, instruction_size}
+use Rattle.processor.specs.Bytes.{word, in_ram, ram_place, page_bytes, page_of, place_in_page, instruction_size}
+use Rattle.processor.specs.Causes.{cause_number}
 use Rattle.processor.specs.Translation.{At}
 use Rattle.processor.specs.Requests.{Writes}
-use Rattle.processor.specs.Traps.{trap_target, mode_at_return}
+use Rattle.processor.specs.Traps.{trap_target, mode_at_return, deliverable, interrupt_number}
+use Rattle.processor.specs.declared.cause.Cause.{Cause}
 use Rattle.processor.specs.declared.effect.Effect.{Effect}
+use Rattle.processor.specs.declared.interrupt.Interrupt.{Interrupt}
 use Rattle.sv_types.specs.declared.event.Event.{Event}
 use Rattle.sv_types.specs.declared.event.Rule.{Rule}
 use Rattle.sv_types.specs.declared.event.Verdict.{Verdict}
@@ -15,15 +19,44 @@ use Rattle.reference.specs.Calls.{started_hart}
 use Rattle.reference.specs.Counting.{count, count_turn, stopped_by}
 use Rattle.sv_types.specs.declared.virtio.VirtioMove.{VirtioMove}
 use Rattle.reference.specs.BlockDisk.{beat_gpa}
+use Rattle.reference.specs.Devices.{lines_at}
 use Rattle.reference.specs.VirtioDevice.{Request}
 use Rattle.reference.specs.Loads.{load_step}
 use Rattle.reference.specs.Requests.{Guarded, target_of}
-use Rattle.reference.specs.Run.{run, step}
-use Rattle.reference.specs.Start.{IsStart}
-use Rattle.reference.specs.States.{State, Hart, Disk, BlockDisk, VirtioDisk, Loading, has_number, in_kernel, is_protected}
+use Rattle.reference.specs.Run.{step}
+use Rattle.reference.specs.Soundness.{IsSound}
+use Rattle.reference.specs.States.{State, Hart, Disk, BlockDisk, VirtioDisk, Loading, Binding, has_number, in_kernel, is_approved_in, is_protected}
 use Rattle.reference.specs.Trapping.{hart_at_trap, hart_at_return, trap_from}
-use Rattle.reference.specs.Turn.{Word, after_going, carry_out_word, demote, effect_of_word, fetch_of, going_hart, place_of_pc}
-use Rattle.run_laws.specs.StateLaws.{HasOrigin}
+use Rattle.reference.specs.Turn.{NoWord, Word, after_going, bound_entry, carry_out_word, demote, effect_of_word, fetch_of, going_hart, leads_into, noted_gpa, place_of_pc}
+use Rattle.attempt_laws.specs.Agree.{IsNotLoading}
+use Rattle.run_laws.specs.EntryLaws.{TrapsIn}
+use Rattle.run_laws.specs.StateLaws.{HasOrigin, HasOrigins}
+use Rattle.guarantee.specs.Reached.{IsReached}
+use Rattle.guarantee.specs.UserTraps.{UserTrap, user_trap}
+
+-- ---- how a turn begins; q is the state with the turn counted
+
+-- whether the hart leaves its entry before it fetches. It stays where it is in no bound entry, or its pc leads into the page that
+-- the entry is bound to; where its pc leads elsewhere it leaves, but for the entry's own address, at which it is demoted
+abbrev pub Goes : State → Hart → (left : Bool) → Option Binding → Type 0
+Goes q hart false None = Unit {0}
+Goes q hart true None = ⊥
+Goes q hart false (Some entry) = leads_into q (page_of entry.gpa) (place_of_pc q hart) ≡ true
+Goes q hart true (Some entry) = (leads_into q (page_of entry.gpa) (place_of_pc q hart) ≡ false) × ((hart.pc == entry.va) ≡ false)
+
+-- no interrupt is deliverable, and the hart isn't demoted at its entry's address
+pub record Fetches (q : State) (h : ℕ) (hart : Hart) (left : Bool) : Type 0 where
+  pub quiet : deliverable hart.mode hart.supervisor (lines_at q.devices h) ≡ None
+  pub goes : Goes q hart left (bound_entry q.rules hart.entry)
+
+-- the machine runs, and the hart is started and has no load under way
+pub record HasTurn (r : State) (h : ℕ) (hart : Hart) : Type 0 where
+  pub running : r.journal.verdict ≡ Verdict.Running
+  pub found : slice_get r.harts h ≡ Some hart
+  pub started : hart.started ≡ true
+  pub free : IsNotLoading h r.loading
+
+-- ---- kernel mode
 
 -- the word at the hart's pc lies in an approved page, as it was approved, and as RAM has it. The page is the kernel's text as it
 -- was at the start, or a part of a loaded module's that measures to the policy's digest with each field right
@@ -40,31 +73,65 @@ pub record IsMeasuredWord (s r : State) (hart : Hart) (w : ℕ) : Type 0 where
 pub data KernelTurn (s r q : State) (h : ℕ) (hart : Hart) (next : State) : Type 0 where
   -- its load of a module goes on
   Loads : (load : Loading) → r.loading ≡ Some load → load.hart ≡ h → next ≡ load_step q h hart load → KernelTurn s r q h hart next
-  -- an interrupt, or a fetch that faults
-  Traps : (left interrupt : Bool) (cause tval : ℕ) →
-      next ≡ trap_from (after_going left q h hart) h (going_hart left hart) Mode.Kernel interrupt cause tval → KernelTurn s r q h hart next
-  -- it leaves for user mode, and executes nothing
-  Demotes : (gpa : ℕ) → next ≡ demote q h hart gpa → KernelTurn s r q h hart next
-  Executes : (left : Bool) (w : ℕ) → IsMeasuredWord s r hart w → next ≡ carry_out_word (after_going left q h hart) h (going_hart left hart) w →
-      KernelTurn s r q h hart next
+  Interrupts : (interrupt : Interrupt) → deliverable hart.mode hart.supervisor (lines_at q.devices h) ≡ Some interrupt →
+      next ≡ trap_from q h hart Mode.Kernel true (interrupt_number interrupt) 0 → KernelTurn s r q h hart next
+  -- the fetch faults
+  Traps : (left : Bool) (cause : Cause) → Fetches q h hart left → fetch_of q hart ≡ NoWord cause →
+      next ≡ trap_from (after_going left q h hart) h (going_hart left hart) Mode.Kernel false (cause_number cause) hart.pc → KernelTurn s r q h hart next
+  -- it leaves for user mode, and executes nothing: its pc leads into a page that isn't approved,
+  Demotes : (left : Bool) (gpa : ℕ) → Fetches q h hart left → place_of_pc q hart ≡ At gpa → in_ram q.ram gpa instruction_size ≡ true →
+      is_approved_in q.approved (page_of gpa) ≡ false → next ≡ demote q h hart gpa → KernelTurn s r q h hart next
+  -- or it stands at its entry's address, and its pc leads elsewhere than into the page that the entry is bound to, which is approved
+  DemotesAtEntry : (entry : Binding) → deliverable hart.mode hart.supervisor (lines_at q.devices h) ≡ None → bound_entry q.rules hart.entry ≡ Some entry →
+      hart.pc ≡ entry.va → leads_into q (page_of entry.gpa) (place_of_pc q hart) ≡ false →
+      next ≡ demote q h hart (noted_gpa q.ram (place_of_pc q hart)) → KernelTurn s r q h hart next
+  Executes : (left : Bool) (w : ℕ) → Fetches q h hart left → IsMeasuredWord s r hart w →
+      next ≡ carry_out_word (after_going left q h hart) h (going_hart left hart) w → KernelTurn s r q h hart next
 
 abbrev pub KernelWordsLaw : Type 0
-KernelWordsLaw = (s : State) (events : List Event) (h : ℕ) (hart : Hart) → IsStart s → (run s events).journal.verdict ≡ Verdict.Running →
-    slice_get (run s events).harts h ≡ Some hart → in_kernel hart ≡ true →
-    KernelTurn s (run s events) (count (run s events) count_turn) h hart (step (run s events) (Event.Turn h))
+KernelWordsLaw = (s r : State) (h : ℕ) (hart : Hart) → IsSound r → HasOrigins s r → r.journal.verdict ≡ Verdict.Running →
+    slice_get r.harts h ≡ Some hart → in_kernel hart ≡ true → KernelTurn s r (count r count_turn) h hart (step r (Event.Turn h))
+
+-- ---- user mode
+
+-- the word at the hart's pc lies in RAM, in a page that isn't approved
+pub record IsFreeWord (q : State) (hart : Hart) (w : ℕ) : Type 0 where
+  pub gpa : ℕ
+  pub place : place_of_pc q hart ≡ At gpa
+  pub inside : in_ram q.ram gpa instruction_size ≡ true
+  pub unapproved : is_approved_in q.approved (page_of gpa) ≡ false
+  pub word : w ≡ word q.ram (ram_place gpa) instruction_size
+
+pub data UserTurn (q : State) (h : ℕ) (hart : Hart) (next : State) : Type 0 where
+  Interrupted : (interrupt : Interrupt) → deliverable hart.mode hart.supervisor (lines_at q.devices h) ≡ Some interrupt →
+      next ≡ trap_from q h hart Mode.User true (interrupt_number interrupt) 0 → UserTurn q h hart next
+  -- the fetch faults
+  Faults : (cause : Cause) → Fetches q h hart false → fetch_of q hart ≡ NoWord cause →
+      next ≡ trap_from q h hart Mode.User false (cause_number cause) hart.pc → UserTurn q h hart next
+  Carries : (w : ℕ) → Fetches q h hart false → fetch_of q hart ≡ Word w → IsFreeWord q hart w → next ≡ carry_out_word q h hart w → UserTurn q h hart next
+
+-- a hart in user mode has no load under way. Its turn is one of these, and where the table of traps says so, it is that trap
+pub record UserTurnsLaw : Type 0 where
+  pub free : (s r : State) (h : ℕ) (hart : Hart) → IsReached s r → slice_get r.harts h ≡ Some hart → hart.mode ≡ Mode.User → IsNotLoading h r.loading
+  pub turns : (r : State) (h : ℕ) (hart : Hart) → IsSound r → HasTurn r h hart → hart.mode ≡ Mode.User →
+      UserTurn (count r count_turn) h hart (step r (Event.Turn h))
+  pub traps : (r : State) (h : ℕ) (hart : Hart) (t : UserTrap) → IsSound r → HasTurn r h hart → hart.mode ≡ Mode.User →
+      user_trap (count r count_turn) h hart ≡ Some t → step r (Event.Turn h) ≡ trap_from (count r count_turn) h hart Mode.User t.interrupt t.cause t.tval
+
+-- ---- into kernel mode and out of it
 
 -- how a hart comes to kernel mode, and below how it leaves it
 pub data Enters (r : State) (e : Event) (h : ℕ) (before after : Hart) : Type 0 where
-  ByTrap : (interrupt : Bool) (cause tval : ℕ) → e ≡ Event.Turn h → before.mode ≡ Mode.User →
-      after ≡ hart_at_trap r.rules before Mode.User interrupt cause tval → Enters r e h before after
+  ByTrap : (k : TrapsIn r h) → e ≡ Event.Turn h → k.hart ≡ before → before.mode ≡ Mode.User →
+      after ≡ hart_at_trap r.rules before Mode.User k.interrupt k.cause k.tval → Enters r e h before after
   -- another hart starts it
   ByStart : (opaque : ℕ) → before.started ≡ false → after ≡ started_hart h after.pc opaque → Enters r e h before after
 
+-- what follows such a trap where entries are bound says `EntryLaw`
 abbrev pub EntriesLaw : Type 0
-EntriesLaw = (s : State) (events : List Event) (e : Event) (h : ℕ) (before after : Hart) → IsStart s →
-    slice_get (run s events).harts h ≡ Some before → slice_get (step (run s events) e).harts h ≡ Some after →
-    in_kernel before ≡ false → in_kernel after ≡ true →
-    Enters (run s events) e h before after × (has_number (run s events).rules.entries after.pc ≡ true)
+EntriesLaw = (s r : State) (e : Event) (h : ℕ) (before after : Hart) → IsReached s r →
+    slice_get r.harts h ≡ Some before → slice_get (step r e).harts h ≡ Some after → in_kernel before ≡ false → in_kernel after ≡ true →
+    Enters r e h before after × (has_number r.rules.entries after.pc ≡ true)
 
 pub data Leaves (r next : State) (h : ℕ) (before after : Hart) : Type 0 where
   ByReturn : (w : ℕ) → fetch_of r before ≡ Word w → effect_of_word w before ≡ Some Effect.Sret →
@@ -73,9 +140,9 @@ pub data Leaves (r next : State) (h : ℕ) (before after : Hart) : Type 0 where
   ByStop : after.started ≡ false → Leaves r next h before after
 
 abbrev pub ExitsLaw : Type 0
-ExitsLaw = (s : State) (events : List Event) (e : Event) (h : ℕ) (before after : Hart) → IsStart s →
-    slice_get (run s events).harts h ≡ Some before → slice_get (step (run s events) e).harts h ≡ Some after →
-    in_kernel before ≡ true → in_kernel after ≡ false → Leaves (run s events) (step (run s events) e) h before after × (e ≡ Event.Turn h)
+ExitsLaw = (r : State) (e : Event) (h : ℕ) (before after : Hart) → IsSound r →
+    slice_get r.harts h ≡ Some before → slice_get (step r e).harts h ≡ Some after → in_kernel before ≡ true → in_kernel after ≡ false →
+    Leaves r (step r e) h before after × (e ≡ Event.Turn h)
 
 -- where in memory a move goes
 abbrev pub move_gpa : VirtioMove → ℕ
@@ -107,7 +174,7 @@ pub record KeepsPages (r : State) (e : Event) : Type 0 where
       ((step r Event.Beat).ram ≡ r.ram) × ((step r Event.Beat).harts ≡ r.harts)
 
 abbrev pub ProtectedBytesLaw : Type 0
-ProtectedBytesLaw = (s : State) (events : List Event) (e : Event) → IsStart s → KeepsPages (run s events) e
+ProtectedBytesLaw = (r : State) (e : Event) → IsSound r → KeepsPages r e
 
 -- a word writes into a protected page
 pub record WritesGuarded (r : State) (hart : Hart) (w gpa : ℕ) : Type 0 where
@@ -118,27 +185,40 @@ pub record WritesGuarded (r : State) (hart : Hart) (w gpa : ℕ) : Type 0 where
   pub writes : Writes effect address width
   pub leads : target_of r hart address width ≡ Guarded gpa
 
--- nothing changes but the count of turns and the verdict, which names the hart, the turn, and the target or the pc and the address
-pub data Stops (q : State) (h : ℕ) (hart : Hart) (next : State) : Type 0 where
-  AtEntry : (interrupt : Bool) (cause : ℕ) → hart.mode ≡ Mode.User →
-      has_number q.rules.entries (trap_target hart.supervisor.stvec interrupt cause) ≡ false →
-      next ≡ stopped_by q h (Rule.Entry (trap_target hart.supervisor.stvec interrupt cause)) → Stops q h hart next
-  AtWrite : (left : Bool) (w gpa : ℕ) → fetch_of q hart ≡ Word w → WritesGuarded q hart w gpa →
-      next ≡ stopped_by (after_going left q h hart) h (Rule.Write hart.pc gpa) → Stops q h hart next
+-- its turn carries out a word
+pub record CarriesOut (r : State) (h : ℕ) (hart : Hart) (w : ℕ) : Type 0 where
+  pub turn : HasTurn r h hart
+  pub left : Bool
+  pub fetches : Fetches (count r count_turn) h hart left
+  pub fetched : fetch_of (count r count_turn) hart ≡ Word w
+
+-- nothing changes but the count of turns, an entry that is left, and the verdict, which names the hart, the turn, and the target or
+-- the pc and the address
+pub data Stops (r : State) (h : ℕ) (hart : Hart) (next : State) : Type 0 where
+  AtEntry : (t : UserTrap) → HasTurn r h hart → hart.mode ≡ Mode.User → user_trap (count r count_turn) h hart ≡ Some t →
+      has_number r.rules.entries (trap_target hart.supervisor.stvec t.interrupt t.cause) ≡ false →
+      next ≡ stopped_by (count r count_turn) h (Rule.Entry (trap_target hart.supervisor.stvec t.interrupt t.cause)) → Stops r h hart next
+  AtWrite : (w gpa : ℕ) (k : CarriesOut r h hart w) → WritesGuarded (count r count_turn) hart w gpa →
+      next ≡ stopped_by (after_going k.left (count r count_turn) h hart) h (Rule.Write hart.pc gpa) → Stops r h hart next
 
 pub record StopsRight (r : State) (e : Event) (h : ℕ) : Type 0 where
   pub hart : Hart
-  pub found : slice_get r.harts h ≡ Some hart
   pub turn : e ≡ Event.Turn h
-  pub stops : Stops (count r count_turn) h hart (step r e)
+  pub stops : Stops r h hart (step r e)
 
--- every trap from user mode to another target stops, and every word that writes into a protected page
+-- its turn stops the machine; but for the count of turns and an entry that it left nothing else is changed
+pub record StopsBy (r : State) (h : ℕ) (hart : Hart) (left : Bool) (rule : Rule) : Type 0 where
+  pub same : step r (Event.Turn h) ≡ stopped_by (after_going left (count r count_turn) h hart) h rule
+  pub verdict : (step r (Event.Turn h)).journal.verdict ≡ Verdict.Stopped rule h (r.journal.counts.turns + 1)
+
+-- the machine stops for these two alone; and it does stop at every trap from user mode to another target, and at every word that is
+-- carried out and writes into a protected page
 pub record StopsLaw : Type 0 where
-  pub only : (s : State) (events : List Event) (e : Event) (rule : Rule) (h at : ℕ) → IsStart s →
-      (run s events).journal.verdict ≡ Verdict.Running →
-      (step (run s events) e).journal.verdict ≡ Verdict.Stopped rule h at → StopsRight (run s events) e h
-  pub traps : (q : State) (h : ℕ) (hart : Hart) (interrupt : Bool) (cause tval : ℕ) →
-      has_number q.rules.entries (trap_target hart.supervisor.stvec interrupt cause) ≡ false →
-      trap_from q h hart Mode.User interrupt cause tval ≡ stopped_by q h (Rule.Entry (trap_target hart.supervisor.stvec interrupt cause))
-  pub writes : (q : State) (h : ℕ) (hart : Hart) (w gpa : ℕ) → WritesGuarded q hart w gpa →
-      carry_out_word q h hart w ≡ stopped_by q h (Rule.Write hart.pc gpa)
+  pub only : (r : State) (e : Event) (rule : Rule) (h at : ℕ) → IsSound r → r.journal.verdict ≡ Verdict.Running →
+      (step r e).journal.verdict ≡ Verdict.Stopped rule h at → StopsRight r e h
+  pub traps : (r : State) (h : ℕ) (hart : Hart) (t : UserTrap) → IsSound r → HasTurn r h hart → hart.mode ≡ Mode.User →
+      user_trap (count r count_turn) h hart ≡ Some t →
+      has_number r.rules.entries (trap_target hart.supervisor.stvec t.interrupt t.cause) ≡ false →
+      StopsBy r h hart false (Rule.Entry (trap_target hart.supervisor.stvec t.interrupt t.cause))
+  pub writes : (r : State) (h : ℕ) (hart : Hart) (w gpa : ℕ) → (k : CarriesOut r h hart w) → WritesGuarded (count r count_turn) hart w gpa →
+      StopsBy r h hart k.left (Rule.Write hart.pc gpa)

@@ -1,1 +1,3 @@
+pub mod UserTraps
+pub mod Reached
 pub mod Guarantee

@@ -1,13 +1,26 @@
-//! The guarantee: what a guest can't do, in each state that a run reaches from a start, at any next event.
+//! The guarantee: what a guest can't do, in each state that a run reaches, from a start or from a snapshot, at any next event.
 #![tactic(auto)]
 
-ghost use Rattle.guarantee.specs.Guarantee.{EntriesLaw, ExitsLaw, KernelWordsLaw, ProtectedBytesLaw, StopsLaw};
+ghost use Rattle.guarantee.specs.Guarantee.{EntriesLaw, ExitsLaw, KernelWordsLaw, ProtectedBytesLaw, StopsLaw, UserTurnsLaw};
+ghost use Rattle.guarantee.specs.Reached.{ReachedLaw};
 
 pub use run_laws::law_sound;
+
+/// Each state that a run reaches, from a start or from a snapshot that isn't refused, is sound and has its origins: what the
+/// laws below ask.
+pub fn law_reached()
+    ensures { ReachedLaw }
+{}
 
 /// In kernel mode no word is executed but those that were measured.
 pub fn law_kernel_words()
     ensures { KernelWordsLaw }
+{}
+
+/// A turn in user mode is an interrupt, a fetch that faults, or carries out a word from a page that isn't approved; and where
+/// the table of traps says so, it is that trap.
+pub fn law_user_turns()
+    ensures { UserTurnsLaw }
 {}
 
 /// A hart comes to kernel mode only by its own trap from user mode or by its start, and it begins at a permitted entry.
@@ -25,8 +38,8 @@ pub fn law_protected_bytes()
     ensures { ProtectedBytesLaw }
 {}
 
-/// The machine stops exactly where a trap from user mode leads elsewhere than to a permitted entry, or a word writes into a
-/// protected page. Then the verdict says where, and nothing else is changed.
+/// The machine stops exactly where a trap from user mode leads elsewhere than to a permitted entry, or a word that is carried
+/// out writes into a protected page. Then the verdict says where, and nothing else is changed.
 pub fn law_stops()
     ensures { StopsLaw }
 {}

@@ -33,10 +33,10 @@ use Rattle.attempt_laws.proofs.AttemptsAgree.{turn_is, get_back}
 use Rattle.attempt_laws.proofs.Everywhere.{Keeps, first_stage_keeps}
 use Rattle.run_laws.specs.EntryLaws.{IsAtEntry, Demotes, ReadsBound, DemotesOrReads, AtEntryLaw, IsNoTurnOf, AreNoTurnsOf, StandsAtEntry, EntryLaw}
 use Rattle.run_laws.proofs.OthersRest.{IsWaiting, get_behind, turn_rests}
-use Rattle.run_laws.proofs.StateLawsHold.{reached_sound, modules_law}
+use Rattle.run_laws.proofs.Sounds.{Goes}
+use Rattle.run_laws.proofs.StepsSound.{run_goes}
 use Rattle.sv_types.proofs.PolicyLimits.{first_bound, bound_rules}
 use Rattle.processor_laws.proofs.Decoding.{mask_none}
-use Rattle.reference.proofs.Runs.{run_on}
 
 -- ---- what a policy says of a bound entry
 
@@ -213,7 +213,7 @@ step_at_entry r h hart entry s at on quiet =
     (turn_at_entry (count r count_turn) h hart entry (counted_sound r s) (counted_at r h hart entry at) quiet)
 
 pub at_entry_law : AtEntryLaw
-at_entry_law s events h hart entry is_start at on quiet = step_at_entry (run s events) h hart entry (reached_sound s events is_start) at on quiet
+at_entry_law r h hart entry sound at on quiet = step_at_entry r h hart entry sound at on quiet
 
 -- ---- until the next turn
 
@@ -319,7 +319,7 @@ binding_is rules i x e = e
 -- what waits at its entry stands there
 stands : (q : State) (h : ℕ) (was : Rules) (hart : Hart) (interrupt : Bool) (cause tval : ℕ) → IsSound q → q.rules ≡ was → q.rules.format ≡ 2
     → has_number q.rules.entries (trap_target hart.supervisor.stvec interrupt cause) ≡ true
-    → IsWaiting h (hart_in_handler was hart interrupt cause tval) q → StandsAtEntry q h
+    → IsWaiting h (hart_in_handler was hart interrupt cause tval) q → StandsAtEntry q h (trap_target hart.supervisor.stvec interrupt cause)
 stands q h was hart interrupt cause tval s rules two permitted w =
     let target : ℕ = trap_target hart.supervisor.stvec interrupt cause in
     let k = placed q.rules.ram_pages [] q.rules.entries q.rules.bound target (two_binds q.rules s.within two) permitted in
@@ -340,24 +340,19 @@ stands q h was hart interrupt cause tval s rules two permitted w =
     record {
       hart = w.hart;
       entry = entry;
+      its = refl;
       at = at;
       masked = masked;
       next = λ on. step_at_entry q h w.hart entry s at on (none_delivered w.hart.mode q h w.hart mode masked);
     }
 
 pub entry_law : EntryLaw
-entry_law s before between h is_start two enters others =
-    let r : State = run s before in
+entry_law r between h sound two enters others =
     let q : State = run (step r (Turn h)) between in
-    let all : List Event = before ++ (Turn h ∷ between) in
-    let reached : run s all ≡ q = run_on s before (Turn h ∷ between) in
-    let sound : IsSound q = subst IsSound reached (reached_sound s all is_start) in
-    let rules : q.rules ≡ s.rules = subst (λ (x : State). x.rules ≡ s.rules) reached (modules_law s all is_start).rules in
-    let was : r.rules ≡ s.rules = (modules_law s before is_start).rules in
-    let same : q.rules ≡ r.rules = rules ∙ sym was in
+    let goes : Goes r q = run_goes r (Turn h ∷ between) sound in
     let entered_now : IsWaiting h (hart_in_handler r.rules enters.hart enters.interrupt enters.cause enters.tval) (step r (Turn h)) =
     subst (IsWaiting h (hart_in_handler r.rules enters.hart enters.interrupt enters.cause enters.tval)) (sym enters.same)
     (enters_at (count r count_turn) h enters.hart enters.interrupt enters.cause enters.tval true enters.permitted refl enters.found enters.started enters.free) in
-    stands q h r.rules enters.hart enters.interrupt enters.cause enters.tval sound same (ap (λ (x : Rules). x.format) rules ∙ two)
-    (subst (λ (x : Rules). has_number x.entries (trap_target enters.hart.supervisor.stvec enters.interrupt enters.cause) ≡ true) (sym same) enters.permitted)
+    stands q h r.rules enters.hart enters.interrupt enters.cause enters.tval goes.sound goes.text.rules (ap (λ (x : Rules). x.format) goes.text.rules ∙ two)
+    (subst (λ (x : Rules). has_number x.entries (trap_target enters.hart.supervisor.stvec enters.interrupt enters.cause) ≡ true) (sym goes.text.rules) enters.permitted)
     (run_waits h (hart_in_handler r.rules enters.hart enters.interrupt enters.cause enters.tval) (step r (Turn h)) between others entered_now)

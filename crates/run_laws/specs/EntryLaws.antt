@@ -1,4 +1,5 @@
--- What follows an entry from user mode where the policy binds entries, in each state that a run reaches. This project's own.
+-- What follows an entry from user mode where the policy binds entries, in any sound state, as each is that a run reaches. This
+-- project's own.
 use Rattle.std.specs.Prelude.{◌≡◌, ℕ, ◌⊎◌, Bool, true, false, List, [], ◌∷◌, ◌==◌, Some, None, slice_get}
 use Rattle.sv_types.specs.ApprovedPages.{approved_bytes}
 use Rattle.processor.specs.Bits.{bit}
@@ -12,7 +13,7 @@ use Rattle.processor.specs.declared.mode.Mode.TheVariants.{Kernel, User}
 use Rattle.reference.specs.Counting.{count, count_turn}
 use Rattle.reference.specs.Devices.{lines_at}
 use Rattle.reference.specs.Run.{run, step}
-use Rattle.reference.specs.Start.{IsStart}
+use Rattle.reference.specs.Soundness.{IsSound}
 use Rattle.reference.specs.States.{State, Hart, Binding, binding_at, has_number}
 use Rattle.reference.specs.Trapping.{trap_from}
 use Rattle.reference.specs.Turn.{demote, carry_out_word, place_of_pc}
@@ -51,14 +52,13 @@ DemotesOrReads r h hart entry =
 
 -- without an interrupt its turn is one of the two, so no other word is ever carried out there
 abbrev pub AtEntryLaw : Type 0
-AtEntryLaw = (s : State) (events : List Event) (h : ℕ) (hart : Hart) (entry : Binding) → IsStart s → IsAtEntry (run s events) h hart entry
-    → (run s events).journal.verdict ≡ Running → deliverable hart.mode hart.supervisor (lines_at (run s events).devices h) ≡ None
-    → DemotesOrReads (run s events) h hart entry
+AtEntryLaw = (r : State) (h : ℕ) (hart : Hart) (entry : Binding) → IsSound r → IsAtEntry r h hart entry → r.journal.verdict ≡ Running
+    → deliverable hart.mode hart.supervisor (lines_at r.devices h) ≡ None → DemotesOrReads r h hart entry
 
 -- ---- from an entry to the hart's next turn
 
 -- the hart's turn is a trap from user mode, at a permitted address
-pub record Enters (r : State) (h : ℕ) : Type 0 where
+pub record TrapsIn (r : State) (h : ℕ) : Type 0 where
   pub hart : Hart
   pub found : slice_get r.harts h ≡ Some hart
   pub started : hart.started ≡ true
@@ -79,15 +79,16 @@ abbrev pub AreNoTurnsOf : ℕ → List Event → Type 0
 AreNoTurnsOf h [] = Unit {0}
 AreNoTurnsOf h (event ∷ events) = IsNoTurnOf h event × AreNoTurnsOf h events
 
--- whatever happens in between, the hart stands at its entry's address with its interrupts off, and its next turn demotes it
--- or reads the word that the entry is bound to
-pub record StandsAtEntry (r : State) (h : ℕ) : Type 0 where
+-- whatever happens in between, the hart stands at its entry's address, which is the trap's target, with its interrupts off, and its
+-- next turn demotes it or reads the word that the entry is bound to
+pub record StandsAtEntry (r : State) (h target : ℕ) : Type 0 where
   pub hart : Hart
   pub entry : Binding
+  pub its : entry.va ≡ target
   pub at : IsAtEntry r h hart entry
   pub masked : bit hart.supervisor.sstatus sie_place ≡ false
   pub next : r.journal.verdict ≡ Running → DemotesOrReads r h hart entry
 
 abbrev pub EntryLaw : Type 0
-EntryLaw = (s : State) (before between : List Event) (h : ℕ) → IsStart s → s.rules.format ≡ bound_format → Enters (run s before) h → AreNoTurnsOf h between
-    → StandsAtEntry (run (step (run s before) (Turn h)) between) h
+EntryLaw = (r : State) (between : List Event) (h : ℕ) → IsSound r → r.rules.format ≡ bound_format → (k : TrapsIn r h) → AreNoTurnsOf h between
+    → StandsAtEntry (run (step r (Turn h)) between) h (trap_target k.hart.supervisor.stvec k.interrupt k.cause)

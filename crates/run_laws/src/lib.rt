@@ -21,14 +21,14 @@ pub fn law_grows()
     ensures { GrowsLaw }
 {}
 
-/// In each such state, a hart at its entry's address that takes no interrupt is demoted, or carries out the word at the
+/// In any sound state, a hart at its entry's address that takes no interrupt is demoted, or carries out the word at the
 /// address that the entry is bound to. No other word is ever carried out there.
 pub fn law_at_entry()
     ensures { AtEntryLaw }
 {}
 
-/// After an entry from user mode, whatever other harts and devices do, the hart stands at its entry's address with its
-/// interrupts off until its next turn, which is one of those two.
+/// After an entry from user mode, whatever other harts and devices do, the hart stands at the trap's target, which is its
+/// entry's address, with its interrupts off until its next turn, which is one of those two.
 pub fn law_entry()
     ensures { EntryLaw }
 {}

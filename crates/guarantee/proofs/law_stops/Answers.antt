@@ -1,4 +1,4 @@
-use Rattle.guarantee.proofs.LawsHold.{stops_law}
+use Rattle.guarantee.proofs.StopsHold.{stops_law}
 use Rattle.guarantee.proofs.law_stops.Goals as goal
 
 pub returns : goal.returns

@@ -1,0 +1,39 @@
+-- Each state that a run of the program comes through is reached.
+use Rattle.std.proofs.Common.{◌≡◌, ℕ, inl, inr, List, true, sym, subst}
+use Rattle.processor.specs.Bytes.{page_bytes}
+use Rattle.sv_types.specs.declared.event.Event.{Event}
+use Rattle.reference.specs.Origins.{is_kernel_text, ownership}
+use Rattle.reference.specs.Run.{run}
+use Rattle.reference.specs.States.{State}
+use Rattle.run_laws.specs.StateLaws.{HasOrigin}
+use Rattle.run_laws.proofs.Lookups.{both}
+use Rattle.command_plans.specs.Plans.{plan_of}
+use Rattle.command_plans.specs.Reading.{Follows}
+use Rattle.guarantee.specs.Reached.{IsReached}
+use Rattle.guarantee.proofs.ReachedHolds.{reached_law}
+use Rattle.program_laws.specs.GuaranteedLaw.{GuaranteedLaw}
+use Rattle.program_laws.specs.ResumeLaw.{IsResumedStart}
+use Rattle.program_laws.proofs.PlansRun.{program_law}
+use Rattle.program_laws.proofs.ResumesRun.{resume_law}
+use Rattle.program_laws.proofs.TextMeasured.{measured_law}
+
+resumed_reached : (s : State) (events : List Event) → IsResumedStart s → IsReached s (run s events)
+resumed_reached s events k = subst (λ (x : State). IsReached x (run x events)) (sym k.same)
+    (reached_law.resumes k.rules k.contents events k.within k.words k.spelled k.accepted)
+
+text_by : (s r : State) (page : ℕ) → IsReached s r → is_kernel_text (ownership r) page ≡ true → HasOrigin s r page → page_bytes r.ram page ≡ page_bytes s.ram page
+text_by s r page reached e (inl text) = reached.sound.text.same page (page_bytes s.ram page) text.bytes
+text_by s r page reached e (inr of) =
+    absurd (both (is_kernel_text (ownership r) page) e (reached.origins.text_and_module of.0 page of.1.its_page))
+
+pub guaranteed_law : GuaranteedLaw
+guaranteed_law = record {
+  runs = λ asked old read start events save f done.
+      reached_law.starts start done (measured_law.starts start (program_law asked old read start events save f));
+  headline = λ asked old new answer start events save k is done.
+      reached_law.starts start done (measured_law.starts start (program_law asked old.files k.read start events save
+      (subst (Follows (plan_of asked) old.files k.read) is k.follows)));
+  resumes = λ asked old read start events save holds f done.
+      resumed_reached start done (resume_law.begins asked old read start events save holds f);
+  text = λ s r page reached e. text_by s r page reached e (reached.origins.origin page (reached.sound.pages.text page e));
+}

@@ -1,0 +1,6 @@
+pub mod PolicyWords
+pub mod PlanWalks
+pub mod PlansRun
+pub mod TextMeasured
+pub mod ResumesRun
+pub mod Guaranteed

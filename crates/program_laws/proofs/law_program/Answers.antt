@@ -1,0 +1,5 @@
+use Rattle.program_laws.proofs.PlansRun.{program_law}
+use Rattle.program_laws.proofs.law_program.Goals as goal
+
+pub returns : goal.returns
+returns c = program_law

@@ -1,0 +1,3 @@
+pub mod ProgramLaw
+pub mod ResumeLaw
+pub mod GuaranteedLaw
