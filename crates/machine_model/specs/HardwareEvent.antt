@@ -7,7 +7,7 @@ use Rattle.processor.specs.HardwareAttempt.{attempt}
 use Rattle.processor.specs.HypervisorRegisters.{HypervisorRegisters, virtual_software_bit}
 use Rattle.sv_types.specs.declared.event.Counts.{Counts}
 use Rattle.sv_types.specs.declared.event.Event.{Event}
-use Rattle.sv_types.specs.declared.event.Event.TheVariants.{Turn, Beat, Key, Tick}
+use Rattle.sv_types.specs.declared.event.Event.TheVariants.{Turn, Beat, Key, Tick, Poke}
 use Rattle.processor.specs.declared.outcome.Outcome.{Outcome}
 use Rattle.sv_types.specs.declared.protection.Protection.{Protection}
 use Rattle.sv_types.specs.declared.event.Note.{Note}
@@ -182,7 +182,7 @@ TurnOf m h (Some hart) after = HartTurn hart.started m h hart after
 
 -- ---- other events
 
--- what a beat writes: bytes at a guest-physical address, all in one page, which its bit permits
+-- what a device writes: bytes at a guest-physical address, all in one page, which its bit permits
 pub record Written : Type 0 where
   pub gpa : ℕ
   pub bytes : List ℕ
@@ -211,6 +211,13 @@ pub record OnlyDisk (before after : Machine) : Type 0 where
   pub permitted : IsPermitted before bytes
   pub same : after ≡ with_records (record (with_bytes_at before bytes) { devices = record before.devices { disk = disk } }) new
 
+-- bytes that a device may write with the reservations that they touch, counts and notes
+pub record OnlyBytes (before after : Machine) : Type 0 where
+  pub bytes : Option Written
+  pub new : Recorded
+  pub permitted : IsPermitted before bytes
+  pub same : after ≡ with_records (with_bytes_at before bytes) new
+
 -- the console's input and counts
 pub record OnlyConsole (before after : Machine) : Type 0 where
   pub console : List ℕ
@@ -230,6 +237,7 @@ Happens m (Turn h) after = TurnOf m h (slice_get m.harts h) after
 Happens m Beat after = OnlyDisk m after
 Happens m (Key byte) after = OnlyConsole m after
 Happens m (Tick n) after = OnlyTime m after
+Happens m (Poke gpa value) after = OnlyBytes m after
 
 abbrev pub HappensUnder : Verdict → Machine → Event → Machine → Type 0
 HappensUnder Running m e after = Happens m e after

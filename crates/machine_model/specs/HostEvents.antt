@@ -1,13 +1,14 @@
--- Beats, keys and time, as functions of the machine. This project's own: a beat asks the devices' bits of pages.
+-- Beats, pokes, keys and time, as functions of the machine. This project's own: beats and pokes ask the devices' bits of pages.
 use Rattle.std.specs.Prelude.{ℕ, ◌+◌, map, length, if◌then◌else◌}
 use Rattle.processor.specs.Bytes.{overwrite, ram_place}
 use Rattle.sv_types.specs.Clock.{after_tick}
 use Rattle.sv_types.specs.Console.{after_key, has_room}
 use Rattle.sv_types.specs.declared.event.Event.{Event}
-use Rattle.sv_types.specs.declared.event.Event.TheVariants.{Turn, Beat, Key, Tick}
+use Rattle.sv_types.specs.declared.event.Event.TheVariants.{Turn, Beat, Key, Tick, Poke}
 use Rattle.sv_types.specs.declared.event.Note.TheVariants.{Denied}
 use Rattle.reference.specs.States.{Disk}
 use Rattle.reference.specs.Counting.{with_count, with_note, count_denied, count_dropped, count_beat, count_key, count_tick}
+use Rattle.reference.specs.Attacker.{poke_move}
 use Rattle.reference.specs.Disk.{disk_beat, is_writable, Beaten}
 use Rattle.reference.specs.Move.{Move, Idle, FromRam, IntoRam, DeniedAt, OutsideRam}
 use Rattle.machine_model.specs.Machine.{Machine, forgets, with_count_raised}
@@ -33,6 +34,11 @@ after_host_beaten m b = after_host_move (with_host_disk m b.disk) b.move
 unfoldable pub beat_served : Machine → Machine
 beat_served m = after_host_beaten m (disk_beat m.devices.disk m.region.ram (is_writable m.dma))
 
+-- ---- a write of an attacker's device
+
+unfoldable pub poke_served : Machine → (gpa value : ℕ) → Machine
+poke_served m gpa value = after_host_move m (poke_move m.region.ram (is_writable m.dma) gpa value)
+
 -- ---- keys and time
 
 unfoldable pub key_served : Machine → ℕ → Machine
@@ -50,3 +56,4 @@ event_served m (Turn h) = m
 event_served m Beat = beat_served (with_count_raised m count_beat)
 event_served m (Key byte) = key_served (with_count_raised m count_key) byte
 event_served m (Tick n) = tick_served (with_count_raised m count_tick) n
+event_served m (Poke gpa value) = poke_served (with_count_raised m count_beat) gpa value

@@ -3,7 +3,7 @@
 use Rattle.std.specs.Prelude.{◌≡◌, ℕ, Bool, List, length, true, false, Option, Some, None, slice_get}
 use Rattle.sv_types.specs.Views.{AreViews}
 use Rattle.sv_types.specs.declared.event.Event.{Event}
-use Rattle.sv_types.specs.declared.event.Event.TheVariants.{Turn, Beat, Key, Tick}
+use Rattle.sv_types.specs.declared.event.Event.TheVariants.{Turn, Beat, Key, Tick, Poke}
 use Rattle.sv_types.specs.declared.event.Verdict.{Verdict}
 use Rattle.sv_types.specs.declared.event.Verdict.TheVariants.{Running, Shutdown, Stopped}
 use Rattle.processor.specs.declared.outcome.Outcome.{Outcome}
@@ -68,6 +68,7 @@ Steps m (Turn h) after = IsTurn m h after
 Steps m Beat after = after ≡ event_served m Beat
 Steps m (Key byte) after = after ≡ event_served m (Key byte)
 Steps m (Tick n) after = after ≡ event_served m (Tick n)
+Steps m (Poke gpa value) after = after ≡ event_served m (Poke gpa value)
 
 -- a machine that has ended stays as it is
 abbrev pub StepsUnder : Verdict → Machine → Event → Machine → Type 0

@@ -6,7 +6,7 @@ use Rattle.std.specs.Str.{bytes_eq}
 use Rattle.toml.specs.Data.{Data, Items, no_items, item, Members, no_members, member, get_member, as_integer, as_str, as_array, as_table}
 use Rattle.sv_types.specs.Numbers.{digest_of}
 use Rattle.sv_types.specs.Policies.{entry_within}
-use Rattle.text_numbers.specs.Addresses as addresses
+use Rattle.sv_types.specs.Addresses as addresses
 use Rattle.sv_types.specs.Steps.{◌>>=◌}
 use Rattle.policy.specs.Refusals.{Judged}
 use Rattle.policy_limits.specs.declared.policy_fault.PolicyFault.{PolicyFault}

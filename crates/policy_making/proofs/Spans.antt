@@ -4,7 +4,7 @@ use Rattle.std.specs.List.{position_or_len, before_first, after_first}
 use Rattle.std.proofs.lemmas.List.{drop_all}
 use Rattle.sv_types.specs.Numbers.{number_within}
 use Rattle.sv_types.specs.declared.module.Span.{Span}
-use Rattle.text_numbers.specs.Addresses.{address_of}
+use Rattle.sv_types.specs.Addresses.{address_of}
 use Rattle.policy_making.specs.WordRanges.{colon, span_of_numbers, span_of_two, span_of}
 
 no_count : (ram_pages : ℕ) → number_within 1 ram_pages [] ≡ None

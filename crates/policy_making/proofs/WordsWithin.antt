@@ -9,7 +9,7 @@ use Rattle.processor.specs.Bytes.{ram_base, page_size}
 use Rattle.sv_types.specs.Numbers.{number_within}
 use Rattle.sv_types.specs.Policies.{each_within, entry_within, entries_count_within, entries_within, span_within}
 use Rattle.sv_types.specs.declared.module.Span.{Span}
-use Rattle.text_numbers.specs.Addresses.{address_of}
+use Rattle.sv_types.specs.Addresses.{address_of}
 use Rattle.policy_making.specs.WordRanges.{parts, is_entry, are_entries, address_or_zero, entries_of, span_from, colon, span_of_numbers, span_of_two, span_of}
 
 -- ---- entries

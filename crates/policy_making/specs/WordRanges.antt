@@ -7,7 +7,7 @@ use Rattle.sv_types.specs.Numbers.{number_within}
 use Rattle.processor.specs.Bytes.{page_size, ram_base, page_of}
 use Rattle.sv_types.specs.Policies.{each_within, entries_count_within, entry_within, modules_count_within, span_within}
 use Rattle.sv_types.specs.declared.module.Span.{Span}
-use Rattle.text_numbers.specs.Addresses.{address_of}
+use Rattle.sv_types.specs.Addresses.{address_of}
 use Rattle.sv_types.specs.Names.{name_within}
 
 -- ---- permitted entries

@@ -11,8 +11,8 @@ use Rattle.std.specs.Char.{is_ascii_hexdigit, digit_value}
 use Rattle.std.specs.Str.Parse.{AllDigits, digits_value}
 use Rattle.toml.specs.Data.{Data, Items, no_items, item, Members, get_member}
 use Rattle.sv_types.specs.Policies.{Rules, entry_within, entries_count_within, rules_within, bound_fits}
-use Rattle.text_numbers.specs.Addresses as addresses
-use Rattle.text_numbers.specs.Addresses.{is_hexadecimal, hexadecimal_number}
+use Rattle.sv_types.specs.Addresses as addresses
+use Rattle.sv_types.specs.Addresses.{is_hexadecimal, hexadecimal_number}
 use Rattle.reference.specs.Start.{AreWords}
 use Rattle.reference.specs.States.{has_number}
 use Rattle.policy.specs.Refusals.{Judged}

@@ -11,6 +11,7 @@ use Rattle.sv_types.specs.declared.event.Note.TheVariants.{Denied}
 use Rattle.reference.specs.States.{State, Hart, Devices, Disk, Journal, is_protected}
 use Rattle.reference.specs.Counting.{with_count, with_note, printed_low, count_denied, count_dropped}
 use Rattle.reference.specs.Move.{Move, Idle, FromRam, IntoRam, DeniedAt, OutsideRam}
+use Rattle.reference.specs.Attacker.{poke_move}
 use Rattle.reference.specs.Disk.{disk_load, disk_store, disk_line, disk_beat, Beaten}
 
 -- ---- where registers lie
@@ -83,7 +84,7 @@ with_bytes r place bytes = record r {
   harts = map (hart_after_write place (length bytes)) r.harts;
 }
 
--- ---- beats, keys and time
+-- ---- beats, pokes, keys and time
 
 abbrev pub with_disk : State → Disk → State
 with_disk r disk = record r { devices = record r.devices { disk = disk } }
@@ -98,8 +99,16 @@ after_move r OutsideRam = r
 abbrev pub after_beaten : State → Beaten → State
 after_beaten r b = after_move (with_disk r b.disk) b.move
 
+-- a device may write a page that isn't protected
+abbrev pub may_move_to : State → ℕ → Bool
+may_move_to r page = not (is_protected r page)
+
 unfoldable pub beat : State → State
-beat r = after_beaten r (disk_beat r.devices.disk r.ram (λ page. not (is_protected r page)))
+beat r = after_beaten r (disk_beat r.devices.disk r.ram (λ page. may_move_to r page))
+
+-- a write of an attacker's device
+unfoldable pub poke : State → (gpa value : ℕ) → State
+poke r gpa value = after_move r (poke_move r.ram (λ page. may_move_to r page) gpa value)
 
 -- a byte of input waits, or is dropped where the queue is full
 unfoldable pub key : State → ℕ → State

@@ -11,6 +11,7 @@ pub mod VirtioQueue
 pub mod VirtioRequests
 pub mod VirtioBeats
 pub mod Disk
+pub mod Attacker
 pub mod Devices
 pub mod Trapping
 pub mod Requests

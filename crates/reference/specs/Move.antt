@@ -1,7 +1,7 @@
--- What a beat of a disk's device moves. This project's own.
+-- What a device moves: a beat of a disk's, or a write of an attacker's. This project's own.
 use Rattle.std.specs.Prelude.{ℕ, List}
 
--- what a beat moves
+-- what a beat or a write moves
 pub data Move : Type 0 where
   -- nothing, since nothing is under way
   Idle : Move

@@ -1,12 +1,12 @@
 -- Events, and whole runs: the events one after another. This project's own.
 use Rattle.std.specs.Prelude.{List, [], ◌∷◌}
 use Rattle.sv_types.specs.declared.event.Event.{Event}
-use Rattle.sv_types.specs.declared.event.Event.TheVariants.{Turn, Beat, Key, Tick}
+use Rattle.sv_types.specs.declared.event.Event.TheVariants.{Turn, Beat, Key, Tick, Poke}
 use Rattle.sv_types.specs.declared.event.Verdict.{Verdict}
 use Rattle.sv_types.specs.declared.event.Verdict.TheVariants.{Running, Shutdown, Stopped}
 use Rattle.reference.specs.States.{State}
 use Rattle.reference.specs.Counting.{count, count_turn, count_beat, count_key, count_tick}
-use Rattle.reference.specs.Devices.{beat, key, tick}
+use Rattle.reference.specs.Devices.{beat, poke, key, tick}
 use Rattle.reference.specs.Turn.{turn}
 
 -- what an event does while the machine runs
@@ -15,6 +15,7 @@ happen r (Turn h) = turn (count r count_turn) h
 happen r Beat = beat (count r count_beat)
 happen r (Key byte) = key (count r count_key) byte
 happen r (Tick n) = tick (count r count_tick) n
+happen r (Poke gpa value) = poke (count r count_beat) gpa value
 
 -- a machine that has ended stays as it is
 unfoldable pub happen_under : Verdict → State → Event → State

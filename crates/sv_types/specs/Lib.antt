@@ -7,6 +7,7 @@ pub mod Measure
 pub mod Boot
 pub mod Names
 pub mod Numbers
+pub mod Addresses
 pub mod Output
 pub mod Console
 pub mod DevicePlaces

@@ -9,6 +9,7 @@ use Rattle.sv_types.specs.declared.event.Rule.{Rule}
 use Rattle.sv_types.specs.declared.event.Rule.TheVariants.{Entry, Write}
 use Rattle.sv_types.specs.declared.status.Status.{Status}
 use Rattle.sv_types.specs.Schedule.{line_feed}
+use Rattle.sv_types.specs.Addresses.{address_digits}
 
 -- what ends a line
 abbrev pub line_end : List ℕ
@@ -25,9 +26,6 @@ hexadecimal_bytes [] = []
 hexadecimal_bytes (b ∷ bs) = digit_char (b / 16) ∷ digit_char (b % 16) ∷ hexadecimal_bytes bs
 
 -- the hexadecimal digits of an address, which has 64 bits
-abbrev pub address_digits : ℕ
-address_digits = 16
-
 unfoldable pub address_text : ℕ → List ℕ
 address_text a = codes "0x" ++ hexadecimal address_digits a
 

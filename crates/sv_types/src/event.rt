@@ -19,13 +19,16 @@ pub enum Verdict {
     Stopped { rule: Rule, hart: u8, turn: u64 },
 }
 
-/// One atomic action: a turn of a hart, a move of the block device, a byte of input, time that passes.
+/// One atomic action: a turn of a hart, a move of the block device, a byte of input, time that passes, a write of an
+/// attacker's device.
 #[derive(Clone, Copy, Debug, PartialEq, Eq, Drop)]
 pub enum Event {
     Turn(u8),
     Beat,
     Key(u8),
     Tick(u64),
+    /// Eight bytes, little-endian, to a guest-physical address, which is a multiple of 8.
+    Poke { gpa: u64, value: u64 },
 }
 
 /// One line of the machine's journal.

@@ -9,7 +9,7 @@ use Rattle.std.specs.List.{list_all}
 use Rattle.std.specs.Char.{digit_char, digit_value, is_ascii_hexdigit}
 use Rattle.std.specs.Str.Parse.{digits_value}
 use Rattle.sv_types.specs.Output.{hexadecimal, address_text}
-use Rattle.text_numbers.specs.Addresses.{address_of}
+use Rattle.sv_types.specs.Addresses.{address_of}
 
 length-hexadecimal : (n v : ℕ) → length (hexadecimal n v) ≡ n
 unfolding hexadecimal

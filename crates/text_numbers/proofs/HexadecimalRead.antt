@@ -9,7 +9,7 @@ use Rattle.std.specs.Char.{is_ascii_hexdigit, digit_value}
 use Rattle.std.specs.Result.{OkIff}
 use Rattle.std.specs.Str.Parse.{AllDigits, IsNumeral, digits_value, without_leading_plus, ParsesUnsigned}
 use Rattle.std.proofs.lemmas.Bool.{and_parts}
-use Rattle.text_numbers.specs.Addresses.{is_hexadecimal}
+use Rattle.sv_types.specs.Addresses.{is_hexadecimal}
 
 below : (c : ℕ) → is_ascii_hexdigit c ≡ true → digit_value c < 16
 below c is = grind (arith, nat_tests, is)

@@ -3,7 +3,7 @@
 ghost use Rattle.std.specs.Prelude.{◌≡◌};
 ghost use Rattle.std.specs.List.{list_all};
 ghost use Rattle.std.specs.Char.{is_ascii_hexdigit};
-ghost use Rattle.text_numbers.specs.Addresses as spec;
+ghost use Rattle.sv_types.specs.Addresses as spec;
 
 /// The most hexadecimal digits that an address has.
 const ADDRESS_DIGITS: usize = 16;
@@ -31,7 +31,7 @@ fn hexadecimal_number(digits: &str) -> Option<u64>
 
 /// The address that a text writes by `0x` and 1 to 16 hexadecimal digits of either case. None where the text is another
 /// one.
-#[tactic(auto, unfolding(crate::specs::Addresses::address_of))]
+#[tactic(auto, unfolding(sv_types::specs::Addresses::address_of))]
 pub fn address_of(text: &str) -> Option<u64>
     ensures { result ≡ spec.address_of text.now }
 {

@@ -1,6 +1,6 @@
 use Rattle.std.proofs.Common.{rules, ◌≡◌, true, ◌∙◌, ap}
 use Rattle.std.specs.Result.{result_ok}
-use Rattle.text_numbers.specs.Addresses.{is_hexadecimal}
+use Rattle.sv_types.specs.Addresses.{is_hexadecimal}
 use Rattle.text_numbers.proofs.HexadecimalRead.{hexadecimal_read}
 use Rattle.text_numbers.proofs.addresses.hexadecimal_number.Goals as goal
 

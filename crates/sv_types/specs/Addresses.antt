@@ -1,10 +1,12 @@
 -- Addresses as text. This project's own; digits are those of ISO/IEC 646 (ASCII).
 use Rattle.std.specs.Prelude.{ℕ, Bool, ◌&&◌, List, length, take, drop, codes, if◌then◌else◌, nat_le, Option, Some, None}
-use Rattle.sv_types.specs.Output.{address_digits}
 use Rattle.std.specs.List.{list_all}
 use Rattle.std.specs.Str.{bytes_eq}
 use Rattle.std.specs.Str.Parse.{digits_value}
 use Rattle.std.specs.Char.{is_ascii_hexdigit}
+
+abbrev pub address_digits : ℕ
+address_digits = 16
 
 -- 1 to 16 hexadecimal digits of either case
 abbrev pub is_hexadecimal : List ℕ → Bool
