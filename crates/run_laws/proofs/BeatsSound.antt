@@ -18,6 +18,7 @@ use Rattle.reference.specs.VirtioChain.{chain, most_parts, is_good, data_of, res
 use Rattle.reference.specs.VirtioRequests.{sector_of}
 use Rattle.reference.specs.VirtioBeats.{VirtioBeat, nothing, broken_beat, with_request, last_moves_alone, with_written, to_memory, to_disk, put_last, finish_request, make, make_first, next_count, result_in, accept_request, accept, look, go_on, is_live, virtio_beat}
 use Rattle.reference.specs.Attacker.{poke_move}
+use Rattle.reference.specs.Devices.{with_disk}
 use Rattle.reference.specs.Disk.{Beaten, disk_beat}
 use Rattle.sv_types.specs.Schedule.{poke_size, is_poke_address}
 use Rattle.reference.specs.Soundness.{IsSound, IsSoundBlock, IsSoundDisk, IsSoundVirtio, IsSoundRequest, IsSoundMove, AreSoundMoves, StaysInPage}
@@ -38,6 +39,19 @@ pub record IsFreeBeat (r : State) (gpa : ℕ) (bytes : List ℕ) : Type 0 where
 abbrev pub FreeMove : State → Move → Type 0
 FreeMove r (IntoRam gpa bytes) = IsFreeBeat r gpa bytes
 FreeMove r _ = Unit {0}
+
+-- another disk changes no protection
+same_free : (r : State) (disk : Disk) (gpa : ℕ) → not (is_protected r (page_of gpa)) ≡ true → not (is_protected (with_disk r disk) (page_of gpa)) ≡ true
+unfolding is_protected
+same_free r disk gpa free = free
+
+pub free_with_disk : (r : State) (disk : Disk) (x : Move) → FreeMove r x → FreeMove (with_disk r disk) x
+free_with_disk r disk Idle free = tt
+free_with_disk r disk (FromRam gpa) free = tt
+free_with_disk r disk (IntoRam gpa bytes) free =
+    record { size = free.size; some = free.some; short = free.short; one_page = free.one_page; inside = free.inside; free = same_free r disk gpa free.free }
+free_with_disk r disk (DeniedAt gpa) free = tt
+free_with_disk r disk OutsideRam free = tt
 
 -- what a beat leaves
 pub record IsSoundBeat (r : State) (b : Beaten) : Type 0 where

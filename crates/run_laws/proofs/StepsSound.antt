@@ -20,7 +20,7 @@ use Rattle.processor.specs.declared.mode.Mode.TheVariants.{Kernel, User}
 use Rattle.sv_types.specs.declared.event.Note.TheVariants.{Demote, Denied}
 use Rattle.sv_types.specs.declared.event.Verdict.{Verdict}
 use Rattle.sv_types.specs.declared.event.Verdict.TheVariants.{Running, Shutdown, Stopped}
-use Rattle.reference.specs.States.{State, Hart, Binding, Disk, Loading, is_protected}
+use Rattle.reference.specs.States.{State, Hart, Binding, Loading, is_protected}
 use Rattle.reference.specs.Counting.{count, with_count, with_note, count_turn, count_beat, count_key, count_tick, count_retired, count_demote, count_denied, count_dropped}
 use Rattle.reference.specs.Attacker.{poke_move}
 use Rattle.reference.specs.Disk.{Beaten, disk_beat}
@@ -34,7 +34,7 @@ use Rattle.reference.specs.Run.{happen, happen_under, step, run}
 use Rattle.reference.specs.Soundness.{IsSound, IsSoundHart}
 use Rattle.attempt_laws.proofs.AllTold.{all_told}
 use Rattle.attempt_laws.proofs.EffectsAgree.{IsTold}
-use Rattle.run_laws.proofs.BeatsSound.{FreeMove, IsSoundBeat, beat_page, beat_sound, poke_sound}
+use Rattle.run_laws.proofs.BeatsSound.{FreeMove, IsSoundBeat, beat_page, beat_sound, free_with_disk, poke_sound}
 use Rattle.run_laws.proofs.CallsSound.{call_goes, load_step_goes}
 use Rattle.run_laws.proofs.HartsSound.{at_pc, demoted_sound, GoesRight, effects_right}
 use Rattle.run_laws.proofs.RequestsSound.{exception_goes, trap_goes, return_goes, retire_goes, load_goes, load_reserved_goes, store_goes, store_conditional_goes, amo_goes, target_free, csr_goes}
@@ -170,19 +170,6 @@ move_goes r (FromRam gpa) s free = nothing_goes r s
 move_goes r (IntoRam gpa bytes) s free = goes_bytes r (ram_place gpa) bytes s (beat_page r gpa bytes free)
 move_goes r (DeniedAt gpa) s free = goes_beside r r.devices (with_note (Denied gpa) (with_count count_denied r.journal)) s s.disk
 move_goes r OutsideRam s free = nothing_goes r s
-
--- another disk changes no protection
-same_free : (r : State) (disk : Disk) (gpa : ℕ) → not (is_protected r (page_of gpa)) ≡ true → not (is_protected (with_disk r disk) (page_of gpa)) ≡ true
-unfolding is_protected
-same_free r disk gpa free = free
-
-free_with_disk : (r : State) (disk : Disk) (x : Move) → FreeMove r x → FreeMove (with_disk r disk) x
-free_with_disk r disk Idle free = tt
-free_with_disk r disk (FromRam gpa) free = tt
-free_with_disk r disk (IntoRam gpa bytes) free =
-    record { size = free.size; some = free.some; short = free.short; one_page = free.one_page; inside = free.inside; free = same_free r disk gpa free.free }
-free_with_disk r disk (DeniedAt gpa) free = tt
-free_with_disk r disk OutsideRam free = tt
 
 pub beat_goes : (r : State) → IsSound r → Goes r (beat r)
 unfolding beat
