@@ -14,19 +14,18 @@ use devices::{Devices, NEVER};
 use dma_guard::DiskPort;
 use hart_answers::{Seat, interrupt};
 use journal_records::Journal;
-use page_guard::Guard;
 use reference::{Answer, Beside};
 
 // What happens to other harts; the hart that called may be among those that are interrupted.
 #[tactic(auto, using(hart_answers::proofs::Hosts::hosts_length), unfolding(machine_model::specs::HostCalls::hosts_beside))]
-fn change_harts(seats: &mut [Seat], guard: &Guard, beside: Beside)
+fn change_harts(seats: &mut [Seat], beside: Beside)
     requires starts { StartsOneOf (length seats.old) beside }
     ensures hosts { hosts_of seats.new ≡ hosts_beside beside (hosts_of seats.old) }
     ensures number { length seats.new ≡ length seats.old }
 {
     match beside {
         Beside::SendsInterrupts { mask, base } => interrupt(seats, mask, base),
-        Beside::StartsHart { other, pc, opaque } => start_at(seats, guard, other, pc, opaque),
+        Beside::StartsHart { other, pc, opaque } => start_at(seats, other, pc, opaque),
         _ => {}
     }
 }
@@ -58,7 +57,6 @@ fn change_devices<D: DiskPort>(hart: u8, devices: &mut Devices<D>, beside: Besid
 pub fn give<D: DiskPort>(
     hart: u8,
     seats: &mut [Seat],
-    guard: &Guard,
     devices: &mut Devices<D>,
     journal: &mut Journal,
     answer: &Answer,
@@ -74,8 +72,8 @@ pub fn give<D: DiskPort>(
     ensures number { length seats.new ≡ length seats.old }
 {
     let Answer { reply, beside } = *answer;
-    reply_at(seats, guard, hart, reply);
-    change_harts(seats, guard, beside);
+    reply_at(seats, hart, reply);
+    change_harts(seats, beside);
     change_devices(hart, devices, beside);
     journal.record(hart, beside);
 }

@@ -55,6 +55,18 @@ const USER_HGATP: u64 = KERNEL_HGATP + NEXT_TREE;
 
 const FIRST_ENTRY_HGATP: u64 = USER_HGATP + NEXT_TREE;
 
+/// The `hgatp` value of a view's root. Its VMID is 1 for the kernel view, 2 for the user view, and 3 + i for that of entry i.
+/// `Trees` draws such a root for each entry that is bound.
+pub fn view_hgatp(view: View) -> u64
+    ensures { result ≡ view_hgatp view }
+{
+    match view {
+        View::Kernel => KERNEL_HGATP,
+        View::User => USER_HGATP,
+        View::Entry(i) => FIRST_ENTRY_HGATP + NEXT_TREE * i as u64,
+    }
+}
+
 /// The trees in the table part of a region, and how many pages of each block aren't free. Contracts see the `Shape`.
 #[derive(Drop)]
 pub struct Trees {
@@ -174,18 +186,6 @@ impl Trees {
         self.set_leaves(mem, page, protection, steps);
         self.set_block(mem, block, before, after, steps);
         self.counts[block as usize] = count;
-    }
-
-    /// The `hgatp` value of a view's root. Its VMID is 1 for the kernel view, 2 for the user view, and 3 + i for that of entry i.
-    /// There is such a root for each entry that is bound.
-    pub fn root(&self, view: View) -> u64
-        ensures { result ≡ view_hgatp view }
-    {
-        match view {
-            View::Kernel => KERNEL_HGATP,
-            View::User => USER_HGATP,
-            View::Entry(i) => FIRST_ENTRY_HGATP + NEXT_TREE * i as u64,
-        }
     }
 
     // How many trees there are.

@@ -19,7 +19,7 @@ use devices::Devices;
 use dma_guard::DiskPort;
 use hart_answers::{Seat, Trap, pass, set};
 use journal_records::Journal;
-use page_guard::{Entries, Guard};
+use page_guard::Entries;
 use processor::{Cause, ExitCause};
 
 /// A load: the register that it sets, its virtual address, how it takes the value, and the guest-physical address.
@@ -46,7 +46,6 @@ pub struct Store {
 pub fn device_load<D: DiskPort>(
     hart: u8,
     seat: &mut Seat,
-    guard: &Guard,
     entries: &Entries,
     devices: &mut Devices<D>,
     journal: &mut Journal,
@@ -65,7 +64,7 @@ pub fn device_load<D: DiskPort>(
         }
         None => {
             let fault = access_fault(Cause::LoadAccess, load.address);
-            guest_trap(hart, seat, guard, entries, journal, fault);
+            guest_trap(hart, seat, entries, journal, fault);
         }
     }
 }
@@ -75,7 +74,6 @@ pub fn device_load<D: DiskPort>(
 pub fn device_store<D: DiskPort>(
     hart: u8,
     seat: &mut Seat,
-    guard: &Guard,
     entries: &Entries,
     devices: &mut Devices<D>,
     journal: &mut Journal,
@@ -91,7 +89,7 @@ pub fn device_store<D: DiskPort>(
         journal.count_retired();
     } else {
         let fault = access_fault(Cause::StoreAccess, store.address);
-        guest_trap(hart, seat, guard, entries, journal, fault);
+        guest_trap(hart, seat, entries, journal, fault);
     }
 }
 
