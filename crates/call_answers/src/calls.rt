@@ -11,7 +11,6 @@ ghost use Rattle.call_answers.specs.Known.{StartsOneOf};
 
 use crate::places::{reply_at, start_at};
 use devices::{Devices, NEVER};
-use dma_guard::DiskPort;
 use hart_answers::{Seat, interrupt};
 use journal_records::Journal;
 use reference::{Answer, Beside};
@@ -32,7 +31,7 @@ fn change_harts(seats: &mut [Seat], beside: Beside)
 
 // What happens to devices.
 #[tactic(auto, unfolding(reference::specs::Answers::devices_beside))]
-fn change_devices<D: DiskPort>(hart: u8, devices: &mut Devices<D>, beside: Beside)
+fn change_devices(hart: u8, devices: &mut Devices, beside: Beside)
     requires there { hart < most_harts }
     requires starts { StartsOneOf most_harts beside }
     ensures { devices.new ≡ devices_beside beside hart devices.old }
@@ -54,10 +53,10 @@ fn change_devices<D: DiskPort>(hart: u8, devices: &mut Devices<D>, beside: Besid
 /// Does what an answer says, but to pages and modules: what becomes of the hart that called, and what happens beside to other
 /// harts, to devices and in the journal.
 #[tactic(auto, using(crate::proofs::Starting::fewer))]
-pub fn give<D: DiskPort>(
+pub fn give(
     hart: u8,
     seats: &mut [Seat],
-    devices: &mut Devices<D>,
+    devices: &mut Devices,
     journal: &mut Journal,
     answer: &Answer,
 )

@@ -22,7 +22,7 @@ use crate::device_states::devices_of;
 use crate::guard::approved_guard;
 use crate::load::resume_loading;
 use crate::seats::seats_of;
-use devices::{Devices, Port};
+use devices::Devices;
 use gstage_tables::Trees;
 use hart_answers::Seat;
 use host_mem::HostMem;
@@ -42,7 +42,7 @@ pub struct ResumedParts {
     pub entries: Entries,
     pub seats: Vec<Seat>,
     pub modules: Modules,
-    pub devices: Devices<Port>,
+    pub devices: Devices,
     pub journal: Journal,
 }
 

@@ -16,7 +16,6 @@ ghost use Rattle.processor.specs.Bytes.{instruction_size};
 use crate::traps::guest_trap;
 use crate::values::loaded_value;
 use devices::Devices;
-use dma_guard::DiskPort;
 use hart_answers::{Seat, Trap, pass, set};
 use journal_records::Journal;
 use page_guard::Entries;
@@ -43,11 +42,11 @@ pub struct Store {
 
 /// A load of a device's register, or the guest's access fault where none is there. It takes all that a trap takes, and the
 /// devices.
-pub fn device_load<D: DiskPort>(
+pub fn device_load(
     hart: u8,
     seat: &mut Seat,
     entries: &Entries,
-    devices: &mut Devices<D>,
+    devices: &mut Devices,
     journal: &mut Journal,
     load: Load,
 )
@@ -71,11 +70,11 @@ pub fn device_load<D: DiskPort>(
 
 /// A store to a device's register, or the guest's access fault where none is there. It takes all that a trap takes, and the
 /// devices.
-pub fn device_store<D: DiskPort>(
+pub fn device_store(
     hart: u8,
     seat: &mut Seat,
     entries: &Entries,
-    devices: &mut Devices<D>,
+    devices: &mut Devices,
     journal: &mut Journal,
     store: Store,
 )
