@@ -1,4 +1,4 @@
--- A beat of the machine's is the reference machine's: it asks DMA bits where the reference asks protections.
+-- Beats and pokes of the machine's are the reference machine's: they ask DMA bits where the reference asks protections.
 use Rattle.std.proofs.Common.{◌≡◌, ℕ, ◌+◌, ◌*◌, ◌<◌, ◌≤◌, List, [], ◌∷◌, length, map, refl, sym, ◌∙◌, ap, subst, Bool, true, false, not, ◌&&◌, ◌||◌, arith}
 use Rattle.std.specs.Prelude.{Option, Some, None, unwrap_or, option_map, if◌then◌else◌, nat_le}
 use Rattle.std.proofs.lemmas.Bool.Decides.{nat_tests}
@@ -11,16 +11,18 @@ use Rattle.reference.specs.States.{State, Disk, BlockDevice, BlockDisk, VirtioDi
 use Rattle.reference.specs.BlockDisk.{block_beat, block_to_memory, block_to_disk, block_after_beat, beat_place, beat_gpa, beat_size, is_busy, is_to_memory, transfer_ended}
 use Rattle.reference.specs.VirtioDevice.{VirtioDevice, Request}
 use Rattle.reference.specs.VirtioBeats.{VirtioBeat, nothing, broken_beat, with_request, with_written, last_moves_alone, to_memory, put_last, finish_request, make, make_first, go_on, is_live, virtio_beat}
-use Rattle.reference.specs.Disk.{block_beaten, virtio_beaten, disk_beat, is_writable}
+use Rattle.reference.specs.Attacker.{poke_move}
+use Rattle.reference.specs.Disk.{block_beaten, virtio_beaten, disk_beat, is_writable, Beaten}
+use Rattle.sv_types.specs.Schedule.{poke_size, is_poke_address}
 use Rattle.reference.specs.Move.{Move, Idle, FromRam, IntoRam, DeniedAt, OutsideRam}
-use Rattle.reference.specs.Devices.{beat, after_beaten, after_move, with_bytes}
+use Rattle.reference.specs.Devices.{beat, poke, with_disk, after_move, with_bytes}
 use Rattle.sv_types.specs.Protections.{is_free}
-use Rattle.machine_model.specs.HostEvents.{beat_served, after_host_beaten, after_host_move}
+use Rattle.machine_model.specs.HostEvents.{beat_served, poke_served, after_host_beaten, after_host_move}
 use Rattle.machine_model.specs.StandsFor.{Unseen, machine_of, protections_of}
 use Rattle.reference.specs.Soundness.{IsSound, IsSoundDisk, IsSoundVirtio, IsSoundRequest, IsSoundMove, AreSoundMoves}
 use Rattle.attempt_laws.proofs.Hosts.{hosts_forget}
 use Rattle.run_laws.proofs.Sounds.{bytes_keep_load}
-use Rattle.run_laws.proofs.BeatsSound.{FreeMove, beat_page, beat_sound}
+use Rattle.run_laws.proofs.BeatsSound.{FreeMove, beat_page, beat_sound, poke_sound}
 use Rattle.attempt_laws.proofs.Stays.{KeepsLoad}
 use Rattle.answer_laws.proofs.ViewsMeet.{get_numbers}
 use Rattle.sv_types.specs.VirtioResults.{result_number}
@@ -41,7 +43,7 @@ bit_of r page below =
     ∙ ap (λ (k : ℕ). Some (protection_in r.approved r.held k)) first))
     ∙ free_by (is_approved_in r.approved page) (has_number r.held page)
 
--- ---- a beat asks only of pages in RAM
+-- ---- beats and pokes ask only of pages in RAM
 
 abbrev AgreeInRam : List ℕ → (f g : ℕ → Bool) → Type 0
 AgreeInRam ram f g = (gpa size : ℕ) → 1 ≤ size → in_ram ram gpa size ≡ true → f (page_of gpa) ≡ g (page_of gpa)
@@ -107,16 +109,34 @@ unfolding disk_beat
 beat_meets (BlockDisk d) ram f g k agree = ap block_beaten (block_meets d ram f g agree)
 beat_meets (VirtioDisk d) ram f g k agree = ap virtio_beaten (virtio_meets d ram f g k agree)
 
+poke_by : (gpa value : ℕ) (f g : ℕ → Bool) (aligned inside : Bool) → (inside ≡ true → f (page_of gpa) ≡ g (page_of gpa))
+    → (if not (aligned && inside) then OutsideRam else if f (page_of gpa) then IntoRam gpa (low_bytes poke_size value) else DeniedAt gpa)
+    ≡ (if not (aligned && inside) then OutsideRam else if g (page_of gpa) then IntoRam gpa (low_bytes poke_size value) else DeniedAt gpa)
+poke_by gpa value f g false inside same = refl
+poke_by gpa value f g true false same = refl
+poke_by gpa value f g true true same = ap (λ (b : Bool). if b then IntoRam gpa (low_bytes poke_size value) else DeniedAt gpa) (same refl)
+
+poke_meets : (ram : List ℕ) (f g : ℕ → Bool) (gpa value : ℕ) → AgreeInRam ram f g → poke_move ram f gpa value ≡ poke_move ram g gpa value
+unfolding poke_move
+poke_meets ram f g gpa value agree = poke_by gpa value f g (is_poke_address gpa) (in_ram ram gpa poke_size) (agree gpa poke_size (omega arith))
+
 pub page_of_beat : (ram : List ℕ) (gpa size n : ℕ) → length ram ≡ page_size * n → 1 ≤ size → in_ram ram gpa size ≡ true → page_of gpa < n
 page_of_beat ram gpa size n is some inside =
     let tests : (nat_le ram_base gpa && nat_le (ram_place gpa + size) (page_size * n)) ≡ true = ap (λ (k : ℕ). nat_le ram_base gpa && nat_le (ram_place gpa + size) k) (sym is) ∙ inside in
     grind (arith, nat_tests)
 
+agree_in_ram : (r : State) → IsSound r → AgreeInRam r.ram (is_writable (map is_free (protections_of r))) (λ page. not (is_protected r page))
+agree_in_ram r sound = λ gpa size some inside. bit_of r (page_of gpa) (page_of_beat r.ram gpa size r.rules.ram_pages sound.size some inside)
+
 same_beat : (r : State) → IsSound r
     → disk_beat r.devices.disk r.ram (is_writable (map is_free (protections_of r))) ≡ disk_beat r.devices.disk r.ram (λ page. not (is_protected r page))
 same_beat r sound =
-    beat_meets r.devices.disk r.ram (is_writable (map is_free (protections_of r))) (λ page. not (is_protected r page)) sound.disk
-    (λ gpa size some inside. bit_of r (page_of gpa) (page_of_beat r.ram gpa size r.rules.ram_pages sound.size some inside))
+    beat_meets r.devices.disk r.ram (is_writable (map is_free (protections_of r))) (λ page. not (is_protected r page)) sound.disk (agree_in_ram r sound)
+
+same_poke : (r : State) (gpa value : ℕ) → IsSound r
+    → poke_move r.ram (is_writable (map is_free (protections_of r))) gpa value ≡ poke_move r.ram (λ page. not (is_protected r page)) gpa value
+same_poke r gpa value sound =
+    poke_meets r.ram (is_writable (map is_free (protections_of r))) (λ page. not (is_protected r page)) gpa value (agree_in_ram r sound)
 
 -- ---- what moves
 
@@ -125,13 +145,13 @@ abbrev pub MoveKeeps : State → Move → Type 0
 MoveKeeps r (IntoRam gpa bytes) = KeepsLoad r (overwrite r.ram (ram_place gpa) bytes)
 MoveKeeps r _ = Unit {0}
 
-moved : (o : Unseen) (r : State) (disk : Disk) (x : Move) → MoveKeeps r x → after_host_beaten (machine_of o r) (record { disk = disk; move = x }) ≡ machine_of o (after_beaten r (record { disk = disk; move = x }))
+moved : (o : Unseen) (r : State) (x : Move) → MoveKeeps r x → after_host_move (machine_of o r) x ≡ machine_of o (after_move r x)
 unfolding machine_of after_host_move after_move with_bytes
-moved o r disk Idle kept = refl
-moved o r disk (FromRam gpa) kept = refl
-moved o r disk (IntoRam gpa bytes) kept = rw (hosts_forget (length o.tables) o.exits r.harts (ram_place gpa) (length bytes), kept) refl
-moved o r disk (DeniedAt gpa) kept = refl
-moved o r disk OutsideRam kept = refl
+moved o r Idle kept = refl
+moved o r (FromRam gpa) kept = refl
+moved o r (IntoRam gpa bytes) kept = rw (hosts_forget (length o.tables) o.exits r.harts (ram_place gpa) (length bytes), kept) refl
+moved o r (DeniedAt gpa) kept = refl
+moved o r OutsideRam kept = refl
 
 free_keeps : (r : State) (x : Move) → IsSound r → FreeMove r x → MoveKeeps r x
 free_keeps r Idle s free = tt
@@ -140,9 +160,22 @@ free_keeps r (IntoRam gpa bytes) s free = bytes_keep_load r (ram_place gpa) byte
 free_keeps r (DeniedAt gpa) s free = tt
 free_keeps r OutsideRam s free = tt
 
+keeps_with_disk : (r : State) (disk : Disk) (x : Move) → MoveKeeps r x → MoveKeeps (with_disk r disk) x
+keeps_with_disk r disk Idle kept = tt
+keeps_with_disk r disk (FromRam gpa) kept = tt
+keeps_with_disk r disk (IntoRam gpa bytes) kept = kept
+keeps_with_disk r disk (DeniedAt gpa) kept = tt
+keeps_with_disk r disk OutsideRam kept = tt
+
 pub beat_agrees : (o : Unseen) (r : State) → IsSound r → beat_served (machine_of o r) ≡ machine_of o (beat r)
 unfolding beat_served beat machine_of
 beat_agrees o r sound =
-    let kept = free_keeps r (disk_beat r.devices.disk r.ram (λ page. not (is_protected r page))).move sound (beat_sound r sound).move in
+    let b : Beaten = disk_beat r.devices.disk r.ram (λ page. not (is_protected r page)) in
     ap (after_host_beaten (machine_of o r)) (same_beat r sound)
-    ∙ moved o r (disk_beat r.devices.disk r.ram (λ page. not (is_protected r page))).disk (disk_beat r.devices.disk r.ram (λ page. not (is_protected r page))).move kept
+    ∙ moved o (with_disk r b.disk) b.move (keeps_with_disk r b.disk b.move (free_keeps r b.move sound (beat_sound r sound).move))
+
+pub poke_agrees : (o : Unseen) (r : State) (gpa value : ℕ) → IsSound r → poke_served (machine_of o r) gpa value ≡ machine_of o (poke r gpa value)
+unfolding poke_served poke machine_of
+poke_agrees o r gpa value sound =
+    let x : Move = poke_move r.ram (λ page. not (is_protected r page)) gpa value in
+    ap (after_host_move (machine_of o r)) (same_poke r gpa value sound) ∙ moved o r x (free_keeps r x sound (poke_sound r gpa value))

@@ -1,7 +1,7 @@
--- Beats, keys and ticks: the machine after one stands for the state after it, and nothing else changed.
+-- Beats, pokes, keys and ticks: the machine after one stands for the state after it, and nothing else changed.
 use Rattle.attempt_laws.proofs.Stays.{length_map}
 use Rattle.std.proofs.Common.{◌≡◌, ℕ, ◌+◌, ◌%◌, ◌<◌, ◌≤◌, List, length, map, refl, sym, ◌∙◌, ap, subst, Bool, true, false, not, arith, slice_get}
-use Rattle.std.specs.Prelude.{Some, None, option_map, if◌then◌else◌}
+use Rattle.std.specs.Prelude.{Option, Some, None, option_map, if◌then◌else◌}
 use Rattle.std.proofs.lemmas.Bool.Decides.{nat_tests}
 use Rattle.std.proofs.lemmas.Option.{slice_get-map}
 use Rattle.processor.specs.Bytes.{overwrite, in_ram, page_of, ram_place, page_size}
@@ -11,27 +11,28 @@ use Rattle.processor.specs.Regions.{IsRegion}
 use Rattle.sv_types.specs.Views.{with_ram}
 use Rattle.sv_types.specs.declared.event.Counts.{Counts}
 use Rattle.sv_types.specs.declared.event.Event.{Event}
-use Rattle.sv_types.specs.declared.event.Event.TheVariants.{Turn, Beat, Key, Tick}
+use Rattle.sv_types.specs.declared.event.Event.TheVariants.{Turn, Beat, Key, Tick, Poke}
 use Rattle.processor_laws.proofs.ByteLemmas.{length_overwrite}
 use Rattle.sv_types.specs.declared.event.Note.TheVariants.{Denied}
 use Rattle.sv_types.specs.declared.event.Verdict.{Verdict}
 use Rattle.sv_types.specs.declared.event.Verdict.TheVariants.{Running}
 use Rattle.reference.specs.States.{State, Disk, Journal, protection_in, is_protected, is_approved_in, has_number}
 use Rattle.reference.specs.Counting.{count, with_count, count_beat, count_key, count_tick, count_dropped, with_note, count_denied}
+use Rattle.reference.specs.Attacker.{poke_move}
 use Rattle.reference.specs.Disk.{disk_beat, Beaten}
 use Rattle.reference.specs.Move.{Move, Idle, FromRam, IntoRam, DeniedAt, OutsideRam}
-use Rattle.reference.specs.Devices.{beat, key, tick, after_move, with_bytes, with_disk, hart_after_write}
+use Rattle.reference.specs.Devices.{beat, poke, key, tick, after_move, with_bytes, with_disk, hart_after_write}
 use Rattle.sv_types.specs.Protections.{is_free}
 use Rattle.machine_model.specs.Machine.{Machine, with_count_raised}
-use Rattle.machine_model.specs.HardwareEvent.{with_records, IsPermitted, OnlyDisk, IsEvent, Happens, HappensUnder}
-use Rattle.machine_model.specs.HostEvents.{beat_served, key_served, tick_served, event_served}
+use Rattle.machine_model.specs.HardwareEvent.{with_records, with_bytes_at, Written, IsPermitted, OnlyDisk, OnlyBytes, IsEvent, Happens, HappensUnder}
+use Rattle.machine_model.specs.HostEvents.{with_host_disk, beat_served, poke_served, key_served, tick_served, event_served}
 use Rattle.reference.specs.Run.{step, happen}
 use Rattle.machine_model.specs.StandsFor.{Unseen, IsRightFor, StandsFor, machine_of, protections_of, without_printed}
 use Rattle.reference.specs.Soundness.{IsSound}
-use Rattle.answer_laws.proofs.BeatsAgree.{beat_agrees, free_by, page_of_beat}
+use Rattle.answer_laws.proofs.BeatsAgree.{beat_agrees, poke_agrees, free_by, page_of_beat}
 use Rattle.attempt_laws.proofs.Hosts.{hosts_forget}
 use Rattle.run_laws.proofs.Sounds.{bytes_keep_load}
-use Rattle.run_laws.proofs.BeatsSound.{IsFreeBeat, FreeMove, beat_page, beat_sound}
+use Rattle.run_laws.proofs.BeatsSound.{IsFreeBeat, FreeMove, beat_page, beat_sound, free_with_disk, poke_sound}
 use Rattle.run_laws.proofs.StepsSound.{counted_sound, step_goes}
 use Rattle.run_laws.proofs.EntriesHold.{runs_on}
 use Rattle.answer_laws.proofs.ViewsMeet.{get_numbers}
@@ -43,23 +44,29 @@ region_kept tables ram bytes place inside p =
     let same : length (overwrite ram place bytes) ≡ length ram = length_overwrite ram bytes place inside in
     record { tables = p.tables; ram = rw same p.ram; most = rw same p.most; small = rw same p.small }
 
-open_moved : (o : Unseen) (r : State) (disk : Disk) (x : Move) → IsRightFor o r → FreeMove r x → IsRightFor o (after_move (with_disk r disk) x)
+open_moved : (o : Unseen) (r : State) (x : Move) → IsRightFor o r → FreeMove r x → IsRightFor o (after_move r x)
 unfolding after_move with_bytes
-open_moved o r disk Idle p free = record { views = p.views; region = p.region; exits = p.exits; cleared = p.cleared }
-open_moved o r disk (FromRam gpa) p free = record { views = p.views; region = p.region; exits = p.exits; cleared = p.cleared }
-open_moved o r disk (IntoRam gpa bytes) p free = record {
+open_moved o r Idle p free = p
+open_moved o r (FromRam gpa) p free = p
+open_moved o r (IntoRam gpa bytes) p free = record {
   views = p.views;
   region = region_kept o.tables r.ram bytes (ram_place gpa) (beat_page r gpa bytes free).inside p.region;
   exits = p.exits ∙ sym (length_map (hart_after_write (ram_place gpa) (length bytes)) r.harts);
   cleared = p.cleared;
 }
-open_moved o r disk (DeniedAt gpa) p free = record { views = p.views; region = p.region; exits = p.exits; cleared = p.cleared }
-open_moved o r disk OutsideRam p free = record { views = p.views; region = p.region; exits = p.exits; cleared = p.cleared }
+open_moved o r (DeniedAt gpa) p free = record { views = p.views; region = p.region; exits = p.exits; cleared = p.cleared }
+open_moved o r OutsideRam p free = p
 
 open_beat : (o : Unseen) (r : State) → IsRightFor o r → IsSound r → IsRightFor o (beat r)
 unfolding beat
 open_beat o r p s =
-    open_moved o r (disk_beat r.devices.disk r.ram (λ page. not (is_protected r page))).disk (disk_beat r.devices.disk r.ram (λ page. not (is_protected r page))).move p (beat_sound r s).move
+    let b : Beaten = disk_beat r.devices.disk r.ram (λ page. not (is_protected r page)) in
+    open_moved o (with_disk r b.disk) b.move (record { views = p.views; region = p.region; exits = p.exits; cleared = p.cleared })
+    (free_with_disk r b.disk b.move (beat_sound r s).move)
+
+open_poke : (o : Unseen) (r : State) (gpa value : ℕ) → IsRightFor o r → IsRightFor o (poke r gpa value)
+unfolding poke
+open_poke o r gpa value p = open_moved o r (poke_move r.ram (λ page. not (is_protected r page)) gpa value) p (poke_sound r gpa value)
 
 open_key : (o : Unseen) (r : State) (byte : ℕ) (room : Bool) → IsRightFor o r → o.cleared ≤ length (if room then r.journal else with_count count_dropped r.journal).printed
 open_key o r byte true p = p.cleared
@@ -79,7 +86,7 @@ open_tick_event : (o : Unseen) (r : State) (n : ℕ) → IsRightFor o r → IsRi
 unfolding tick
 open_tick_event o r n p = record { views = p.views; region = p.region; exits = p.exits; cleared = p.cleared }
 
--- ---- what a beat changes
+-- ---- what a beat or a poke changes
 
 permits : (r : State) (page : ℕ) → page < r.rules.ram_pages → not (is_protected r page) ≡ true → slice_get (map is_free (protections_of r)) page ≡ Some true
 unfolding protection_in is_protected
@@ -103,24 +110,33 @@ beat_permitted o r gpa bytes s k = record {
   permitted = permits r (page_of gpa) (page_of_beat r.ram gpa k.size r.rules.ram_pages s.size k.some k.inside) k.free;
 }
 
-moved_frame : (o : Unseen) (r : State) (f : Counts → Counts) (disk : Disk) (x : Move) → IsSound r → FreeMove r x → OnlyDisk (machine_of o r) (machine_of o (after_move (with_disk (count r f) disk) x))
+moved_frame : (o : Unseen) (r : State) (f : Counts → Counts) (x : Move) → IsSound r → FreeMove r x → OnlyBytes (machine_of o r) (machine_of o (after_move (count r f) x))
 unfolding machine_of after_move with_bytes
-moved_frame o r f disk Idle s free =
-    record { disk = disk; bytes = None; new = record { counts = f r.journal.counts; notes = r.journal.notes }; permitted = tt; same = refl }
-moved_frame o r f disk (FromRam gpa) s free =
-    record { disk = disk; bytes = None; new = record { counts = f r.journal.counts; notes = r.journal.notes }; permitted = tt; same = refl }
-moved_frame o r f disk (IntoRam gpa bytes) s free = record {
-  disk = disk;
+moved_frame o r f Idle s free =
+    record { bytes = None; new = record { counts = f r.journal.counts; notes = r.journal.notes }; permitted = tt; same = refl }
+moved_frame o r f (FromRam gpa) s free =
+    record { bytes = None; new = record { counts = f r.journal.counts; notes = r.journal.notes }; permitted = tt; same = refl }
+moved_frame o r f (IntoRam gpa bytes) s free = record {
   bytes = Some (record { gpa = gpa; bytes = bytes });
   new = record { counts = f r.journal.counts; notes = r.journal.notes };
   permitted = beat_permitted o r gpa bytes s free;
   same = rw (hosts_forget (length o.tables) o.exits r.harts (ram_place gpa) (length bytes), bytes_keep_load r (ram_place gpa) bytes s (beat_page r gpa bytes free)) refl;
 }
-moved_frame o r f disk (DeniedAt gpa) s free =
+moved_frame o r f (DeniedAt gpa) s free =
     let j : Journal = with_note (Denied gpa) (with_count count_denied (with_count f r.journal)) in
-    record { disk = disk; bytes = None; new = record { counts = j.counts; notes = j.notes }; permitted = tt; same = refl }
-moved_frame o r f disk OutsideRam s free =
-    record { disk = disk; bytes = None; new = record { counts = f r.journal.counts; notes = r.journal.notes }; permitted = tt; same = refl }
+    record { bytes = None; new = record { counts = j.counts; notes = j.notes }; permitted = tt; same = refl }
+moved_frame o r f OutsideRam s free =
+    record { bytes = None; new = record { counts = f r.journal.counts; notes = r.journal.notes }; permitted = tt; same = refl }
+
+-- the disk and what moves are apart
+moved_beside_disk : (o : Unseen) (r : State) (disk : Disk) (x : Move)
+    → machine_of o (after_move (with_disk r disk) x) ≡ with_host_disk (machine_of o (after_move r x)) disk
+unfolding machine_of after_move with_bytes
+moved_beside_disk o r disk Idle = refl
+moved_beside_disk o r disk (FromRam gpa) = refl
+moved_beside_disk o r disk (IntoRam gpa bytes) = refl
+moved_beside_disk o r disk (DeniedAt gpa) = refl
+moved_beside_disk o r disk OutsideRam = refl
 
 count_unprotected : (r : State) (f : Counts → Counts) (page : ℕ) → not (is_protected (count r f) page) ≡ true → not (is_protected r page) ≡ true
 unfolding is_protected
@@ -133,11 +149,34 @@ count_free r f (IntoRam gpa bytes) free = record { size = free.size; some = free
 count_free r f (DeniedAt gpa) free = tt
 count_free r f OutsideRam free = tt
 
+-- with the disk that a beat leaves
+disk_frame : (before after : Machine) (disk : Disk) → OnlyBytes before after → OnlyDisk before (with_host_disk after disk)
+disk_frame before after disk k = record {
+  disk = disk;
+  bytes = k.bytes;
+  new = k.new;
+  permitted = k.permitted;
+  same = ap (λ (m : Machine). with_host_disk m disk) k.same ∙ devices_stay before k.bytes;
+}
+  where
+    devices_stay : (m : Machine) (bytes : Option Written) → with_host_disk (with_records (with_bytes_at m bytes) k.new) disk
+        ≡ with_records (record (with_bytes_at m bytes) { devices = record m.devices { disk = disk } }) k.new
+    devices_stay m None = refl
+    devices_stay m (Some w) = refl
+
 beat_frame : (o : Unseen) (r : State) (f : Counts → Counts) → IsSound r → IsSound (count r f) → OnlyDisk (machine_of o r) (machine_of o (beat (count r f)))
 unfolding beat
 beat_frame o r f s t =
     let b : Beaten = disk_beat r.devices.disk r.ram (λ page. not (is_protected (count r f) page)) in
-    moved_frame o r f b.disk b.move s (count_free r f b.move (beat_sound (count r f) t).move)
+    subst (OnlyDisk (machine_of o r)) (sym (moved_beside_disk o (count r f) b.disk b.move))
+    (disk_frame (machine_of o r) (machine_of o (after_move (count r f) b.move)) b.disk
+    (moved_frame o r f b.move s (count_free r f b.move (beat_sound (count r f) t).move)))
+
+poke_frame : (o : Unseen) (r : State) (f : Counts → Counts) (gpa value : ℕ) → IsSound r → OnlyBytes (machine_of o r) (machine_of o (poke (count r f) gpa value))
+unfolding poke
+poke_frame o r f gpa value s =
+    let x : Move = poke_move r.ram (λ page. not (is_protected (count r f) page)) gpa value in
+    moved_frame o r f x s (count_free r f x (poke_sound (count r f) gpa value))
 
 -- ---- keys and time
 
@@ -195,6 +234,7 @@ IsNoTurn (Turn h) = ⊥
 IsNoTurn Beat = Unit {0}
 IsNoTurn (Key byte) = Unit {0}
 IsNoTurn (Tick n) = Unit {0}
+IsNoTurn (Poke gpa value) = Unit {0}
 
 raised_same : (o : Unseen) (r : State) (f : Counts → Counts) → with_count_raised (machine_of o r) f ≡ machine_of o (count r f)
 unfolding machine_of
@@ -223,6 +263,11 @@ follows o r (Key byte) p s no_turn = record {
   frame = key_event o r byte;
 }
 follows o r (Tick n) p s no_turn = record { same = tick_same o r n; right = open_tick_event o r n p; frame = tick_event o r n }
+follows o r (Poke gpa value) p s no_turn = record {
+  same = ap (λ (m : Machine). poke_served m gpa value) (raised_same o r count_beat) ∙ poke_agrees o (count r count_beat) gpa value (counted_sound r count_beat s).sound;
+  right = open_poke o (count r count_beat) gpa value (record { views = p.views; region = p.region; exits = p.exits; cleared = p.cleared });
+  frame = poke_frame o r count_beat gpa value s;
+}
 
 event_under : (m after : Machine) (e : Event) → m.journal.verdict ≡ Running → Happens m e after → IsEvent m e after
 unfolding IsEvent
@@ -232,7 +277,7 @@ pub verdict_of : (o : Unseen) (r : State) → (machine_of o r).journal.verdict �
 unfolding machine_of
 verdict_of o r = refl
 
--- a beat, a key or a tick of a machine that runs: it stands for the state after the event, and no more was changed
+-- a beat, a poke, a key or a tick of a machine that runs: it stands for the state after the event, and no more was changed
 pub event_law : (m : Machine) (r : State) (e : Event) → StandsFor m r → r.journal.verdict ≡ Running → IsNoTurn e
     → StandsFor (event_served m e) (step r e) × IsEvent m e (event_served m e)
 event_law m r e stands on no_turn =

@@ -6,7 +6,7 @@ use Rattle.processor.specs.declared.exit.ExitCause.{ExitCause}
 use Rattle.std.proofs.Common.{◌≡◌, ℕ, List, length, refl, sym, ◌∙◌, ap, subst, Bool, true, false, slice_get}
 use Rattle.std.specs.Prelude.{Option, Some, None, option_map, if◌then◌else◌, ◌==◌}
 use Rattle.sv_types.specs.declared.event.Event.{Event}
-use Rattle.sv_types.specs.declared.event.Event.TheVariants.{Turn, Beat, Key, Tick}
+use Rattle.sv_types.specs.declared.event.Event.TheVariants.{Turn, Beat, Key, Tick, Poke}
 use Rattle.processor.specs.declared.outcome.Outcome.{Outcome}
 use Rattle.sv_types.specs.declared.event.Verdict.{Verdict}
 use Rattle.sv_types.specs.declared.event.Verdict.TheVariants.{Running, Shutdown, Stopped}
@@ -319,6 +319,7 @@ by_verdict m after r (Turn h) Running stands on same steps = turn_law m after r 
 by_verdict m after r Beat Running stands on same steps = by_event m after r Beat stands on tt steps
 by_verdict m after r (Key byte) Running stands on same steps = by_event m after r (Key byte) stands on tt steps
 by_verdict m after r (Tick n) Running stands on same steps = by_event m after r (Tick n) stands on tt steps
+by_verdict m after r (Poke gpa value) Running stands on same steps = by_event m after r (Poke gpa value) stands on tt steps
 by_verdict m after r e Shutdown stands on same steps = (
   subst (λ (v : Verdict). StandsFor after (happen_under v r e)) (sym on) (subst (λ (n : Machine). StandsFor n r) (sym steps) stands),
   subst (λ (v : Verdict). HappensUnder v m e after) (sym same) steps,

@@ -1,9 +1,9 @@
--- What a beat writes lies in one page that isn't protected, and the disk stays sound.
+-- What a device writes, by a beat or a poke, lies in one page that isn't protected, and the disk stays sound.
 use Rattle.std.proofs.Common.{◌≡◌, ℕ, ◌+◌, ◌*◌, ◌/◌, ◌%◌, ◌≤◌, List, [], ◌∷◌, length, refl, sym, subst, Bool, true, false, not, ◌&&◌, arith}
 use Rattle.sv_types.proofs.InPages.{page_begins}
 use Rattle.std.specs.Prelude.{Option, Some, None, if◌then◌else◌, ◌==◌, nat_lt}
 use Rattle.std.proofs.lemmas.Bool.Decides.{nat_tests}
-use Rattle.std.proofs.lemmas.Bool.{not-true}
+use Rattle.std.proofs.lemmas.Bool.{not-true, eqb-true}
 use Rattle.processor.specs.Bytes.{part, overwrite, low_bytes, in_ram, page_of, page_size, ram_place}
 use Rattle.processor_laws.proofs.ByteLemmas.{length_low_bytes}
 use Rattle.sv_types.specs.declared.block.BlockStatus.{BlockStatus}
@@ -17,14 +17,17 @@ use Rattle.reference.specs.VirtioQueue.{rings_in_ram, available_index, next_head
 use Rattle.reference.specs.VirtioChain.{chain, most_parts, is_good, data_of, result_of}
 use Rattle.reference.specs.VirtioRequests.{sector_of}
 use Rattle.reference.specs.VirtioBeats.{VirtioBeat, nothing, broken_beat, with_request, last_moves_alone, with_written, to_memory, to_disk, put_last, finish_request, make, make_first, next_count, result_in, accept_request, accept, look, go_on, is_live, virtio_beat}
+use Rattle.reference.specs.Attacker.{poke_move}
+use Rattle.reference.specs.Devices.{with_disk}
 use Rattle.reference.specs.Disk.{Beaten, disk_beat}
+use Rattle.sv_types.specs.Schedule.{poke_size, is_poke_address}
 use Rattle.reference.specs.Soundness.{IsSound, IsSoundBlock, IsSoundDisk, IsSoundVirtio, IsSoundRequest, IsSoundMove, AreSoundMoves, StaysInPage}
 use Rattle.run_laws.proofs.Lookups.{unprotected, unheld, part_short}
 use Rattle.run_laws.proofs.Sounds.{InFreePage}
 use Rattle.run_laws.proofs.VirtioSound.{sound_last, request_sound}
 use Rattle.sv_types.specs.VirtioResults.{result_number}
 
--- what a beat writes: no more bytes than there is room for in RAM and in a page that isn't protected
+-- what a device writes: no more bytes than there is room for in RAM and in a page that isn't protected
 pub record IsFreeBeat (r : State) (gpa : ℕ) (bytes : List ℕ) : Type 0 where
   pub size : ℕ
   pub some : 1 ≤ size
@@ -36,6 +39,19 @@ pub record IsFreeBeat (r : State) (gpa : ℕ) (bytes : List ℕ) : Type 0 where
 abbrev pub FreeMove : State → Move → Type 0
 FreeMove r (IntoRam gpa bytes) = IsFreeBeat r gpa bytes
 FreeMove r _ = Unit {0}
+
+-- another disk changes no protection
+same_free : (r : State) (disk : Disk) (gpa : ℕ) → not (is_protected r (page_of gpa)) ≡ true → not (is_protected (with_disk r disk) (page_of gpa)) ≡ true
+unfolding is_protected
+same_free r disk gpa free = free
+
+pub free_with_disk : (r : State) (disk : Disk) (x : Move) → FreeMove r x → FreeMove (with_disk r disk) x
+free_with_disk r disk Idle free = tt
+free_with_disk r disk (FromRam gpa) free = tt
+free_with_disk r disk (IntoRam gpa bytes) free =
+    record { size = free.size; some = free.some; short = free.short; one_page = free.one_page; inside = free.inside; free = same_free r disk gpa free.free }
+free_with_disk r disk (DeniedAt gpa) free = tt
+free_with_disk r disk OutsideRam free = tt
 
 -- what a beat leaves
 pub record IsSoundBeat (r : State) (b : Beaten) : Type 0 where
@@ -253,3 +269,31 @@ by_kind r (VirtioDisk d) k = let b = virtio_beat_sound r d k in record { disk = 
 
 pub beat_sound : (r : State) → IsSound r → IsSoundBeat r (disk_beat r.devices.disk r.ram (λ page. not (is_protected r page)))
 beat_sound r s = by_kind r r.devices.disk s.disk
+
+-- ---- an attacker's device
+
+-- a double word lies in one page
+double_word_fits : (p : ℕ) → p % 8 ≡ 0 → p % page_size + 8 ≤ page_size
+double_word_fits p e = grind arith
+
+place_of_poke : (gpa : ℕ) → gpa % 8 ≡ 0 → ram_place gpa % 8 ≡ 0
+place_of_poke gpa e = grind arith
+
+poke_free : (r : State) (gpa value : ℕ) (aligned inside free : Bool) → is_poke_address gpa ≡ aligned → in_ram r.ram gpa poke_size ≡ inside
+    → not (is_protected r (page_of gpa)) ≡ free
+    → FreeMove r (if not (aligned && inside) then OutsideRam else if free then IntoRam gpa (low_bytes poke_size value) else DeniedAt gpa)
+poke_free r gpa value false inside free at there may = tt
+poke_free r gpa value true false free at there may = tt
+poke_free r gpa value true true false at there may = tt
+poke_free r gpa value true true true at there may = record {
+  size = poke_size;
+  some = omega arith;
+  short = subst (λ (n : ℕ). n ≤ poke_size) (sym (length_low_bytes poke_size value)) (omega arith);
+  one_page = double_word_fits (ram_place gpa) (place_of_poke gpa (eqb-true (gpa % 8) 0 at));
+  inside = there;
+  free = may;
+}
+
+pub poke_sound : (r : State) (gpa value : ℕ) → FreeMove r (poke_move r.ram (λ page. not (is_protected r page)) gpa value)
+unfolding poke_move
+poke_sound r gpa value = poke_free r gpa value (is_poke_address gpa) (in_ram r.ram gpa poke_size) (not (is_protected r (page_of gpa))) refl refl refl

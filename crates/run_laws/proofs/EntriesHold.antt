@@ -12,14 +12,15 @@ use Rattle.processor.specs.Translation.{Destination, At, PageFault, Unreadable, 
 use Rattle.processor.specs.Traps.{trap_target, deliverable, status_at_trap, supervisor_at_trap, first_interrupt, is_pending}
 use Rattle.processor.specs.declared.cause.Cause.{Cause}
 use Rattle.sv_types.specs.declared.event.Event.{Event}
-use Rattle.sv_types.specs.declared.event.Event.TheVariants.{Turn, Beat, Key, Tick}
+use Rattle.sv_types.specs.declared.event.Event.TheVariants.{Turn, Beat, Key, Tick, Poke}
 use Rattle.sv_types.specs.declared.event.Verdict.{Verdict}
 use Rattle.sv_types.specs.declared.event.Verdict.TheVariants.{Running, Shutdown, Stopped}
 use Rattle.processor.specs.declared.access.Access.TheVariants as Access
 use Rattle.processor.specs.declared.mode.Mode.{Mode}
 use Rattle.processor.specs.declared.mode.Mode.TheVariants.{Kernel, User}
 use Rattle.reference.specs.Counting.{count, count_turn, count_beat}
-use Rattle.reference.specs.Devices.{lines_at, beat, key, tick, with_disk, with_bytes, after_move, hart_after_write}
+use Rattle.reference.specs.Devices.{lines_at, may_move_to, beat, poke, key, tick, with_disk, with_bytes, after_move, hart_after_write}
+use Rattle.reference.specs.Attacker.{poke_move}
 use Rattle.reference.specs.Disk.{Beaten, disk_beat}
 use Rattle.reference.specs.Move.{Move, Idle, FromRam, IntoRam, DeniedAt, OutsideRam}
 use Rattle.reference.specs.Requests.{settings_of}
@@ -244,6 +245,10 @@ beat_waits k at r w =
     let b : Beaten = disk_beat r.devices.disk r.ram (λ page. not (is_protected r page)) in
     move_waits k at (with_disk r b.disk) b.move (still_waits k at r (with_disk r b.disk) refl refl w)
 
+poke_waits : (k : ℕ) (at : Hart) (r : State) (gpa value : ℕ) → IsWaiting k at r → IsWaiting k at (poke r gpa value)
+unfolding poke
+poke_waits k at r gpa value w = move_waits k at r (poke_move r.ram (λ page. may_move_to r page) gpa value) w
+
 happen_waits : (k : ℕ) (at : Hart) (r : State) (e : Event) → IsNoTurnOf k e → IsWaiting k at r → IsWaiting k at (happen r e)
 unfolding happen key tick
 happen_waits k at r (Turn h) other w =
@@ -251,6 +256,7 @@ happen_waits k at r (Turn h) other w =
 happen_waits k at r Beat other w = beat_waits k at (count r count_beat) (still_waits k at r (count r count_beat) refl refl w)
 happen_waits k at r (Key byte) other w = still_waits k at r _ refl refl w
 happen_waits k at r (Tick n) other w = still_waits k at r _ refl refl w
+happen_waits k at r (Poke gpa value) other w = poke_waits k at (count r count_beat) gpa value (still_waits k at r (count r count_beat) refl refl w)
 
 under_waits : (k : ℕ) (at : Hart) (v : Verdict) (r : State) (e : Event) → IsNoTurnOf k e → IsWaiting k at r → IsWaiting k at (happen_under v r e)
 unfolding happen_under

@@ -8,7 +8,7 @@ use Rattle.processor.specs.Traps.{interrupt_number, deliverable}
 use Rattle.processor.specs.declared.cause.Cause.{Cause}
 use Rattle.processor.specs.declared.effect.Effect.{Effect}
 use Rattle.sv_types.specs.declared.event.Event.{Event}
-use Rattle.sv_types.specs.declared.event.Event.TheVariants.{Turn, Beat, Key, Tick}
+use Rattle.sv_types.specs.declared.event.Event.TheVariants.{Turn, Beat, Key, Tick, Poke}
 use Rattle.sv_types.specs.declared.event.Note.TheVariants.{Demote, Denied}
 use Rattle.sv_types.specs.declared.event.Verdict.{Verdict}
 use Rattle.sv_types.specs.declared.event.Verdict.TheVariants.{Running, Shutdown, Stopped}
@@ -19,9 +19,10 @@ use Rattle.processor.specs.declared.mode.Mode.TheVariants.{Kernel, User}
 use Rattle.processor.specs.Bytes.{page_of}
 use Rattle.reference.specs.States.{State, Hart, Journal, Loading, is_protected, Binding}
 use Rattle.reference.specs.Counting.{with_count, count, count_dropped, count_turn, count_beat, count_key, count_tick}
+use Rattle.reference.specs.Attacker.{poke_move}
 use Rattle.reference.specs.Disk.{Beaten, disk_beat}
 use Rattle.reference.specs.Move.{Move, Idle, FromRam, IntoRam, DeniedAt, OutsideRam}
-use Rattle.reference.specs.Devices.{lines_at, with_disk, with_bytes, after_move, beat, key, tick}
+use Rattle.reference.specs.Devices.{lines_at, with_disk, with_bytes, after_move, may_move_to, beat, poke, key, tick}
 use Rattle.reference.specs.Requests.{source_of, target_of, csr_asked}
 use Rattle.reference.specs.Run.{happen, happen_under, step}
 use Rattle.reference.specs.Turn.{place_of_pc, leads_into, noted_gpa, outside, leave_entry, fetch_in_entry, bound_entry, carry_out_kernel_only, carry_out_ecall, carry_out_sret, carry_out_effect, carry_out_instruction, carry_out_word, Fetched, NoWord, Stray, Word, fetch_of, act_on_fetch, act_on_pending, act, turn_of_started, turn_of, turn}
@@ -126,6 +127,10 @@ beat_gains r =
     let b : Beaten = disk_beat r.devices.disk r.ram (λ page. not (is_protected r page)) in
     move_gains (with_disk r b.disk) b.move
 
+poke_gains : (r : State) (gpa value : ℕ) → Gains r (poke r gpa value)
+unfolding poke
+poke_gains r gpa value = move_gains r (poke_move r.ram (λ page. may_move_to r page) gpa value)
+
 room_moves : (j : Journal) (room : Bool) → Moves j (if room then j else with_count count_dropped j)
 room_moves j true = still j
 room_moves j false = drops j
@@ -146,6 +151,7 @@ happen_grows r (Turn h) = turn_grows r.journal _ (turn_gains (count r count_turn
 happen_grows r Beat = beat_grows r.journal _ (beat_gains (count r count_beat))
 happen_grows r (Key byte) = key_grows r.journal _ (key_gains (count r count_key) byte)
 happen_grows r (Tick by) = tick_grows r.journal _ (tick_gains (count r count_tick) by)
+happen_grows r (Poke gpa value) = beat_grows r.journal _ (poke_gains (count r count_beat) gpa value)
 
 under_grows : (verdict : Verdict) (r : State) (e : Event) → Grows r.journal (happen_under verdict r e).journal
 unfolding happen_under

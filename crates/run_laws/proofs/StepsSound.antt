@@ -12,7 +12,7 @@ use Rattle.processor.specs.declared.cause.Cause.{Cause}
 use Rattle.processor.specs.declared.effect.Effect.{Effect}
 use Rattle.sv_types.specs.declared.event.Counts.{Counts}
 use Rattle.sv_types.specs.declared.event.Event.{Event}
-use Rattle.sv_types.specs.declared.event.Event.TheVariants.{Turn, Beat, Key, Tick}
+use Rattle.sv_types.specs.declared.event.Event.TheVariants.{Turn, Beat, Key, Tick, Poke}
 use Rattle.processor.specs.declared.instruction.Instr.{Instr}
 use Rattle.processor.specs.declared.interrupt.Interrupt.{Interrupt}
 use Rattle.processor.specs.declared.mode.Mode.{Mode}
@@ -20,20 +20,21 @@ use Rattle.processor.specs.declared.mode.Mode.TheVariants.{Kernel, User}
 use Rattle.sv_types.specs.declared.event.Note.TheVariants.{Demote, Denied}
 use Rattle.sv_types.specs.declared.event.Verdict.{Verdict}
 use Rattle.sv_types.specs.declared.event.Verdict.TheVariants.{Running, Shutdown, Stopped}
-use Rattle.reference.specs.States.{State, Hart, Binding, Disk, Loading, is_protected}
+use Rattle.reference.specs.States.{State, Hart, Binding, Loading, is_protected}
 use Rattle.reference.specs.Counting.{count, with_count, with_note, count_turn, count_beat, count_key, count_tick, count_retired, count_demote, count_denied, count_dropped}
+use Rattle.reference.specs.Attacker.{poke_move}
 use Rattle.reference.specs.Disk.{Beaten, disk_beat}
 use Rattle.reference.specs.Move.{Move, Idle, FromRam, IntoRam, DeniedAt, OutsideRam}
-use Rattle.reference.specs.Devices.{lines_at, with_disk, with_bytes, after_move, beat, key, tick}
+use Rattle.reference.specs.Devices.{lines_at, with_disk, after_move, beat, poke, key, tick}
 use Rattle.reference.specs.Trapping.{exception}
 use Rattle.reference.specs.Origins.{ownership}
 use Rattle.reference.specs.Requests.{at_next_instruction, carried_out, source_of, target_of, csr_asked}
 use Rattle.reference.specs.Turn.{fetch_and_act, place_of_pc, leads_into, noted_gpa, outside, leave_entry, fetch_in_entry, bound_entry, carry_out_kernel_only, carry_out_ecall, carry_out_sret, with_set, carry_out_effect, carry_out_instruction, carry_out_word, Fetched, NoWord, Stray, Word, fetch_of, demote, act_on_fetch, act_on_pending, act, turn_of_started, turn_of, turn}
 use Rattle.reference.specs.Run.{happen, happen_under, step, run}
-use Rattle.reference.specs.Soundness.{IsSound, IsSoundHart, IsSoundDisk}
+use Rattle.reference.specs.Soundness.{IsSound, IsSoundHart}
 use Rattle.attempt_laws.proofs.AllTold.{all_told}
 use Rattle.attempt_laws.proofs.EffectsAgree.{IsTold}
-use Rattle.run_laws.proofs.BeatsSound.{FreeMove, IsSoundBeat, beat_page, beat_sound}
+use Rattle.run_laws.proofs.BeatsSound.{FreeMove, IsSoundBeat, beat_page, beat_sound, free_with_disk, poke_sound}
 use Rattle.run_laws.proofs.CallsSound.{call_goes, load_step_goes}
 use Rattle.run_laws.proofs.HartsSound.{at_pc, demoted_sound, GoesRight, effects_right}
 use Rattle.run_laws.proofs.RequestsSound.{exception_goes, trap_goes, return_goes, retire_goes, load_goes, load_reserved_goes, store_goes, store_conditional_goes, amo_goes, target_free, csr_goes}
@@ -160,30 +161,28 @@ pub turn_goes : (r : State) (h : ℕ) → IsSound r → Goes r (turn r h)
 unfolding turn
 turn_goes r h s = hart_turn_goes r h (slice_get r.harts h) s refl
 
--- ---- beats
+-- ---- beats and pokes
 
-same_free : (r : State) (disk : Disk) (gpa : ℕ) → not (is_protected r (page_of gpa)) ≡ true → not (is_protected (with_disk r disk) (page_of gpa)) ≡ true
-unfolding is_protected
-same_free r disk gpa free = free
-
-moved_goes : (r : State) (disk : Disk) (x : Move) → IsSound r → IsSoundDisk disk → FreeMove r x → Goes r (after_move (with_disk r disk) x)
+move_goes : (r : State) (x : Move) → IsSound r → FreeMove r x → Goes r (after_move r x)
 unfolding after_move
-moved_goes r disk Idle s k free = goes_beside r (record r.devices { disk = disk }) r.journal s k
-moved_goes r disk (FromRam gpa) s k free = goes_beside r (record r.devices { disk = disk }) r.journal s k
-moved_goes r disk (IntoRam gpa bytes) s k free =
-    let first : Goes r (with_disk r disk) = goes_beside r (record r.devices { disk = disk }) r.journal s k in
-    goes_on r (with_disk r disk) (with_bytes (with_disk r disk) (ram_place gpa) bytes) first
-    (goes_bytes (with_disk r disk) (ram_place gpa) bytes first.sound
-    (beat_page (with_disk r disk) gpa bytes (record { size = free.size; some = free.some; short = free.short; one_page = free.one_page; inside = free.inside; free = same_free r disk gpa free.free })))
-moved_goes r disk (DeniedAt gpa) s k free = goes_beside r (record r.devices { disk = disk }) (with_note (Denied gpa) (with_count count_denied r.journal)) s k
-moved_goes r disk OutsideRam s k free = goes_beside r (record r.devices { disk = disk }) r.journal s k
+move_goes r Idle s free = nothing_goes r s
+move_goes r (FromRam gpa) s free = nothing_goes r s
+move_goes r (IntoRam gpa bytes) s free = goes_bytes r (ram_place gpa) bytes s (beat_page r gpa bytes free)
+move_goes r (DeniedAt gpa) s free = goes_beside r r.devices (with_note (Denied gpa) (with_count count_denied r.journal)) s s.disk
+move_goes r OutsideRam s free = nothing_goes r s
 
 pub beat_goes : (r : State) → IsSound r → Goes r (beat r)
 unfolding beat
 beat_goes r s =
     let b : Beaten = disk_beat r.devices.disk r.ram (λ page. not (is_protected r page)) in
     let k : IsSoundBeat r b = beat_sound r s in
-    moved_goes r b.disk b.move s k.disk k.move
+    let first : Goes r (with_disk r b.disk) = goes_beside r (record r.devices { disk = b.disk }) r.journal s k.disk in
+    goes_on r (with_disk r b.disk) (after_move (with_disk r b.disk) b.move) first
+    (move_goes (with_disk r b.disk) b.move first.sound (free_with_disk r b.disk b.move k.move))
+
+pub poke_goes : (r : State) (gpa value : ℕ) → IsSound r → Goes r (poke r gpa value)
+unfolding poke
+poke_goes r gpa value s = move_goes r (poke_move r.ram (λ page. not (is_protected r page)) gpa value) s (poke_sound r gpa value)
 
 pub key_goes : (r : State) (byte : ℕ) → IsSound r → Goes r (key r byte)
 unfolding key
@@ -210,6 +209,9 @@ happen_goes r (Key byte) s =
     let first = counted_sound r count_key s in goes_on r (count r count_key) (key (count r count_key) byte) first (key_goes (count r count_key) byte first.sound)
 happen_goes r (Tick n) s =
     let first = counted_sound r count_tick s in goes_on r (count r count_tick) (tick (count r count_tick) n) first (tick_goes (count r count_tick) n first.sound)
+happen_goes r (Poke gpa value) s =
+    let first = counted_sound r count_beat s in
+    goes_on r (count r count_beat) (poke (count r count_beat) gpa value) first (poke_goes (count r count_beat) gpa value first.sound)
 
 under_goes : (verdict : Verdict) (r : State) (e : Event) → IsSound r → Goes r (happen_under verdict r e)
 unfolding happen_under

@@ -7,7 +7,7 @@ use Rattle.processor.specs.Bytes.{word, page_of, place_in_page, instruction_size
 use Rattle.processor.specs.Translation.{At}
 use Rattle.processor.specs.Traps.{trap_target, deliverable}
 use Rattle.sv_types.specs.declared.event.Event.{Event}
-use Rattle.sv_types.specs.declared.event.Event.TheVariants.{Turn, Beat, Key, Tick}
+use Rattle.sv_types.specs.declared.event.Event.TheVariants.{Turn, Beat, Key, Tick, Poke}
 use Rattle.sv_types.specs.declared.event.Verdict.TheVariants.{Running}
 use Rattle.processor.specs.declared.mode.Mode.TheVariants.{Kernel, User}
 use Rattle.reference.specs.Counting.{count, count_turn}
@@ -74,6 +74,7 @@ IsNoTurnOf h (Turn other) = (other == h) ≡ false
 IsNoTurnOf h Beat = Unit {0}
 IsNoTurnOf h (Key byte) = Unit {0}
 IsNoTurnOf h (Tick n) = Unit {0}
+IsNoTurnOf h (Poke gpa value) = Unit {0}
 
 abbrev pub AreNoTurnsOf : ℕ → List Event → Type 0
 AreNoTurnsOf h [] = Unit {0}
