@@ -5,12 +5,12 @@ ghost use Rattle.reference.specs.Disk.{disk_beat, is_writable};
 ghost use Rattle.dma_guard.specs.Transfers.{beat_of, after_move};
 ghost use Rattle.machine_parts.specs.Beats.{ToldInRam};
 
-use devices::{Devices, Port};
+use devices::Devices;
 use dma_guard::{Beaten, DmaGuard};
 use host_mem::HostMem;
 
 /// One beat of the disk's device, which writes RAM alone.
-pub(crate) fn beat_disk(devices: &mut Devices<Port>, dma: &DmaGuard, mem: &mut HostMem) -> Beaten
+pub(crate) fn beat_disk(devices: &mut Devices, dma: &DmaGuard, mem: &mut HostMem) -> Beaten
     ensures devices { devices.new ≡ record devices.old { disk = (disk_beat devices.old.disk mem.old.ram (is_writable dma.now)).disk } }
     ensures told { result ≡ beat_of (disk_beat devices.old.disk mem.old.ram (is_writable dma.now)).move }
     ensures memory { mem.new ≡ after_move mem.old (disk_beat devices.old.disk mem.old.ram (is_writable dma.now)).move }

@@ -24,7 +24,7 @@ use crate::beats::beat_disk;
 use crate::exits::is_again;
 use crate::wires::HartWires;
 use call_answers::law_starts;
-use devices::{Devices, Port};
+use devices::Devices;
 use dma_guard::Beaten;
 use hart::Cpu;
 use hart_answers::{Seat, forget};
@@ -47,7 +47,7 @@ pub struct Parts {
     pub caches: Vec<HartCaches>,
     pub guard: Guard,
     pub modules: Modules,
-    pub devices: Devices<Port>,
+    pub devices: Devices,
     pub journal: Journal,
     pub cpu: Cpu,
     pub words: Words,
