@@ -96,8 +96,9 @@ impl Row {
     }
 }
 
-// The turns themselves. All that they read and change is handed over by itself, so that the loop keeps it in registers.
-#[inline(always)]
+// The turns themselves. All that they read and change is handed over by itself, so that the loop keeps it in registers; it
+// stands out of line, since the count that follows it would take one of them.
+#[inline(never)]
 fn row_of_turns(
     words: &mut FlatWords,
     core: &mut Core,
@@ -145,7 +146,7 @@ fn row_of_turns(
 /// The hart has no reservation. No other hart's is looked at. That no interrupt is taken at the start is what the
 /// clause on turns asks; none comes up on the way, since no register changes that decides it. Each turn is an attempt, and
 /// counted.
-#[inline(never)]
+#[inline(always)]
 pub fn quick_turns(
     words: &mut Words,
     core: &mut Core,
