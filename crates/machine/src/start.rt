@@ -79,7 +79,6 @@ pub(crate) fn at_boot(
         journal,
         cpu,
         words,
-        row_attempts: 0,
         cleared: 0,
     })
 }
@@ -136,7 +135,7 @@ impl Begun {
         ensures gate { IfOk result (λ b. b.modules.gate ≡ no_modules) }
         ensures loading { IfOk result (λ b. b.modules.loading ≡ None) }
         ensures journal { IfOk result (λ b. b.journal ≡ journal_at_boot) }
-        ensures attempts { IfOk result (λ b. b.cpu ≡ 0) }
+        ensures attempts { IfOk result (λ b. b.words + b.cpu ≡ 0) }
     {
         let entries = Entries::new(alloc, &policy.entries, &policy.bound)?;
         let seats = seats_at_boot(alloc, policy.harts, entry)?;
@@ -166,7 +165,7 @@ impl Idle {
     /// Nothing is kept for any hart, and no attempt is counted.
     pub(crate) fn new(alloc: Global, harts: u8) -> Result<Idle, AllocError>
         ensures caches { IfOk result (λ idle. idle.caches.items ≡ replicate harts nothing_kept) }
-        ensures attempts { IfOk result (λ idle. idle.cpu ≡ 0) }
+        ensures attempts { IfOk result (λ idle. idle.words + idle.cpu ≡ 0) }
     {
         let caches = empty_caches(alloc, harts)?;
         let cpu = Cpu::new(alloc)?;
