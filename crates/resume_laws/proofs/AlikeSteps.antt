@@ -14,14 +14,15 @@ use Rattle.processor.specs.declared.interrupt.Interrupt.{Interrupt}
 use Rattle.processor.specs.declared.mode.Mode.{Mode}
 use Rattle.processor.specs.declared.mode.Mode.TheVariants.{Kernel, User}
 use Rattle.sv_types.specs.declared.event.Event.{Event}
-use Rattle.sv_types.specs.declared.event.Event.TheVariants.{Turn, Beat, Key, Tick}
+use Rattle.sv_types.specs.declared.event.Event.TheVariants.{Turn, Beat, Key, Tick, Poke}
 use Rattle.sv_types.specs.declared.event.Verdict.{Verdict}
 use Rattle.sv_types.specs.declared.event.Verdict.TheVariants.{Running, Shutdown, Stopped}
 use Rattle.reference.specs.States.{State, Hart, Loading, is_protected, Binding}
 use Rattle.reference.specs.Counting.{with_count, count, count_dropped, count_turn, count_beat, count_key, count_tick}
+use Rattle.reference.specs.Attacker.{poke_move}
 use Rattle.reference.specs.Disk.{Beaten, disk_beat}
 use Rattle.reference.specs.Move.{Move, Idle, FromRam, IntoRam, DeniedAt, OutsideRam}
-use Rattle.reference.specs.Devices.{lines_at, with_disk, with_bytes, after_move, after_beaten, beat, key, tick}
+use Rattle.reference.specs.Devices.{lines_at, with_disk, with_bytes, after_move, after_beaten, beat, poke, key, tick}
 use Rattle.reference.specs.Requests.{source_of, target_of, csr_asked, carry_out_store, carry_out_store_conditional, carry_out_amo, Target}
 use Rattle.reference.specs.Run.{happen, happen_under, step}
 use Rattle.reference.specs.Turn.{place_of_pc, leads_into, noted_gpa, outside, leave_entry, demote, fetch_in_entry, bound_entry, carry_out_kernel_only, carry_out_ecall, carry_out_sret, carry_out_effect, carry_out_instruction, carry_out_word, Fetched, NoWord, Stray, Word, fetch, fetched_at, fetched_in, fetch_of, fetch_and_act, act_on_fetch, act_on_pending, act, turn_of_started, turn_of, turn}
@@ -190,6 +191,13 @@ beat_alike x =
     (λ (protected : ℕ → Bool). Alike x.front (beat x.r) (after_beaten (second x) (disk_beat x.r.devices.disk x.r.ram (λ page. not (protected page)))))
     (sym (protected_same x)) (beaten_alike x (disk_beat x.r.devices.disk x.r.ram (λ page. not (is_protected x.r page))))
 
+poke_alike : (x : Twins) (gpa value : ℕ) → AlikeAfter x (λ r. poke r gpa value)
+unfolding poke
+poke_alike x gpa value =
+    subst
+    (λ (protected : ℕ → Bool). Alike x.front (poke x.r gpa value) (after_move (second x) (poke_move x.r.ram (λ page. not (protected page)) gpa value)))
+    (sym (protected_same x)) (move_alike x (poke_move x.r.ram (λ page. not (is_protected x.r page)) gpa value))
+
 keyed_alike : (x : Twins) (byte : ℕ) (room : Bool)
     → AlikeAfter x (λ r. record r {
       devices = record r.devices { console = after_key r.devices.console byte };
@@ -218,6 +226,8 @@ happen_alike x (Key byte) =
     key_alike (record { front = x.front; r = count x.r count_key; approved = x.approved; printed = x.printed; same = x.same; before = x.before }) byte
 happen_alike x (Tick by) =
     tick_alike (record { front = x.front; r = count x.r count_tick; approved = x.approved; printed = x.printed; same = x.same; before = x.before }) by
+happen_alike x (Poke gpa value) =
+    poke_alike (record { front = x.front; r = count x.r count_beat; approved = x.approved; printed = x.printed; same = x.same; before = x.before }) gpa value
 
 under_alike : (verdict : Verdict) (x : Twins) (e : Event) → AlikeAfter x (λ r. happen_under verdict r e)
 unfolding happen_under

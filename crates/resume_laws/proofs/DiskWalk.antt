@@ -18,13 +18,14 @@ use Rattle.processor.specs.declared.mode.Mode.{Mode}
 use Rattle.processor.specs.declared.mode.Mode.TheVariants.{Kernel, User}
 use Rattle.sv_types.specs.Console.{stored_byte, console_load, after_load}
 use Rattle.sv_types.specs.declared.event.Event.{Event}
-use Rattle.sv_types.specs.declared.event.Event.TheVariants.{Turn, Beat, Key, Tick}
+use Rattle.sv_types.specs.declared.event.Event.TheVariants.{Turn, Beat, Key, Tick, Poke}
 use Rattle.sv_types.specs.declared.event.Verdict.{Verdict}
 use Rattle.sv_types.specs.declared.event.Verdict.TheVariants.{Running, Shutdown, Stopped}
 use Rattle.reference.specs.Answers.{devices_beside, state_after_answer, call}
 use Rattle.reference.specs.Calls.{asked_by, facts_of}
 use Rattle.reference.specs.Counting.{count, count_turn, count_beat, count_key, count_tick, printed_low}
-use Rattle.reference.specs.Devices.{DeviceLoad, DeviceStore, Port, ConsoleAt, DiskAt, Nowhere, device_load_of, port_at, port_load, port_store, device_load, device_store, lines_at, with_disk, with_bytes, after_move, beat, key, tick}
+use Rattle.reference.specs.Attacker.{poke_move}
+use Rattle.reference.specs.Devices.{DeviceLoad, DeviceStore, Port, ConsoleAt, DiskAt, Nowhere, device_load_of, port_at, port_load, port_store, device_load, device_store, lines_at, with_disk, with_bytes, after_move, may_move_to, beat, poke, key, tick}
 use Rattle.reference.specs.Disk.{Beaten, disk_load, disk_store, disk_beat}
 use Rattle.reference.specs.Loads.{is_good, decide, load_step_of}
 use Rattle.reference.specs.ModuleCalls.{answer_of, load_decision}
@@ -289,6 +290,10 @@ beat_same r =
     let b : Beaten = disk_beat r.devices.disk r.ram may_write in
     inr (inr (record { ram = r.ram; may_write = may_write; beaten = move_same (with_disk r b.disk) b.move }))
 
+poke_same : (r : State) (gpa value : ℕ) → Same r (poke r gpa value)
+unfolding poke
+poke_same r gpa value = inl (move_same r (poke_move r.ram (λ page. may_move_to r page) gpa value))
+
 key_same : (r : State) (byte : ℕ) → Same r (key r byte)
 unfolding key
 key_same r byte = same_disk
@@ -303,6 +308,7 @@ happen_same r (Turn h) = turn_same (count r count_turn) h
 happen_same r Beat = beat_same (count r count_beat)
 happen_same r (Key byte) = key_same (count r count_key) byte
 happen_same r (Tick n) = tick_same (count r count_tick) n
+happen_same r (Poke gpa value) = poke_same (count r count_beat) gpa value
 
 under_same : (verdict : Verdict) (r : State) (e : Event) → Same r (happen_under verdict r e)
 unfolding happen_under

@@ -2,11 +2,12 @@
 use Rattle.std.proofs.Common.{◌≡◌, ℕ, suc, ◌+◌, List, [], ◌∷◌, Bool, true, false, not, arith, refl, ◌∙◌, ap, subst, sym, if◌then◌else◌}
 use Rattle.sv_types.specs.Console.{has_room}
 use Rattle.sv_types.specs.declared.event.Event.{Event}
-use Rattle.sv_types.specs.declared.event.Event.TheVariants.{Turn, Beat, Key, Tick}
+use Rattle.sv_types.specs.declared.event.Event.TheVariants.{Turn, Beat, Key, Tick, Poke}
 use Rattle.sv_types.specs.declared.event.Verdict.{Verdict}
 use Rattle.sv_types.specs.declared.event.Verdict.TheVariants.{Running, Shutdown, Stopped}
 use Rattle.reference.specs.Counting.{with_count, count, count_turn, count_beat, count_key, count_tick, count_dropped}
-use Rattle.reference.specs.Devices.{with_disk, with_bytes, after_move, beat, key, tick}
+use Rattle.reference.specs.Attacker.{poke_move}
+use Rattle.reference.specs.Devices.{with_disk, with_bytes, after_move, may_move_to, beat, poke, key, tick}
 use Rattle.reference.specs.Disk.{Beaten, disk_beat}
 use Rattle.reference.specs.Move.{Move, Idle, FromRam, IntoRam, DeniedAt, OutsideRam}
 use Rattle.reference.specs.Run.{happen, happen_under, step, run, HasEnded}
@@ -37,6 +38,10 @@ beat_none r =
     let b : Beaten = disk_beat r.devices.disk r.ram (λ page. not (is_protected r page)) in
     move_none (with_disk r b.disk) b.move
 
+poke_none : (r : State) (gpa value : ℕ) → events_counted (poke r gpa value).journal.counts ≡ events_counted r.journal.counts
+unfolding poke
+poke_none r gpa value = move_none r (poke_move r.ram (λ page. may_move_to r page) gpa value)
+
 room_none : (j : Journal) (room : Bool) → events_counted (if room then j else with_count count_dropped j).counts ≡ events_counted j.counts
 room_none j true = refl
 room_none j false = refl
@@ -55,6 +60,7 @@ happen_one r (Turn h) = let same = rises_none (count r count_turn).journal (turn
 happen_one r Beat = let same = beat_none (count r count_beat) in omega (arith, same)
 happen_one r (Key byte) = let same = key_none (count r count_key) byte in omega (arith, same)
 happen_one r (Tick n) = let same = tick_none (count r count_tick) n in omega (arith, same)
+happen_one r (Poke gpa value) = let same = poke_none (count r count_beat) gpa value in omega (arith, same)
 
 -- ---- while the machine runs, and behind its end
 

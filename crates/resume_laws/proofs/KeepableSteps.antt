@@ -14,12 +14,13 @@ use Rattle.processor.specs.declared.mode.Mode.{Mode}
 use Rattle.processor.specs.declared.mode.Mode.TheVariants.{Kernel, User}
 use Rattle.sv_types.specs.Console.{most_queued, has_room}
 use Rattle.sv_types.specs.declared.event.Event.{Event}
-use Rattle.sv_types.specs.declared.event.Event.TheVariants.{Turn, Beat, Key, Tick}
+use Rattle.sv_types.specs.declared.event.Event.TheVariants.{Turn, Beat, Key, Tick, Poke}
 use Rattle.sv_types.specs.declared.event.Note.TheVariants.{Demote, Denied}
 use Rattle.sv_types.specs.declared.event.Verdict.{Verdict}
 use Rattle.sv_types.specs.declared.event.Verdict.TheVariants.{Running, Shutdown, Stopped}
 use Rattle.reference.specs.Counting.{count, with_count, with_note, count_demote, count_dropped, count_turn, count_beat, count_key, count_tick}
-use Rattle.reference.specs.Devices.{lines_at, with_disk, after_move, after_beaten, beat, key, tick}
+use Rattle.reference.specs.Devices.{lines_at, with_disk, after_move, after_beaten, may_move_to, beat, poke, key, tick}
+use Rattle.reference.specs.Attacker.{poke_move}
 use Rattle.reference.specs.Disk.{Beaten, disk_beat}
 use Rattle.reference.specs.Move.{Move, Idle, FromRam, IntoRam, DeniedAt, OutsideRam}
 use Rattle.reference.specs.Loads.{load_step_of, is_good}
@@ -206,6 +207,10 @@ beat_keeps : (r : State) → IsKeepable r → IsKeepable (beat r)
 unfolding beat
 beat_keeps r k = beaten_keeps r (disk_beat r.devices.disk r.ram (λ page. not (is_protected r page))) k
 
+poke_keeps : (r : State) (gpa value : ℕ) → IsKeepable r → IsKeepable (poke r gpa value)
+unfolding poke
+poke_keeps r gpa value k = moved_keeps r (poke_move r.ram (λ page. may_move_to r page) gpa value) k
+
 one_key : (queue : List ℕ) (byte : ℕ) (room : Bool) → nat_lt (length queue) most_queued ≡ room → length queue ≤ most_queued
     → length (if room then queue ++ byte ∷ [] else queue) ≤ most_queued
 one_key queue byte true at k =
@@ -255,6 +260,9 @@ happen_keeps r (Key byte) k s =
     (record { harts = k.harts; journal = k.journal; clock = k.clock; console = k.console; modules = k.modules; load = k.load; text = k.text })
 happen_keeps r (Tick by) k s =
     tick_keeps (count r count_tick) by
+    (record { harts = k.harts; journal = k.journal; clock = k.clock; console = k.console; modules = k.modules; load = k.load; text = k.text })
+happen_keeps r (Poke gpa value) k s =
+    poke_keeps (count r count_beat) gpa value
     (record { harts = k.harts; journal = k.journal; clock = k.clock; console = k.console; modules = k.modules; load = k.load; text = k.text })
 
 under_keeps : (verdict : Verdict) (r : State) (e : Event) → IsKeepable r → IsSound r → IsKeepable (happen_under verdict r e)
