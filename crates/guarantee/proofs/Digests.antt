@@ -79,8 +79,11 @@ digest_is ram (Some page) t e =
     subst (λ (x : TextPage). page_digest (page_bytes ram x.page) ≡ x.digest) same refl
 
 pub start_digests : (s : State) → HasMeasuredText s → HasDigests s
-start_digests s measured = (map (digested s.ram) s.text, record {
-  pages = same_pages s.ram s.text;
-  each = λ i t at e. digest_is s.ram (slice_get s.text i) t (sym (slice_get-map (digested s.ram) s.text i) ∙ at);
-  joined = ap joined_digests (same_digests s.ram s.text) ∙ measured;
-})
+start_digests s measured = (
+  map (digested s.ram) s.text,
+  record {
+    pages = same_pages s.ram s.text;
+    each = λ i t at e. digest_is s.ram (slice_get s.text i) t (sym (slice_get-map (digested s.ram) s.text i) ∙ at);
+    joined = ap joined_digests (same_digests s.ram s.text) ∙ measured;
+  },
+)
