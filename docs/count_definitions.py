@@ -3,8 +3,9 @@
 `use` lines of each specification, definition by definition, with the Rust types that they name. Imports, blanks and
 comments aren't counted, nor the library's own words.
 
-  count_definitions.py [--files] CRATE CRATE::FUNCTION ..   the lines, by files too; a crate stands for all its laws
-  count_definitions.py                                      the three reading lists of DEFINITIONS.md"""
+  count_definitions.py [--files] NAME ..   the lines, by files too: a CRATE with all its laws, a CRATE::FUNCTION, a definition
+                                           CRATE.specs.FILE.NAME
+  count_definitions.py [--files]           the three reading lists of DEFINITIONS.md"""
 import functools
 import pathlib
 import re
@@ -15,11 +16,11 @@ WORD = re.compile(r"[^\s(){}\[\],;.:→×⊎≡≤<>=+*∷λ«»|&?!'\"]+")
 USE = re.compile(r'^(?:pub )?use (?:«?Rattle»?\.)([\w.«»+]+?)\.?(?:\{([^}]*)\})?(?: as (\w+))?$')
 HEAD = re.compile(r'^(?:(?:abbrev|unfoldable|opaque) )*(?:pub )?(record|data)? ?([^\s(:]+)')
 
-# the laws of the program `secvisor`, by the functions that carry what it owes
-RUN = ['secvisor_cli::secvisor', 'guarantee', 'program_laws::law_program']
 LISTS = [
     ('the laws of the guarantee', ['guarantee']),
-    ('`run` with its laws', ['secvisor_cli::secvisor', 'guarantee', 'run_laws']),
+    ('`run` and `vrun` with their laws', [
+        'command_plans.specs.CommandLine.run_judged', 'command_plans.specs.Plans.run_plan', 'program_laws.specs.ProgramLaw.GuardedRun',
+        'program_laws.specs.Starts.IsMeasuredStart', 'guarantee', 'run_laws']),
     ('all commands with all laws of the program', [
         'secvisor_cli', 'live_cli', 'snap_cli', 'resume_cli', 'show_cli', 'guarantee', 'run_laws', 'program_laws']),
 ]
@@ -148,7 +149,9 @@ def led(module, name):
 
 
 def starts(law):
-    """What the contract of a function, or of each law of a crate, names."""
+    """A definition by its name, or what the contract of a function, or of each law of a crate, names."""
+    if '.' in law:
+        return led(*law.rsplit('.', 1))
     crate, _, name = law.partition('::')
     todo = []
     for path in rust_files(crate):

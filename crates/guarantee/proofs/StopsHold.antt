@@ -33,7 +33,7 @@ use Rattle.reference.specs.Move.{Move, Idle, FromRam, IntoRam, DeniedAt, Outside
 use Rattle.reference.specs.Requests.{Guarded, target_of, carry_out_store, carry_out_store_conditional, carry_out_amo}
 use Rattle.reference.specs.Run.{step, happen}
 use Rattle.reference.specs.Soundness.{IsSound}
-use Rattle.reference.specs.States.{State, Hart, Disk, Loading, has_number, is_protected}
+use Rattle.reference.specs.States.{State, Hart, Loading, has_number, is_protected}
 use Rattle.reference.specs.Trapping.{trap_from, trap_entered}
 use Rattle.reference.specs.Turn.{going_hart, after_going, Fetched, NoWord, Word, fetch_of, turn_of_started, carry_out_word, carry_out_instruction, carry_out_effect}
 use Rattle.attempt_laws.specs.Agree.{IsNotLoading}

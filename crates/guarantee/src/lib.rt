@@ -3,15 +3,8 @@
 
 ghost use Rattle.guarantee.specs.Guarantee.{EntriesLaw, ExitsLaw, KernelWordsLaw, ProtectedBytesLaw, StopsLaw, UserTurnsLaw};
 ghost use Rattle.guarantee.specs.Guarded.{GuardedLaw};
-ghost use Rattle.guarantee.specs.Reached.{ReachedLaw};
 
 pub use run_laws::law_sound;
-
-/// Each state that a run reaches from a start whose text was measured is sound, has its origins and the digests of its text: what
-/// the laws below ask.
-pub fn law_reached()
-    ensures { ReachedLaw }
-{}
 
 /// In kernel mode no word is executed but those that were measured: of the kernel's text, by digests that join to the policy's, and of
 /// loaded modules.

@@ -12,7 +12,7 @@ use Rattle.outside.specs.Outside.{FilesState, SinkState, after_taking}
 use Rattle.outside.specs.Endings.{status_of_end}
 use Rattle.outside.specs.declared.trouble.Trouble.{Trouble}
 use Rattle.outside.specs.declared.trouble.Trouble.TheVariants.{Write, Memory}
-use Rattle.command_plans.specs.Refusals.{refusal_status}
+use Rattle.command_plans.specs.Refusals.{refusal_line, refusal_status}
 use Rattle.command_plans.specs.Plans.{Due, Refuse, RunFrom, Make, Plan, End, Saving, Exactly, saving_of_bytes, status_due, run_plan}
 use Rattle.command_plans.specs.Reading.{Follows, Saved}
 use Rattle.command_plans.specs.declared.refusal.Refusal.{Refusal}
@@ -118,7 +118,7 @@ refused_writes : (answer : Status) (refusal : Refusal) (old new : Outside) (resu
     → WritesAndSaves (Refuse refusal) old new result → ⊥
 refused_writes answer refusal old new result good well k = by_written k.written (sym k.saves.1 ∙ well) k.writes
   where
-    by_written : (written : Result Status Trouble) → written ≡ Ok answer → Writes (refusal_status refusal) _ old.sink new.sink written → ⊥
+    by_written : (written : Result Status Trouble) → written ≡ Ok answer → Writes (refusal_status refusal) (refusal_line refusal) old.sink new.sink written → ⊥
     by_written (Err trouble) e w = cc
     by_written (Ok status) e w =
         let same : status ≡ answer = cc in no_refusal refusal (subst IsRunStatus (sym same ∙ w.status) good)
@@ -135,8 +135,8 @@ live_by_written : (words : Result LiveWords Refusal) (old new : LiveOutside) (re
     → Writes (run_status (run start journal).journal.verdict) (output (run start journal)) old.sink new.sink written
     → SavesScript start.rules.harts journal (out_of words) read new.files written saved → GuardedLive words old new answer
 live_by_written words old new read answer start events journal (Err trouble) saved ran same well w k = let no = k.1 in absurd (cc)
-live_by_written words old new read answer start events journal (Ok status) saved ran same well w (text, (script, inr broke)) = let no = broke.1 in absurd (cc)
-live_by_written words old new read answer start events journal (Ok status) saved ran same well w (text, (script, inl kept)) =
+live_by_written words old new read answer start events journal (Ok status) saved ran same well w (text, script, inr broke) = let no = broke.1 in absurd (cc)
+live_by_written words old new read answer start events journal (Ok status) saved ran same well w (text, script, inl kept) =
     let its : answer ≡ status = by_two answer status saved well kept.1 in
     record {
       start = start;
@@ -156,6 +156,7 @@ live_by_written words old new read answer start events journal (Ok status) saved
 live_by : (words : Result LiveWords Refusal) (old new : LiveOutside) (read : FilesState) (answer : Status) (result : Result Status Trouble) (reached : Option Due)
     → IsRunStatus answer → result ≡ Ok answer → Follows (live_plan words) old.files read reached
     → AnswersLiveReached (out_of words) reached (live_outside read old.sink old.keys old.bench) new result → GuardedLive words old new answer
+unfolding measured_for
 live_by words old new read answer result None good well f k = absurd (no_error answer result well k.0)
 live_by words old new read answer result (Some (Refuse refusal)) good well f k =
     absurd (refused_writes answer refusal (outside read old.sink old.bench) (outside new.files new.sink new.bench) result good well k.0)
@@ -173,8 +174,8 @@ snap_by_written : (words : Result SnapWords Refusal) (old new : Outside) (read :
     → SavesSnapshot start events (snap_out words) read new.files written result → GuardedSnap words old new
 snap_by_written words old new read start events (Err trouble) result ran same well w k = let no = k.0 in absurd (cc)
 snap_by_written words old new read start events (Ok status) result ran same well w (inl none) = let no = none.0 in absurd (cc)
-snap_by_written words old new read start events (Ok status) result ran same well w (inr (s, (its, inr broke))) = let no = broke.1 in absurd (cc)
-snap_by_written words old new read start events (Ok status) result ran same well w (inr (s, (its, inl kept))) = record {
+snap_by_written words old new read start events (Ok status) result ran same well w (inr (s, its, inr broke)) = let no = broke.1 in absurd (cc)
+snap_by_written words old new read start events (Ok status) result ran same well w (inr (s, its, inl kept)) = record {
   start = start;
   events = events;
   ran = ran;
@@ -187,6 +188,7 @@ snap_by_written words old new read start events (Ok status) result ran same well
 snap_by : (words : Result SnapWords Refusal) (old new : Outside) (read : FilesState) (result : Result Status Trouble) (reached : Option Due)
     → result ≡ Ok Status.Done → Follows (snap_plan words) old.files read reached
     → AnswersSnapReached (snap_out words) reached (outside read old.sink old.bench) new result → GuardedSnap words old new
+unfolding measured_for
 snap_by words old new read result None well f k = absurd (no_error Status.Done result well k.0)
 snap_by words old new read result (Some (Refuse refusal)) well f k =
     absurd (refused_writes Status.Done refusal (outside read old.sink old.bench) new result tt well k)

@@ -2,6 +2,7 @@
 //! the reference machine that is guarded, from a start whose text was measured, or from the state that a snapshot says.
 #![tactic(auto)]
 
+ghost use Rattle.guarantee.specs.Reached.{ReachedLaw};
 ghost use Rattle.program_laws.specs.GuaranteedLaw.{GuaranteedLaw};
 ghost use Rattle.program_laws.specs.ProgramLaw.{ProgramLaw};
 ghost use Rattle.program_laws.specs.ResumeLaw.{ResumeLaw};
@@ -33,4 +34,9 @@ pub fn law_resume()
 /// So each state that a run of the program comes through meets what the laws of `guarantee` ask.
 pub fn law_guaranteed()
     ensures { GuaranteedLaw }
+{}
+
+/// Each state that a run reaches from a start whose text was measured is sound, has its origins and the digests of its text.
+pub fn law_reached()
+    ensures { ReachedLaw }
 {}
