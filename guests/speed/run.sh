@@ -1,7 +1,8 @@
 #!/usr/bin/env bash
 # run.sh EVENTS PROGRAM...: builds the guests of this folder, and tells how many million turns a second each PROGRAM makes on
 # each, by processor time, less that of the same words with no event: the best of three rounds, in which the programs
-# take turns. The first PROGRAM measures the policies. A PROGRAM may hold options, split at spaces.
+# take turns. The first PROGRAM measures the policies. A PROGRAM may hold options, split at spaces. Where a guest ends before
+# EVENTS, or where the times can't be told apart, that is said in place of a number.
 here=$(cd "$(dirname "$0")" && pwd) || exit 1
 events=$1
 shift
@@ -17,12 +18,20 @@ seconds() {
     { time $1 run "$2.elf" "$2.policy" none none "$3" none > out 2> /dev/null; } 2>&1 | awk '{ print $1 + $2 }'
 }
 
+# Whether a guest still runs after all events.
+goes_on() {
+    # shellcheck disable=SC2086
+    $1 run "$2.elf" "$2.policy" none none "$3" none 2> /dev/null | tail -n 1 | grep -qx 'verdict ended'
+}
+
 for guest in traps tables four_harts; do
     harts=1
     [ $guest = four_harts ] && harts=4
     # shellcheck disable=SC2086
     $1 measure $guest.policy $guest.elf 64 $harts 0x80000000,0x80000100 none > /dev/null || exit 1
     echo $guest
+    # shellcheck disable=SC2086
+    goes_on "$1" $guest "$events" || { echo "    ends before $events events: fewer tell its speed"; continue; }
     for _ in 1 2 3; do
         number=0
         for program; do
@@ -31,5 +40,9 @@ for guest in traps tables four_harts; do
         done
     done | awk -v events="$events" '
         !($1 in best) || $2 - $3 < best[$1] { best[$1] = $2 - $3 }
-        END { for (i = 1; i in best; i++) printf "    program %d: %.1f million turns a second\n", i, events / best[i] / 1e6 }'
+        END {
+            for (i = 1; i in best; i++)
+                if (best[i] > 0) printf "    program %d: %.1f million turns a second\n", i, events / best[i] / 1e6
+                else printf "    program %d: too few events to tell\n", i
+        }'
 done

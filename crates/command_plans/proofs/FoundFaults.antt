@@ -31,7 +31,7 @@ use Rattle.command_plans.specs.declared.refusal.Refusal.{Refusal}
 use Rattle.command_plans.specs.declared.file_fault.Part.{Part}
 use Rattle.command_plans.specs.declared.refusal.Refusal.TheVariants.{File, Measure, Entry}
 use Rattle.command_words.specs.declared.command.DiskKind.{DiskKind}
-use Rattle.command_plans.specs.CommandLine.{Command, Flat, Generated, Run, RunWords, Source, Rounds, Auto, Text, MakePolicy, PolicyWords, Convert, judgement_of_words}
+use Rattle.command_plans.specs.CommandLine.{Command, Flat, Generated, Run, RunWords, Source, Rounds, Auto, Bursts, Text, MakePolicy, PolicyWords, Convert, judgement_of_words}
 use Rattle.command_plans.specs.Plans.{Refuse, RunFrom, most_image_bytes, most_object_bytes, making_fault, made_judged, made_part, Kernel, digest_part, Modules, no_modules, with_module, module_part, modules_part, making_plan, measure_plan, Plan, End, status_due, found_plan, flat_plan, command_plan, plan_of, measure_judged, pages_judged, is_whole_pages, flat_events, gen_plan, gen_due, gen_disk, policy_judged, policy_part, part_judged, kernel_part, disk_refusal, disk_part, text_part, script_part, image_measure, boot_judged, boot_plan, image_plan, run_plan, start_with, due_of_measure, binding_refusal, converted_judged, bound_plan, binding_plan, convert_plan}
 use Rattle.command_plans.proofs.WordLemmas.{NoReadFault, words_no_read_fault}
 use Rattle.command_plans.proofs.PlanLemmas.{HasFoundFaults}
@@ -96,6 +96,7 @@ pub script_found_faults : (harts : ℕ) (source : Source) (next : Schedule → P
 unfolding script_part text_part found_plan
 script_found_faults harts Rounds next never = never _
 script_found_faults harts (Auto number) next never = never _
+script_found_faults harts (Bursts number) next never = never _
 script_found_faults harts (Text name) next never =
     (λ e. cc e, λ bytes. part_found_faults FileFault.ScriptLine (next (Schedule.Listed (events_of_text harts bytes))) (first_refused bytes) (never _))
 

@@ -19,8 +19,10 @@ use Rattle.command_plans.specs.declared.refusal.Refusal.TheVariants.{NoCommand, 
 pub data Source : Type 0 where
   -- the harts in turn
   Rounds : Source
-  -- drawn behind a number
+  -- drawn after a number
   Auto : (number : ℕ) → Source
+  -- bursts of one hart, drawn after a number
+  Bursts : (number : ℕ) → Source
   -- the text of a file
   Text : (name : List ℕ) → Source
 
@@ -85,11 +87,15 @@ unless_none word = if bytes_eq word (codes "none") then None else Some word
 abbrev pub auto_of : List ℕ → Option Source
 auto_of number = option_map Auto (number_within 0 (2 ^ 64 - 1) number)
 
--- a word that begins with `auto:` has a number behind it, or is out of range
+abbrev pub bursts_of : List ℕ → Option Source
+bursts_of number = option_map Bursts (number_within 0 (2 ^ 64 - 1) number)
+
+-- a word that begins with `auto:` or `bursts:` goes on with a number, or is out of range
 unfoldable pub source_of : List ℕ → Option Source
 source_of word =
     if bytes_eq word (codes "none") then Some Rounds
     else if bytes_eq (take 5 word) (codes "auto:") then auto_of (drop 5 word)
+    else if bytes_eq (take 7 word) (codes "bursts:") then bursts_of (drop 7 word)
     else Some (Text word)
 
 abbrev pub run_of : RunSplit → Source → ℕ → RunWords

@@ -40,7 +40,7 @@ use Rattle.command_plans.specs.declared.file_fault.FileFault.{FileFault}
 use Rattle.command_plans.specs.declared.refusal.Refusal.{Refusal}
 use Rattle.command_plans.specs.declared.refusal.Refusal.TheVariants.{ReadFault, File, Measure, Entry}
 use Rattle.command_plans.specs.Refusals.{refusal_line, refusal_status}
-use Rattle.command_plans.specs.CommandLine.{Command, Flat, Generated, Run, RunWords, MakePolicy, PolicyWords, Convert, Source, Rounds, Auto, Text}
+use Rattle.command_plans.specs.CommandLine.{Command, Flat, Generated, Run, RunWords, MakePolicy, PolicyWords, Convert, Source, Rounds, Auto, Bursts, Text}
 
 -- ---- what is due
 
@@ -215,6 +215,7 @@ text_part harts name next =
 unfoldable pub script_part : (harts : ℕ) → Source → (Schedule → Plan) → Plan
 script_part harts Rounds next = next (Schedule.Rounds harts 0)
 script_part harts (Auto number) next = next (Schedule.Auto harts number)
+script_part harts (Bursts number) next = next (Schedule.Bursts harts 0 0 number)
 script_part harts (Text name) next = text_part harts name next
 
 abbrev pub image_measure : List ℕ → List ℕ

@@ -17,12 +17,13 @@ use Rattle.command_plans.specs.declared.words.Source.TheVariants as named
 use Rattle.command_plans.specs.declared.words.Run.{Run as AskedRun}
 use Rattle.command_plans.specs.declared.words.Terms.{Terms as AskedTerms}
 use Rattle.command_plans.specs.declared.words.MakePolicy.{MakePolicy as AskedPolicy}
-use Rattle.command_plans.specs.CommandLine.{Command, Flat, Generated, Run, RunWords, MakePolicy, PolicyWords, Convert, Source, Rounds, Auto, Text}
+use Rattle.command_plans.specs.CommandLine.{Command, Flat, Generated, Run, RunWords, MakePolicy, PolicyWords, Convert, Source, Rounds, Auto, Bursts, Text}
 
 -- where the events come from, by value
 abbrev pub source_value : Named → Source
 source_value named.Rounds = Rounds
 source_value (named.Auto number) = Auto number
+source_value (named.Bursts number) = Bursts number
 source_value (named.Text name) = Text name.now
 
 abbrev pub run_value : AskedRun → RunWords

@@ -6,7 +6,7 @@ ghost use Rattle.processor.specs.Regions.{most_ram_pages};
 ghost use Rattle.sv_types.specs.Limits.{most_harts, fewest_ram_pages};
 ghost use Rattle.policy_making.specs.WordRanges.{entries_of, are_module_names};
 ghost use Rattle.command_words.specs.Values.{split_of, flat_split_of, run_split_of, measure_split_of};
-ghost use Rattle.command_plans.specs.CommandLine.{command_judged, flat_judged, gen_judged, run_judged, run_of, unless_none, source_of, auto_of, making_judged, terms_judged, terms_with, init_of};
+ghost use Rattle.command_plans.specs.CommandLine.{command_judged, flat_judged, gen_judged, run_judged, run_of, unless_none, source_of, auto_of, bursts_of, making_judged, terms_judged, terms_with, init_of};
 ghost use Rattle.command_plans.specs.Words.{IsRead, HasTerms, HasModuleNames, IsInRange, command_of, source_value, run_value};
 
 use crate::refusal::{Refusal, Word};
@@ -77,8 +77,10 @@ pub struct Terms<'a> {
 pub enum Source<'a> {
     /// The harts in turn.
     Rounds,
-    /// Drawn behind a number.
+    /// Drawn after a number.
     Auto(u64),
+    /// Bursts of one hart, drawn after a number.
+    Bursts(u64),
     /// The text of a file.
     Text(&'a str),
 }
@@ -178,8 +180,11 @@ pub fn source_of(word: &str) -> Option<Source<'_>>
     if word == "none" {
         return Some(Source::Rounds);
     }
-    match word.strip_prefix("auto:") {
-        Some(number) => auto_of(number),
+    if let Some(number) = word.strip_prefix("auto:") {
+        return auto_of(number);
+    }
+    match word.strip_prefix("bursts:") {
+        Some(number) => bursts_of(number),
         None => Some(Source::Text(word)),
     }
 }
@@ -189,6 +194,15 @@ fn auto_of(number: &str) -> Option<Source<'_>>
 {
     match number_within(number.as_bytes(), 0, u64::MAX) {
         Some(number) => Some(Source::Auto(number)),
+        None => None,
+    }
+}
+
+fn bursts_of(number: &str) -> Option<Source<'_>>
+    ensures { option_map source_value result ≡ bursts_of number.now }
+{
+    match number_within(number.as_bytes(), 0, u64::MAX) {
+        Some(number) => Some(Source::Bursts(number)),
         None => None,
     }
 }

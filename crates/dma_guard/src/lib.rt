@@ -2,9 +2,11 @@
 #![tactic(auto)]
 
 ghost use Rattle.std.specs.Prelude.{◌≡◌, ◌+◌, ◌<◌, ◌≤◌, ◌%◌, length, replicate, slice_set, IfOk, true};
-ghost use Rattle.processor.specs.Bytes.{page_size};
+ghost use Rattle.processor.specs.Bytes.{low_bytes, page_size};
+ghost use Rattle.sv_types.specs.Schedule.{poke_size};
+ghost use Rattle.reference.specs.Attacker.{poke_move};
 ghost use Rattle.reference.specs.Disk.{is_writable};
-ghost use Rattle.dma_guard.specs.Transfers.{write_answer, after_write, read_answer, after_read};
+ghost use Rattle.dma_guard.specs.Transfers.{write_answer, after_write, read_answer, after_read, beat_of, after_move};
 
 mod port;
 
@@ -13,6 +15,9 @@ pub use port::{Beaten, DiskPort};
 use processor::PAGE_SIZE;
 use std::alloc::{AllocError, Global};
 use std::marker::Model;
+
+/// The bytes that one write of an attacker's device moves.
+const POKE_BYTES: u64 = 8;
 
 /// Why a device's access to memory is refused.
 #[derive(Clone, Copy, Debug, Drop)]
@@ -79,6 +84,25 @@ impl DmaGuard {
         Ok(())
     }
 
+    /// A write of an attacker's device: eight bytes, little-endian. Nothing moves where the address is no multiple of 8.
+    #[tactic(auto, unfolding(reference::specs::Attacker::poke_move, crate::specs::Transfers::write_answer, crate::specs::Transfers::after_write))]
+    pub fn poke(&self, mem: &mut HostMem, gpa: u64, value: u64) -> Beaten
+        ensures told { result ≡ beat_of (poke_move mem.old.ram (is_writable self.now) gpa value) }
+        ensures memory { mem.new ≡ after_move mem.old (poke_move mem.old.ram (is_writable self.now) gpa value) }
+    {
+        if gpa % POKE_BYTES != 0 {
+            return Beaten::Range;
+        }
+        match self.write(mem, gpa, &low_8(value)) {
+            Ok(()) => Beaten::Wrote {
+                gpa,
+                len: POKE_BYTES as u32,
+            },
+            Err(DmaRefused::Protected { page: _ }) => Beaten::Denied { gpa },
+            Err(DmaRefused::OutOfRam) => Beaten::Range,
+        }
+    }
+
     /// Reads bytes from a guest-physical address on, as many as there is room for. Every page of RAM may be read.
     #[tactic(auto, unfolding(crate::specs::Transfers::read_answer, crate::specs::Transfers::after_read))]
     pub fn read(&self, mem: &HostMem, gpa: u64, into: &mut [u8]) -> Result<(), DmaRefused>
@@ -91,4 +115,11 @@ impl DmaGuard {
         into.copy_from_slice(&mem.ram()[place..place + into.len()]);
         Ok(())
     }
+}
+
+// The eight bytes of a number, the lowest first.
+fn low_8(value: u64) -> [u8; 8]
+    ensures { result ≡ low_bytes poke_size value }
+{
+    value.to_le_bytes()
 }

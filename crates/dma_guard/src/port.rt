@@ -7,7 +7,7 @@ ghost use Rattle.dma_guard.specs.Transfers.{beat_of, after_move};
 use crate::DmaGuard;
 use host_mem::HostMem;
 
-/// What a beat did.
+/// What a beat did, or a write of an attacker's device.
 #[derive(Clone, Copy, PartialEq, Eq, Drop)]
 pub enum Beaten {
     /// Nothing: no transfer is under way.

@@ -127,5 +127,6 @@ pub fn run<O: Sink>(
                 run_in_rows(machine, auto, events, out)
             }
         }
+        Source::Bursts(bursts) => run_in_rows(machine, bursts, events, out),
     }
 }

@@ -9,7 +9,7 @@ use Rattle.policy.specs.Refusals.{Judged}
 use Rattle.policy.specs.Text.{rules_of_text}
 use Rattle.outside.specs.Outside.{FilesState}
 use Rattle.script.specs.AutoScripts.{events_of_text, first_refused}
-use Rattle.command_plans.specs.CommandLine.{Source, Rounds, Auto, Text}
+use Rattle.command_plans.specs.CommandLine.{Source, Rounds, Auto, Bursts, Text}
 use Rattle.command_plans.specs.Plans.{Due, Refuse, RunFrom, Make, Found, Faulty, Missing, Longer, Held, Plan, End, Read, Judge, found_plan, read_part, policy_judged, policy_part, part_judged, kernel_part, image_part, disk_refusal, disk_part, text_part, script_part}
 use Rattle.command_plans.specs.Reading.{FoundAs, Follows}
 use Rattle.command_plans.specs.declared.file_fault.FileFault.{FileFault}
@@ -90,5 +90,6 @@ pub script_runs : (makes : Type 0) (P : State → Type 0) (harts : ℕ) (source 
 unfolding script_part text_part
 script_runs makes P harts Rounds next k = k _
 script_runs makes P harts (Auto number) next k = k _
+script_runs makes P harts (Bursts number) next k = k _
 script_runs makes P harts (Text name) next k =
     part_runs makes P Part.Script name _ _ (λ bytes short. judged_runs makes P FileFault.ScriptLine (next (Schedule.Listed (events_of_text harts bytes))) (first_refused bytes) (λ none. k _))

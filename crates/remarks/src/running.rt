@@ -155,5 +155,5 @@ fn line_refused(alloc: Global, name: &str, line: u64) -> Found {
 
 // Whether a script's word names no file.
 fn is_no_file(name: &str) -> bool {
-    name == "none" || name.starts_with("auto:")
+    name == "none" || name.starts_with("auto:") || name.starts_with("bursts:")
 }

@@ -12,7 +12,7 @@ use Rattle.snapshot_form.specs.declared.refusal.SnapRefusal.{SnapRefusal}
 use Rattle.snapshot_form.specs.declared.refusal.SnapRefusal.TheVariants.{TooLong}
 use Rattle.resumption.specs.ResumedStates.{resumed_state}
 use Rattle.resumption.specs.declared.refusal.ResumeRefusal.{ResumeRefusal}
-use Rattle.command_plans.specs.CommandLine.{Source, Rounds, Auto, Text}
+use Rattle.command_plans.specs.CommandLine.{Source, Rounds, Auto, Bursts, Text}
 use Rattle.secvisor_cli.specs.DueIn.{due_in}
 use Rattle.command_plans.specs.Plans.{RunFrom, Plan, Judge, most_policy_bytes, most_script_bytes, part_judged, policy_judged, policy_part, script_part, text_part}
 use Rattle.command_plans.specs.declared.file_fault.FileFault.{FileFault}
@@ -64,6 +64,7 @@ module _ (held : List ℕ → Option (List ℕ)) where
   unfolding script_part
   script_due Rounds harts script next is = ap (λ (s : Schedule). due_in held (next s)) (sym is)
   script_due (Auto number) harts script next is = ap (λ (s : Schedule). due_in held (next s)) (sym is)
+  script_due (Bursts number) harts script next is = ap (λ (s : Schedule). due_in held (next s)) (sym is)
   script_due (Text name) harts script next it = text_due name harts script next it
 
   words_due : (words : ResumeWords) (s : Contents) (rules : Rules) (script : Schedule) → HoldResumable held words s rules script →

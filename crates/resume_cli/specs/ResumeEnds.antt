@@ -10,7 +10,7 @@ use Rattle.snapshot_form.specs.Snapshots.{Contents, snapshot_read}
 use Rattle.resumption.specs.Judgements.{resume_refusal}
 use Rattle.resumption.specs.ResumedStates.{resumed_state}
 use Rattle.secvisor_cli.specs.Answers.{Outside, Headline}
-use Rattle.command_plans.specs.CommandLine.{Source, Rounds, Auto, Text}
+use Rattle.command_plans.specs.CommandLine.{Source, Rounds, Auto, Bursts, Text}
 use Rattle.secvisor_cli.specs.DueIn.{AreReadWhole, EndsAs}
 use Rattle.command_plans.specs.Plans.{most_policy_bytes, most_script_bytes}
 use Rattle.resume_cli.specs.ResumePlans.{resume_plan}
@@ -36,6 +36,7 @@ pub record HoldText (held : List ℕ → Option (List ℕ)) (name : List ℕ) (h
 abbrev pub HoldScript : (held : List ℕ → Option (List ℕ)) → Source → (harts : ℕ) → Schedule → Type 0
 HoldScript held Rounds harts script = script ≡ Schedule.Rounds harts 0
 HoldScript held (Auto number) harts script = script ≡ Schedule.Auto harts number
+HoldScript held (Bursts number) harts script = script ≡ Schedule.Bursts harts 0 0 number
 HoldScript held (Text name) harts script = HoldText held name harts script
 
 -- The names of the words hold a snapshot, a policy and a script, each in its range, and the policy doesn't refuse the snapshot.

@@ -4,6 +4,7 @@ ghost use Rattle.std.specs.Prelude.{◌≡◌, ◌<◌, ◌≤◌, IfSome, optio
 ghost use Rattle.sv_types.specs.Schedule.{Schedule, next_event};
 ghost use Rattle.script.specs.Runs.{BeginsWith};
 
+use crate::burst::Bursts;
 use crate::event_run::EventRun;
 use crate::listed::Listed;
 use crate::schedules::{Auto, Rounds, Weave};
@@ -50,6 +51,15 @@ impl EventSource for Weave {
 
 impl EventSource for Auto {
     ghost schedule = { λ auto. auto };
+
+    #[inline(always)]
+    fn draw(&mut self, most: u64) -> Option<EventRun> {
+        Some(self.next_run(most))
+    }
+}
+
+impl EventSource for Bursts {
+    ghost schedule = { λ bursts. bursts };
 
     #[inline(always)]
     fn draw(&mut self, most: u64) -> Option<EventRun> {

@@ -32,7 +32,7 @@ How secvisor is used:
   KERNEL, IMAGE   an ELF image for RV64IMA, linked, at most 64 MiB
   POLICY, IN   what measure made, or a text like it; POLICY also what convert made
   DISK         the disk's bytes, whole sectors of 512, or none for an empty disk
-  SCRIPT       a script of events, none for the harts in turn, or auto:K for a drawn order
+  SCRIPT       a script of events, none for the harts in turn, auto:K or bursts:K for a drawn order
   EVENTS       the most events, 0 to 4294967296; with live to 4294950912, beside the keys
   RAM          pages of 4096 bytes, 16 to 262144
   HARTS        1 to 4

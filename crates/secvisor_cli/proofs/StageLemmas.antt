@@ -27,7 +27,7 @@ use Rattle.command_plans.specs.declared.refusal.Refusal.TheVariants.{File, Measu
 use Rattle.secvisor_cli.specs.declared.ready.Ready.{Ready}
 use Rattle.secvisor_cli.specs.declared.ready.Stop.{Stop}
 use Rattle.secvisor_cli.specs.declared.ready.Stop.TheVariants.{Refused, Memory}
-use Rattle.command_plans.specs.CommandLine.{Command, RunWords, Rounds, Auto, Text}
+use Rattle.command_plans.specs.CommandLine.{Command, RunWords, Rounds, Auto, Bursts, Text}
 use Rattle.command_plans.specs.Plans.{Due, Refuse, RunFrom, Plan, End, Judge, Held, found_plan, read_part, most_policy_bytes, most_script_bytes, policy_judged, policy_part, part_judged, kernel_part, disk_refusal, disk_part, text_part, script_part, image_measure, boot_judged, boot_plan, command_plan, plan_of, start_with}
 use Rattle.command_plans.specs.Reading.{FoundAs, Follows, MayFollow}
 use Rattle.secvisor_cli.specs.Ready.{PartRead, stop_of, IsReady, Prepares, Passes, Staged, MayStage, IsPolicy, IsKernel, IsScript}
@@ -183,6 +183,14 @@ rounds_pass harts script files is = record {
 pub auto_pass : (harts number : ℕ) (script : Schedule) (files : FilesState) → script ≡ Schedule.Auto harts number → Passes (script_part harts (Auto number)) script files files
 unfolding script_part
 auto_pass harts number script files is = record {
+  follows = λ next last reached follows. subst (λ (s : Schedule). Follows (next s) files last reached) is follows;
+  may = λ next may. subst (λ (s : Schedule). MayFollow (next s) files) (sym is) may;
+  faults = refl;
+}
+
+pub bursts_pass : (harts number : ℕ) (script : Schedule) (files : FilesState) → script ≡ Schedule.Bursts harts 0 0 number → Passes (script_part harts (Bursts number)) script files files
+unfolding script_part
+bursts_pass harts number script files is = record {
   follows = λ next last reached follows. subst (λ (s : Schedule). Follows (next s) files last reached) is follows;
   may = λ next may. subst (λ (s : Schedule). MayFollow (next s) files) (sym is) may;
   faults = refl;

@@ -26,7 +26,7 @@ use elf64_load::{ElfRefusal, KernelImage, read_kernel};
 use machine::{BootRefusal, Machine, SECTOR_BYTES};
 use outside::Files;
 use policy::PolicyRefusal;
-use script::{Script, ScriptRefusal, auto, rounds};
+use script::{Script, ScriptRefusal, auto, bursts, rounds};
 use std::alloc::Global;
 use std::thread::Threads;
 use sv_types::Policy;
@@ -202,6 +202,7 @@ pub fn read_script<F: Files>(
     match source {
         Source::Rounds => Ok(rounds(harts)),
         Source::Auto(number) => Ok(auto(*number, harts)),
+        Source::Bursts(number) => Ok(bursts(*number, harts)),
         Source::Text(name) => read_text(alloc, name, harts, files),
     }
 }

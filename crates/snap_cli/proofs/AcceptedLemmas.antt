@@ -15,7 +15,7 @@ use Rattle.reference.specs.States.{State, has_number}
 use Rattle.script.specs.AutoScripts.{events_of_text, first_refused}
 use Rattle.command_words.specs.Commands.{RunSplit, has_dash, shape_split, split_words}
 use Rattle.command_words.specs.declared.command.DiskKind.{DiskKind}
-use Rattle.command_plans.specs.CommandLine.{RunWords, Source, Rounds, Auto, Text, judgement_of_words, run_words, source_of, split_judged, unless_none}
+use Rattle.command_plans.specs.CommandLine.{RunWords, Source, Rounds, Auto, Bursts, Text, judgement_of_words, run_words, source_of, split_judged, unless_none}
 use Rattle.secvisor_cli.specs.DueIn.{due_in}
 use Rattle.command_plans.specs.Plans.{Due, Refuse, RunFrom, Make, Plan, Found, Faulty, Missing, Longer, Held, boot_judged, boot_plan, command_plan, disk_part, disk_refusal, found_plan, image_measure, image_plan, kernel_part, part_judged, plan_of, policy_judged, policy_part, run_plan, script_part, start_with, text_part}
 use Rattle.command_plans.specs.declared.file_fault.FileFault.{FileFault}
@@ -67,6 +67,7 @@ module _ (held : List ℕ → Option (List ℕ)) (save : Option (List ℕ)) wher
   unfolding script_part text_part
   script_same harts Rounds other next same = same (Schedule.Rounds harts 0)
   script_same harts (Auto number) other next same = same (Schedule.Auto harts number)
+  script_same harts (Bursts number) other next same = same (Schedule.Bursts harts 0 0 number)
   script_same harts (Text name) other next same =
       found_same Part.Script _ _ _ (λ bytes. part_same FileFault.ScriptLine (other (Schedule.Listed (events_of_text harts bytes)))
       (next (Schedule.Listed (events_of_text harts bytes))) (first_refused bytes) (same (Schedule.Listed (events_of_text harts bytes))))

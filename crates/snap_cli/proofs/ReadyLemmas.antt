@@ -15,7 +15,7 @@ use Rattle.policy.specs.Refusals.{Judged}
 use Rattle.policy.specs.Text.{rules_of_text}
 use Rattle.script.specs.AutoScripts.{events_of_text, first_refused}
 use Rattle.resume_laws.specs.DiskKinds.{is_block_disk}
-use Rattle.command_plans.specs.CommandLine.{RunWords, Source, Rounds, Auto, Text}
+use Rattle.command_plans.specs.CommandLine.{RunWords, Source, Rounds, Auto, Bursts, Text}
 use Rattle.command_plans.specs.Plans.{Due, Refuse, RunFrom, Make, Plan, End, Read, Judge, Found, Faulty, Missing, Longer, Held, found_plan, policy_judged, policy_part, part_judged, kernel_part, disk_refusal, disk_part, text_part, script_part, image_measure, start_with, boot_judged, boot_plan, image_plan, run_plan}
 use Rattle.command_plans.specs.Reading.{Follows}
 use Rattle.secvisor_cli.specs.Ready.{IsReadyWhere, Prepares}
@@ -92,6 +92,7 @@ script_due : (harts : ℕ) (source : Source) (next : Schedule → Plan) → ((sc
 unfolding script_part text_part
 script_due harts Rounds next each = each _
 script_due harts (Auto number) next each = each _
+script_due harts (Bursts number) next each = each _
 script_due harts (Text name) next each =
     found_due Part.Script _ (λ bytes. part_due FileFault.ScriptLine (next (Schedule.Listed (events_of_text harts bytes))) (first_refused bytes) (each _))
 

@@ -40,3 +40,14 @@ pub fn address_of(text: &str) -> Option<u64>
         None => None,
     }
 }
+
+/// The same for a text's bytes. None where they are no text.
+#[tactic(auto, using(crate::proofs::AddressBytes::no_address))]
+pub fn address_of_bytes(bytes: &[u8]) -> Option<u64>
+    ensures { result ≡ spec.address_of bytes.now }
+{
+    match str::from_utf8(bytes) {
+        Ok(text) => address_of(text),
+        Err(_) => None,
+    }
+}

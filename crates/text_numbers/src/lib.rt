@@ -6,7 +6,7 @@ mod decimals;
 mod digests;
 mod printed;
 
-pub use addresses::address_of;
+pub use addresses::{address_of, address_of_bytes};
 pub use decimals::number_within;
 pub use digests::digest_of;
 pub use printed::{address_text, digest_text};

@@ -33,3 +33,8 @@ pub returns-else-is_of_several-2-clause-all : goal.returns-else-is_of_several-2-
 returns-else-is_of_several-2-clause-all g c =
     subst (λ (s : Schedule). OnOk c.run_in_rows-else-is_of_several-2.result (HasRunAll c.args.machine.now (first_events c.args.events s) c.run_in_rows-else-is_of_several-2.new.machine (g.O.Sink.state c.args.out.now) (g.O.Sink.state c.run_in_rows-else-is_of_several-2.new.out)))
     (sym (ap schedule_of c.in-Auto.is) ∙ c.into_source.ensures) c.run_in_rows-else-is_of_several-2.ensures.all
+
+pub returns-in-Bursts-clause-all : goal.returns-in-Bursts-clause-all
+returns-in-Bursts-clause-all g c =
+    subst (λ (s : Schedule). OnOk c.run_in_rows-in-Bursts.result (HasRunAll c.args.machine.now (first_events c.args.events s) c.run_in_rows-in-Bursts.new.machine (g.O.Sink.state c.args.out.now) (g.O.Sink.state c.run_in_rows-in-Bursts.new.out)))
+    (sym (ap schedule_of c.in-Bursts.is) ∙ c.into_source.ensures) c.run_in_rows-in-Bursts.ensures.all

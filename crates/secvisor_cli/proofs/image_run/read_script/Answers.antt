@@ -4,7 +4,7 @@ use Rattle.command_plans.specs.declared.words.Source.{Source as Named}
 use Rattle.command_plans.specs.Plans.{script_part}
 use Rattle.secvisor_cli.specs.Ready.{Passes, Staged, MayStage}
 use Rattle.command_plans.specs.Words.{source_value}
-use Rattle.secvisor_cli.proofs.StageLemmas.{rounds_pass, auto_pass, text_may, text_source}
+use Rattle.secvisor_cli.proofs.StageLemmas.{rounds_pass, auto_pass, bursts_pass, text_may, text_source}
 use Rattle.secvisor_cli.proofs.image_run.read_script.Goals as goal
 
 pub returns-in-Rounds-clause-stage : goal.returns-in-Rounds-clause-stage
@@ -16,6 +16,11 @@ pub returns-in-Auto-clause-stage : goal.returns-in-Auto-clause-stage
 returns-in-Auto-clause-stage g c =
     subst (λ (s : Named). Passes (script_part c.args.harts (source_value s)) c.auto.result (g.F.Files.state c.args.files.now) (g.F.Files.state c.args.files.now)) (sym c.in-Auto.is)
     (auto_pass c.args.harts _ c.auto.result _ c.auto.ensures)
+
+pub returns-in-Bursts-clause-stage : goal.returns-in-Bursts-clause-stage
+returns-in-Bursts-clause-stage g c =
+    subst (λ (s : Named). Passes (script_part c.args.harts (source_value s)) c.bursts.result (g.F.Files.state c.args.files.now) (g.F.Files.state c.args.files.now)) (sym c.in-Bursts.is)
+    (bursts_pass c.args.harts _ c.bursts.result _ c.bursts.ensures)
 
 pub read_text-requires-clause-permitted : goal.read_text-requires-clause-permitted
 read_text-requires-clause-permitted g c =

@@ -1,11 +1,10 @@
 use Rattle.std.proofs.Common.{◌≤◌, ◌-◌}
-use Rattle.sv_types.specs.declared.event.Event.TheVariants.{Turn}
-use Rattle.script.specs.Runs.{Draws}
-use Rattle.script.proofs.schedules.Auto.draw_turns.Given as goal
+use Rattle.script.specs.TurnNumbers.{DrawTurns}
+use Rattle.script.proofs.drawn.turns_ahead.Given as goal
 
 abbrev pub invariant-turns : goal.invariant-turns
 invariant-turns l = record {
-  draws : Draws l.count (Turn l.hart) l.initial.self l.self;
+  turns : DrawTurns l.count l.number l.last;
   few : l.count ≤ l.most;
 }
 
