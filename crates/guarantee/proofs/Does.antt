@@ -129,7 +129,8 @@ pub page_kept : (q : State) (place : ℕ) (bytes : List ℕ) (page : ℕ) → In
 page_kept q place bytes page free e =
     page_elsewhere q.ram bytes place page free.page free.inside free.first free.last (apart page free.page (other_page q page free.page e free.free free.unheld))
 
-pub does_write : (writes : ℕ → Type 0) (reasons : Leaving → Type 0) (q : State) (h : ℕ) (hart : Hart) (next : State) (x : Hart) (place : ℕ) (bytes : List ℕ) → IsMoving q h hart → InFreePage q place bytes
+pub does_write : (writes : ℕ → Type 0) (reasons : Leaving → Type 0) (q : State) (h : ℕ) (hart : Hart) (next : State) (x : Hart) (place : ℕ) (bytes : List ℕ) → IsMoving q h hart
+    → InFreePage q place bytes
     → next.ram ≡ overwrite q.ram place bytes → next.harts ≡ map (hart_after_write place (length bytes)) (slice_set q.harts h x)
     → x.mode ≡ hart.mode → x.started ≡ hart.started → next.journal.verdict ≡ Running → Does writes reasons q h hart next
 does_write writes reasons q h hart next x place bytes at free ram harts mode started running = record {
@@ -154,7 +155,8 @@ pub choose_does : (writes : ℕ → Type 0) (reasons : Leaving → Type 0) (q : 
 choose_does writes reasons q h hart true x y s t = s
 choose_does writes reasons q h hart false x y s t = t
 
-pub decide_does : (writes : ℕ → Type 0) (reasons : Leaving → Type 0) (q : State) (h : ℕ) (hart : Hart) (b : Bool) (x y : State) → (b ≡ true → Does writes reasons q h hart x) → (b ≡ false → Does writes reasons q h hart y)
+pub decide_does : (writes : ℕ → Type 0) (reasons : Leaving → Type 0) (q : State) (h : ℕ) (hart : Hart) (b : Bool) (x y : State) → (b ≡ true → Does writes reasons q h hart x)
+    → (b ≡ false → Does writes reasons q h hart y)
     → Does writes reasons q h hart (if b then x else y)
 decide_does writes reasons q h hart true x y s t = s refl
 decide_does writes reasons q h hart false x y s t = t refl
@@ -164,14 +166,16 @@ ends_for first second q h hart next f (GoesOn on) = GoesOn on
 ends_for first second q h hart next f (StopsAtEntry interrupt cause user other same) = StopsAtEntry interrupt cause user other same
 ends_for first second q h hart next f (StopsAtWrite left gpa at same) = StopsAtWrite left gpa (f gpa at) same
 
-own_for : (first second : Leaving → Type 0) (q : State) (h : ℕ) (hart : Hart) (next : State) (after : Hart) → ((x : Leaving) → first x → second x) → Own first q h hart next after → Own second q h hart next after
+own_for : (first second : Leaving → Type 0) (q : State) (h : ℕ) (hart : Hart) (next : State) (after : Hart) → ((x : Leaving) → first x → second x) → Own first q h hart next after
+    → Own second q h hart next after
 own_for first second q h hart next after f (Same mode started) = Same mode started
 own_for first second q h hart next after f (Entered interrupt cause tval user permitted same all) = Entered interrupt cause tval user permitted same all
 own_for first second q h hart next after f (Returned why user same) = Returned (f Returning why) user same
 own_for first second q h hart next after f (Demoted gpa why same all) = Demoted gpa (f (Demoting gpa) why) same all
 own_for first second q h hart next after f (Halted stopped) = Halted stopped
 
-pub does_for : (first second : ℕ → Type 0) (why because : Leaving → Type 0) (q : State) (h : ℕ) (hart : Hart) (next : State) → ((gpa : ℕ) → first gpa → second gpa) → ((x : Leaving) → why x → because x)
+pub does_for : (first second : ℕ → Type 0) (why because : Leaving → Type 0) (q : State) (h : ℕ) (hart : Hart) (next : State) → ((gpa : ℕ) → first gpa → second gpa)
+    → ((x : Leaving) → why x → because x)
     → Does first why q h hart next → Does second because q h hart next
 does_for first second why because q h hart next f g d = record {
   bytes = d.bytes;
@@ -220,7 +224,8 @@ nothing_left : (q : State) (h : ℕ) (hart : Hart) → IsMoving q h hart → har
 nothing_left q h hart at user =
     ap (λ (l : List Hart). record q { harts = l }) (ap (slice_set q.harts h) (same_outside q h hart at user) ∙ set_same q.harts h hart at.found)
 
-own_left : (reasons : Leaving → Type 0) (q : State) (h : ℕ) (hart : Hart) (next : State) (after : Hart) → IsMoving q h hart → Own reasons (leave_entry q h hart) h (outside hart) next after → Own reasons q h hart next after
+own_left : (reasons : Leaving → Type 0) (q : State) (h : ℕ) (hart : Hart) (next : State) (after : Hart) → IsMoving q h hart
+    → Own reasons (leave_entry q h hart) h (outside hart) next after → Own reasons q h hart next after
 unfolding hart_at_trap
 own_left reasons q h hart next after at (Same mode started) = Same mode started
 own_left reasons q h hart next after at (Entered interrupt cause tval user permitted same all) =
@@ -240,7 +245,8 @@ ends_left writes q h hart next at (StopsAtWrite false gpa w same) = StopsAtWrite
 ends_left writes q h hart next at (StopsAtWrite true gpa w same) = StopsAtWrite true gpa w
     (same ∙ ap (λ (x : State). stopped_by x h (Write hart.pc gpa)) (left_twice q h hart))
 
-pub does_left : (writes : ℕ → Type 0) (reasons : Leaving → Type 0) (q : State) (h : ℕ) (hart : Hart) (next : State) → IsMoving q h hart → Does writes reasons (leave_entry q h hart) h (outside hart) next
+pub does_left : (writes : ℕ → Type 0) (reasons : Leaving → Type 0) (q : State) (h : ℕ) (hart : Hart) (next : State) → IsMoving q h hart
+    → Does writes reasons (leave_entry q h hart) h (outside hart) next
     → Does writes reasons q h hart next
 unfolding is_protected
 does_left writes reasons q h hart next at d = record {

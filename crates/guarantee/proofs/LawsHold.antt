@@ -253,7 +253,8 @@ protected_bytes_law r e sound = record {
 
 data Becomes (r : State) (e : Event) (h : ℕ) (before : Hart) (next : State) (after : Hart) : Type 0 where
   Rested : (mode : after.mode ≡ before.mode) → (started : after.started ≡ before.started) → Becomes r e h before next after
-  Moved : (turn : e ≡ Turn h) → (at : IsMoving (count r count_turn) h before) → (own : Own (FetchedLeaves (count r count_turn) before) (count r count_turn) h before next after) → Becomes r e h before next after
+  Moved : (turn : e ≡ Turn h) → (at : IsMoving (count r count_turn) h before)
+      → (own : Own (FetchedLeaves (count r count_turn) before) (count r count_turn) h before next after) → Becomes r e h before next after
   Began : (other pc opaque : ℕ) → (turn : e ≡ Turn other) → (apart : (h == other) ≡ false) → (stopped : before.started ≡ false)
       → (permitted : has_number r.rules.entries pc ≡ true) → (same : after ≡ started_hart h pc opaque) → Becomes r e h before next after
 

@@ -68,7 +68,8 @@ trap_does writes reasons q h hart User interrupt cause tval at mode =
     (λ permitted. does_set writes reasons q h hart _ _ at refl refl (Entered interrupt cause tval mode permitted refl (entered_all q h hart interrupt cause tval permitted)) at.running)
     (λ other. does_nothing writes reasons q h hart _ at refl refl (StopsAtEntry interrupt cause mode other refl))
 
-pub exception_does : (writes : ℕ → Type 0) (reasons : Leaving → Type 0) (q : State) (h : ℕ) (hart : Hart) (cause : Cause) (tval : ℕ) → IsMoving q h hart → Does writes reasons q h hart (exception q h hart cause tval)
+pub exception_does : (writes : ℕ → Type 0) (reasons : Leaving → Type 0) (q : State) (h : ℕ) (hart : Hart) (cause : Cause) (tval : ℕ) → IsMoving q h hart
+    → Does writes reasons q h hart (exception q h hart cause tval)
 exception_does writes reasons q h hart cause tval at = trap_does writes reasons q h hart hart.mode false (cause_number cause) tval at refl
 
 return_by : (writes : ℕ → Type 0) (reasons : Leaving → Type 0) (q : State) (h : ℕ) (hart : Hart) (to : Mode) → IsMoving q h hart → hart.mode ≡ Kernel → mode_at_return hart.supervisor.sstatus ≡ to
@@ -77,7 +78,8 @@ unfolding returned_from_trap hart_at_return
 return_by writes reasons q h hart Kernel at kernel mode why = does_set writes reasons q h hart _ _ at refl refl (Same (mode ∙ sym kernel) refl) at.running
 return_by writes reasons q h hart User at kernel mode why = does_set writes reasons q h hart _ _ at refl refl (Returned why mode refl) at.running
 
-demote_does : (writes : ℕ → Type 0) (reasons : Leaving → Type 0) (q : State) (h : ℕ) (hart : Hart) (gpa : ℕ) → IsMoving q h hart → reasons (Demoting gpa) → Does writes reasons q h hart (demote q h hart gpa)
+demote_does : (writes : ℕ → Type 0) (reasons : Leaving → Type 0) (q : State) (h : ℕ) (hart : Hart) (gpa : ℕ) → IsMoving q h hart → reasons (Demoting gpa)
+    → Does writes reasons q h hart (demote q h hart gpa)
 demote_does writes reasons q h hart gpa at why = does_set writes reasons q h hart _ _ at refl refl (Demoted gpa why refl refl) at.running
 
 -- ---- requests
@@ -140,7 +142,8 @@ written_does writes reasons q h hart x gpa width value at mode started whole fre
     does_write writes reasons q h hart _ x (ram_place gpa) (low_bytes width value) at
     (record { page = page.page; free = page.free; unheld = page.unheld; first = page.first; last = page.last; inside = page.inside }) refl refl mode started at.running
 
-guarded_does : (writes : ℕ → Type 0) (reasons : Leaving → Type 0) (q : State) (h : ℕ) (hart : Hart) (gpa : ℕ) → IsMoving q h hart → writes gpa → Does writes reasons q h hart (write_stopped q h hart gpa)
+guarded_does : (writes : ℕ → Type 0) (reasons : Leaving → Type 0) (q : State) (h : ℕ) (hart : Hart) (gpa : ℕ) → IsMoving q h hart → writes gpa
+    → Does writes reasons q h hart (write_stopped q h hart gpa)
 guarded_does writes reasons q h hart gpa at w = does_nothing writes reasons q h hart _ at refl refl (StopsAtWrite false gpa w refl)
 
 store_does : (writes : ℕ → Type 0) (reasons : Leaving → Type 0) (q : State) (h : ℕ) (hart : Hart) (address width value : ℕ) (x : Target) → IsMoving q h hart → IsWidth width → FreeTarget q width x
@@ -152,7 +155,8 @@ store_does writes reasons q h hart address width value (ToRam gpa) at whole free
 store_does writes reasons q h hart address width value (ToDevice gpa) at whole free may =
     device_store_does writes reasons q h hart address (device_store q.devices q.journal gpa width value) at (store_verdict q.devices q.journal gpa width value)
 
-store_conditional_does : (writes : ℕ → Type 0) (reasons : Leaving → Type 0) (q : State) (h : ℕ) (hart : Hart) (rd address width value : ℕ) (x : Target) → IsMoving q h hart → IsWidth width → FreeTarget q width x
+store_conditional_does : (writes : ℕ → Type 0) (reasons : Leaving → Type 0) (q : State) (h : ℕ) (hart : Hart) (rd address width value : ℕ) (x : Target) → IsMoving q h hart
+    → IsWidth width → FreeTarget q width x
     → ((gpa : ℕ) → x ≡ Guarded gpa → writes gpa) → Does writes reasons q h hart (carry_out_store_conditional q h hart rd address width value x)
 unfolding carry_out_store_conditional
 store_conditional_does writes reasons q h hart rd address width value (NoTarget cause) at whole free may = exception_does writes reasons q h hart cause address at
@@ -162,7 +166,8 @@ store_conditional_does writes reasons q h hart rd address width value (ToRam gpa
     (does_set writes reasons q h hart _ _ at refl refl (Same refl refl) at.running)
 store_conditional_does writes reasons q h hart rd address width value (ToDevice gpa) at whole free may = exception_does writes reasons q h hart Cause.StoreAccess address at
 
-amo_does : (writes : ℕ → Type 0) (reasons : Leaving → Type 0) (q : State) (h : ℕ) (hart : Hart) (rd address width : ℕ) (op : AmoOp) (value : ℕ) (x : Target) → IsMoving q h hart → IsWidth width → FreeTarget q width x
+amo_does : (writes : ℕ → Type 0) (reasons : Leaving → Type 0) (q : State) (h : ℕ) (hart : Hart) (rd address width : ℕ) (op : AmoOp) (value : ℕ) (x : Target) → IsMoving q h hart
+    → IsWidth width → FreeTarget q width x
     → ((gpa : ℕ) → x ≡ Guarded gpa → writes gpa) → Does writes reasons q h hart (carry_out_amo q h hart rd address width op value x)
 unfolding carry_out_amo
 amo_does writes reasons q h hart rd address width op value (NoTarget cause) at whole free may = exception_does writes reasons q h hart cause address at
@@ -274,7 +279,8 @@ unfolding journal_beside
 beside_verdict j h ShutsDown on = tt
 beside_verdict j h _ on = subst IsNoStop (sym on) tt
 
-answered_does : (writes : ℕ → Type 0) (reasons : Leaving → Type 0) (q : State) (h : ℕ) (hart : Hart) (a : Answer) → IsMoving q h hart → MayBeside q a.beside → Does writes reasons q h hart (state_after_answer q h hart a)
+answered_does : (writes : ℕ → Type 0) (reasons : Leaving → Type 0) (q : State) (h : ℕ) (hart : Hart) (a : Answer) → IsMoving q h hart → MayBeside q a.beside
+    → Does writes reasons q h hart (state_after_answer q h hart a)
 unfolding state_after_answer
 answered_does writes reasons q h hart a at may = record {
   bytes = λ page e. ap (λ (l : List ℕ). page_bytes l page) (beside_ram q h a.beside);
@@ -290,7 +296,8 @@ call_does writes reasons q h hart at =
 
 -- ---- a load under way
 
-decision_does : (writes : ℕ → Type 0) (reasons : Leaving → Type 0) (q : State) (h : ℕ) (hart : Hart) (load : Loading) → IsMoving q h hart → q.loading ≡ Some load → Does writes reasons q h hart (decide q h hart load.about)
+decision_does : (writes : ℕ → Type 0) (reasons : Leaving → Type 0) (q : State) (h : ℕ) (hart : Hart) (load : Loading) → IsMoving q h hart → q.loading ≡ Some load
+    → Does writes reasons q h hart (decide q h hart load.about)
 unfolding decide
 decision_does writes reasons q h hart load at under =
     let good : Bool = is_good q.rules q.ram load.about (slice_get q.rules.modules load.about.id) in
@@ -305,7 +312,8 @@ load_step_does writes reasons q h hart load (suc left) at under = does_nothing w
 
 -- ---- words
 
-illegal_does : (writes : ℕ → Type 0) (reasons : Leaving → Type 0) (q : State) (h : ℕ) (hart : Hart) (w : ℕ) (mode : Mode) → IsMoving q h hart → Does writes reasons q h hart (carry_out_kernel_only q h hart w mode)
+illegal_does : (writes : ℕ → Type 0) (reasons : Leaving → Type 0) (q : State) (h : ℕ) (hart : Hart) (w : ℕ) (mode : Mode) → IsMoving q h hart
+    → Does writes reasons q h hart (carry_out_kernel_only q h hart w mode)
 unfolding carry_out_kernel_only
 illegal_does writes reasons q h hart w Kernel at = does_set writes reasons q h hart _ _ at refl refl (Same refl refl) at.running
 illegal_does writes reasons q h hart w User at = exception_does writes reasons q h hart Cause.Illegal w at
@@ -315,7 +323,8 @@ unfolding carry_out_ecall
 ecall_does writes reasons q h hart Kernel at = call_does writes reasons q h hart at
 ecall_does writes reasons q h hart User at = exception_does writes reasons q h hart Cause.UserCall 0 at
 
-sret_does : (writes : ℕ → Type 0) (reasons : Leaving → Type 0) (q : State) (h : ℕ) (hart : Hart) (w : ℕ) (mode : Mode) → IsMoving q h hart → hart.mode ≡ mode → reasons Returning → Does writes reasons q h hart (carry_out_sret q h hart w mode)
+sret_does : (writes : ℕ → Type 0) (reasons : Leaving → Type 0) (q : State) (h : ℕ) (hart : Hart) (w : ℕ) (mode : Mode) → IsMoving q h hart → hart.mode ≡ mode → reasons Returning
+    → Does writes reasons q h hart (carry_out_sret q h hart w mode)
 unfolding carry_out_sret
 sret_does writes reasons q h hart w Kernel at mode why = return_by writes reasons q h hart (mode_at_return hart.supervisor.sstatus) at mode refl why
 sret_does writes reasons q h hart w User at mode why = exception_does writes reasons q h hart Cause.Illegal w at

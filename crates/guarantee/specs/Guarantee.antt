@@ -168,7 +168,8 @@ pub data Enters (r : State) (e : Event) (h : ℕ) (before after : Hart) : Type 0
   ByTrap : (k : TrapsIn r h) → e ≡ Event.Turn h → k.hart ≡ before → before.mode ≡ Mode.User →
       after ≡ hart_at_trap r.rules before Mode.User k.interrupt k.cause k.tval → Enters r e h before after
   -- another hart starts it, in its own turn
-  ByStart : (other opaque : ℕ) → e ≡ Event.Turn other → (h == other) ≡ false → before.started ≡ false → after ≡ started_hart h after.pc opaque → Enters r e h before after
+  ByStart : (other opaque : ℕ) → e ≡ Event.Turn other → (h == other) ≡ false → before.started ≡ false →
+      after ≡ started_hart h after.pc opaque → Enters r e h before after
 
 -- what follows such a trap where entries are bound says `EntryLaw`
 abbrev pub EntersRight : State → Type 0
@@ -181,7 +182,8 @@ EntriesLaw = (s r : State) → IsReached s r → EntersRight r
 pub data Leaves (r next : State) (h : ℕ) (before after : Hart) : Type 0 where
   ByReturn : (w : ℕ) → fetch_of r before ≡ Word w → effect_of_word w before ≡ Some Effect.Sret →
       mode_at_return before.supervisor.sstatus ≡ Mode.User → after ≡ hart_at_return before → Leaves r next h before after
-  ByDemotion : (gpa : ℕ) → (Strays (count r count_turn) before gpa ⊎ IsOutOfPlace (count r count_turn) before gpa) → next ≡ demote (count r count_turn) h before gpa → Leaves r next h before after
+  ByDemotion : (gpa : ℕ) → (Strays (count r count_turn) before gpa ⊎ IsOutOfPlace (count r count_turn) before gpa) →
+      next ≡ demote (count r count_turn) h before gpa → Leaves r next h before after
   ByStop : after.started ≡ false → Leaves r next h before after
 
 abbrev pub LeavesRight : State → Type 0

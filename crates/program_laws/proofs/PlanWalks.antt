@@ -62,7 +62,8 @@ part_runs makes P part name limit next k Missing short = tt
 part_runs makes P part name limit next k Longer short = tt
 part_runs makes P part name limit next k (Held bytes) short = k bytes short
 
-pub judged_runs : (makes : Type 0) (P : State → Type 0) {F : Type 0} (file_fault : F → FileFault) (next : Plan) (x : Option F) → (x ≡ None → Runs makes P next) → Runs makes P (part_judged file_fault next x)
+pub judged_runs : (makes : Type 0) (P : State → Type 0) {F : Type 0} (file_fault : F → FileFault) (next : Plan) (x : Option F) → (x ≡ None → Runs makes P next)
+    → Runs makes P (part_judged file_fault next x)
 judged_runs makes P file_fault next None k = k refl
 judged_runs makes P file_fault next (Some fault) k = tt
 
@@ -75,7 +76,8 @@ unfolding policy_part
 policy_runs makes P name next k =
     part_runs makes P Part.Policy name _ _ (λ bytes short. rules_run makes P next (rules_of_text bytes) (λ rules is. k rules (text_good bytes rules is)))
 
-pub image_runs : (makes : Type 0) (P : State → Type 0) (rules : Rules) (name : List ℕ) (next : List ℕ → Plan) → ((file : List ℕ) → kernel_refusal file rules.ram_pages ≡ None → Runs makes P (next file))
+pub image_runs : (makes : Type 0) (P : State → Type 0) (rules : Rules) (name : List ℕ) (next : List ℕ → Plan)
+    → ((file : List ℕ) → kernel_refusal file rules.ram_pages ≡ None → Runs makes P (next file))
     → Runs makes P (image_part rules name next)
 unfolding kernel_part
 image_runs makes P rules name next k =
@@ -86,7 +88,8 @@ unfolding disk_part
 disk_runs makes P None next k = k []
 disk_runs makes P (Some name) next k = part_runs makes P Part.Disk name _ _ (λ bytes short. judged_runs makes P (λ fault. fault) (next bytes) (disk_refusal bytes) (λ none. k bytes))
 
-pub script_runs : (makes : Type 0) (P : State → Type 0) (harts : ℕ) (source : Source) (next : Schedule → Plan) → ((schedule : Schedule) → Runs makes P (next schedule)) → Runs makes P (script_part harts source next)
+pub script_runs : (makes : Type 0) (P : State → Type 0) (harts : ℕ) (source : Source) (next : Schedule → Plan) → ((schedule : Schedule) → Runs makes P (next schedule))
+    → Runs makes P (script_part harts source next)
 unfolding script_part text_part
 script_runs makes P harts Rounds next k = k _
 script_runs makes P harts (Auto number) next k = k _

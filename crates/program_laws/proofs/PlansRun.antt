@@ -113,7 +113,8 @@ made_runs : {A : Type 0} (part : Part) (name : List ℕ) (limit : ℕ) (judge : 
 unfolding made_part
 made_runs part name limit judge next k = part_runs (Unit {0}) IsMeasuredStart part name limit _ (λ bytes short. made_runs_by (next bytes) (judge bytes) (k bytes))
 
-modules_run : (names : List (List ℕ)) (before : Modules) (next : Modules → Plan) → ((modules : Modules) → Runs (Unit {0}) IsMeasuredStart (next modules)) → Runs (Unit {0}) IsMeasuredStart (modules_part names before next)
+modules_run : (names : List (List ℕ)) (before : Modules) (next : Modules → Plan) → ((modules : Modules) → Runs (Unit {0}) IsMeasuredStart (next modules))
+    → Runs (Unit {0}) IsMeasuredStart (modules_part names before next)
 unfolding module_part
 modules_run [] before next k = k before
 modules_run (name ∷ names) before next k =
@@ -132,7 +133,8 @@ converted_runs out (Err fault) = tt
 convert_runs : (words : ConvertSplit) → Runs (Unit {0}) IsMeasuredStart (convert_plan words)
 unfolding convert_plan binding_plan bound_plan
 convert_runs words =
-    policy_runs (Unit {0}) IsMeasuredStart words.given _ (λ rules good. image_runs (Unit {0}) IsMeasuredStart rules words.kernel _ (λ file accepted. converted_runs words.out (bound_rules rules (kernel_segments file))))
+    policy_runs (Unit {0}) IsMeasuredStart words.given _ (λ rules good. image_runs (Unit {0}) IsMeasuredStart rules words.kernel _
+    (λ file accepted. converted_runs words.out (bound_rules rules (kernel_segments file))))
 
 -- ---- all commands
 
