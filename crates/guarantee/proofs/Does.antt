@@ -34,16 +34,21 @@ pub record IsMoving (q : State) (h : ℕ) (hart : Hart) : Type 0 where
   pub started : hart.started ≡ true
   pub running : q.journal.verdict ≡ Running
 
+-- how a hart leaves for user mode but by stopping, each for reasons of its own
+pub data Leaving : Type 0 where
+  Returning : Leaving
+  Demoting : (gpa : ℕ) → Leaving
+
 -- what becomes of the hart
-pub data Own (returns : Type 0) (q : State) (h : ℕ) (hart : Hart) (next : State) (after : Hart) : Type 0 where
-  Same : (mode : after.mode ≡ hart.mode) → (started : after.started ≡ hart.started) → Own returns q h hart next after
+pub data Own (reasons : Leaving → Type 0) (q : State) (h : ℕ) (hart : Hart) (next : State) (after : Hart) : Type 0 where
+  Same : (mode : after.mode ≡ hart.mode) → (started : after.started ≡ hart.started) → Own reasons q h hart next after
   Entered : (interrupt : Bool) → (cause tval : ℕ) → (user : hart.mode ≡ User)
       → (permitted : has_number q.rules.entries (trap_target hart.supervisor.stvec interrupt cause) ≡ true)
       → (same : after ≡ hart_at_trap q.rules hart User interrupt cause tval) → (all : next ≡ trap_from q h hart User interrupt cause tval)
-      → Own returns q h hart next after
-  Returned : (why : returns) → (user : mode_at_return hart.supervisor.sstatus ≡ User) → (same : after ≡ hart_at_return hart) → Own returns q h hart next after
-  Demoted : (gpa : ℕ) → (same : after ≡ in_user_mode hart) → (all : next ≡ demote q h hart gpa) → Own returns q h hart next after
-  Halted : (stopped : after.started ≡ false) → Own returns q h hart next after
+      → Own reasons q h hart next after
+  Returned : (why : reasons Returning) → (user : mode_at_return hart.supervisor.sstatus ≡ User) → (same : after ≡ hart_at_return hart) → Own reasons q h hart next after
+  Demoted : (gpa : ℕ) → (why : reasons (Demoting gpa)) → (same : after ≡ in_user_mode hart) → (all : next ≡ demote q h hart gpa) → Own reasons q h hart next after
+  Halted : (stopped : after.started ≡ false) → Own reasons q h hart next after
 
 -- and of another
 pub data Other (q : State) (k : ℕ) (before after : Hart) : Type 0 where
@@ -64,9 +69,9 @@ pub data Ends (writes : ℕ → Type 0) (q : State) (h : ℕ) (hart : Hart) (nex
       → (same : next ≡ stopped_by q h (Entry (trap_target hart.supervisor.stvec interrupt cause))) → Ends writes q h hart next
   StopsAtWrite : (left : Bool) → (gpa : ℕ) → (at : writes gpa) → (same : next ≡ stopped_by (after_going left q h hart) h (Write hart.pc gpa)) → Ends writes q h hart next
 
-pub record Does (writes : ℕ → Type 0) (returns : Type 0) (q : State) (h : ℕ) (hart : Hart) (next : State) : Type 0 where
+pub record Does (writes : ℕ → Type 0) (reasons : Leaving → Type 0) (q : State) (h : ℕ) (hart : Hart) (next : State) : Type 0 where
   pub bytes : (page : ℕ) → is_protected q page ≡ true → page_bytes next.ram page ≡ page_bytes q.ram page
-  pub own : (after : Hart) → slice_get next.harts h ≡ Some after → Own returns q h hart next after
+  pub own : (after : Hart) → slice_get next.harts h ≡ Some after → Own reasons q h hart next after
   pub others : (k : ℕ) (before after : Hart) → (k ≡ h → ⊥) → slice_get q.harts k ≡ Some before → slice_get next.harts k ≡ Some after → Other q k before after
   pub ends : Ends writes q h hart next
 
@@ -82,25 +87,25 @@ pub rests_other : (q : State) (k : ℕ) (before after : Hart) → before ≡ aft
 rests_other q k before after same = subst (Other q k before) same (Rests refl refl)
 
 -- nobody moves
-pub does_nothing : (writes : ℕ → Type 0) (returns : Type 0) (q : State) (h : ℕ) (hart : Hart) (next : State) → IsMoving q h hart → next.ram ≡ q.ram → next.harts ≡ q.harts
-    → Ends writes q h hart next → Does writes returns q h hart next
-does_nothing writes returns q h hart next at ram harts ends = record {
+pub does_nothing : (writes : ℕ → Type 0) (reasons : Leaving → Type 0) (q : State) (h : ℕ) (hart : Hart) (next : State) → IsMoving q h hart → next.ram ≡ q.ram → next.harts ≡ q.harts
+    → Ends writes q h hart next → Does writes reasons q h hart next
+does_nothing writes reasons q h hart next at ram harts ends = record {
   bytes = λ page e. ap (λ (x : List ℕ). page_bytes x page) ram;
   own = λ after e. let same : hart ≡ after = same_one (slice_get q.harts h) hart after at.found (sym (ap (λ (l : List Hart). slice_get l h) harts) ∙ e) in
-      subst (Own returns q h hart next) same (Same refl refl);
+      subst (Own reasons q h hart next) same (Same refl refl);
   others = λ k before after other was e. rests_other q k before after
       (same_one (slice_get q.harts k) before after was (sym (ap (λ (l : List Hart). slice_get l k) harts) ∙ e));
   ends = ends;
 }
 
 -- the hart is another one
-pub does_set : (writes : ℕ → Type 0) (returns : Type 0) (q : State) (h : ℕ) (hart : Hart) (next : State) (x : Hart) → IsMoving q h hart → next.ram ≡ q.ram
-    → next.harts ≡ slice_set q.harts h x → Own returns q h hart next x → next.journal.verdict ≡ Running → Does writes returns q h hart next
-does_set writes returns q h hart next x at ram harts own running = record {
+pub does_set : (writes : ℕ → Type 0) (reasons : Leaving → Type 0) (q : State) (h : ℕ) (hart : Hart) (next : State) (x : Hart) → IsMoving q h hart → next.ram ≡ q.ram
+    → next.harts ≡ slice_set q.harts h x → Own reasons q h hart next x → next.journal.verdict ≡ Running → Does writes reasons q h hart next
+does_set writes reasons q h hart next x at ram harts own running = record {
   bytes = λ page e. ap (λ (l : List ℕ). page_bytes l page) ram;
   own = λ after e. let same : x ≡ after = same_one (slice_get next.harts h) x after
       (ap (λ (l : List Hart). slice_get l h) harts ∙ get_back q.harts h hart x at.found) e in
-      subst (Own returns q h hart next) same own;
+      subst (Own reasons q h hart next) same own;
   others = λ k before after other was e. rests_other q k before after
       (same_one (slice_get next.harts k) before after (ap (λ (l : List Hart). slice_get l k) harts ∙ set_other q.harts h k x other ∙ was) e);
   ends = GoesOn (no_stop next.journal.verdict running);
@@ -124,16 +129,17 @@ pub page_kept : (q : State) (place : ℕ) (bytes : List ℕ) (page : ℕ) → In
 page_kept q place bytes page free e =
     page_elsewhere q.ram bytes place page free.page free.inside free.first free.last (apart page free.page (other_page q page free.page e free.free free.unheld))
 
-pub does_write : (writes : ℕ → Type 0) (returns : Type 0) (q : State) (h : ℕ) (hart : Hart) (next : State) (x : Hart) (place : ℕ) (bytes : List ℕ) → IsMoving q h hart → InFreePage q place bytes
+pub does_write : (writes : ℕ → Type 0) (reasons : Leaving → Type 0) (q : State) (h : ℕ) (hart : Hart) (next : State) (x : Hart) (place : ℕ) (bytes : List ℕ) → IsMoving q h hart
+    → InFreePage q place bytes
     → next.ram ≡ overwrite q.ram place bytes → next.harts ≡ map (hart_after_write place (length bytes)) (slice_set q.harts h x)
-    → x.mode ≡ hart.mode → x.started ≡ hart.started → next.journal.verdict ≡ Running → Does writes returns q h hart next
-does_write writes returns q h hart next x place bytes at free ram harts mode started running = record {
+    → x.mode ≡ hart.mode → x.started ≡ hart.started → next.journal.verdict ≡ Running → Does writes reasons q h hart next
+does_write writes reasons q h hart next x place bytes at free ram harts mode started running = record {
   bytes = λ page e. ap (λ (l : List ℕ). page_bytes l page) ram
       ∙ page_kept q place bytes page free e;
   own = λ after e. let same : hart_after_write place (length bytes) x ≡ after = same_one (slice_get next.harts h) _ after
       (ap (λ (l : List Hart). slice_get l h) harts ∙ slice_get-map (hart_after_write place (length bytes)) (slice_set q.harts h x) h
       ∙ ap (option_map (hart_after_write place (length bytes))) (get_back q.harts h hart x at.found)) e in
-      subst (Own returns q h hart next) same (Same mode started);
+      subst (Own reasons q h hart next) same (Same mode started);
   others = λ k before after other was e.
       let same : hart_after_write place (length bytes) before ≡ after = same_one (slice_get next.harts k) _ after
       (ap (λ (l : List Hart). slice_get l k) harts ∙ slice_get-map (hart_after_write place (length bytes)) (slice_set q.harts h x) k
@@ -144,29 +150,32 @@ does_write writes returns q h hart next x place bytes at free ram harts mode sta
 
 -- ---- the choice, and the same by other writes
 
-pub choose_does : (writes : ℕ → Type 0) (returns : Type 0) (q : State) (h : ℕ) (hart : Hart) (b : Bool) (x y : State) → Does writes returns q h hart x → Does writes returns q h hart y
-    → Does writes returns q h hart (if b then x else y)
-choose_does writes returns q h hart true x y s t = s
-choose_does writes returns q h hart false x y s t = t
+pub choose_does : (writes : ℕ → Type 0) (reasons : Leaving → Type 0) (q : State) (h : ℕ) (hart : Hart) (b : Bool) (x y : State) → Does writes reasons q h hart x → Does writes reasons q h hart y
+    → Does writes reasons q h hart (if b then x else y)
+choose_does writes reasons q h hart true x y s t = s
+choose_does writes reasons q h hart false x y s t = t
 
-pub decide_does : (writes : ℕ → Type 0) (returns : Type 0) (q : State) (h : ℕ) (hart : Hart) (b : Bool) (x y : State) → (b ≡ true → Does writes returns q h hart x) → (b ≡ false → Does writes returns q h hart y)
-    → Does writes returns q h hart (if b then x else y)
-decide_does writes returns q h hart true x y s t = s refl
-decide_does writes returns q h hart false x y s t = t refl
+pub decide_does : (writes : ℕ → Type 0) (reasons : Leaving → Type 0) (q : State) (h : ℕ) (hart : Hart) (b : Bool) (x y : State) → (b ≡ true → Does writes reasons q h hart x)
+    → (b ≡ false → Does writes reasons q h hart y)
+    → Does writes reasons q h hart (if b then x else y)
+decide_does writes reasons q h hart true x y s t = s refl
+decide_does writes reasons q h hart false x y s t = t refl
 
 ends_for : (first second : ℕ → Type 0) (q : State) (h : ℕ) (hart : Hart) (next : State) → ((gpa : ℕ) → first gpa → second gpa) → Ends first q h hart next → Ends second q h hart next
 ends_for first second q h hart next f (GoesOn on) = GoesOn on
 ends_for first second q h hart next f (StopsAtEntry interrupt cause user other same) = StopsAtEntry interrupt cause user other same
 ends_for first second q h hart next f (StopsAtWrite left gpa at same) = StopsAtWrite left gpa (f gpa at) same
 
-own_for : (first second : Type 0) (q : State) (h : ℕ) (hart : Hart) (next : State) (after : Hart) → (first → second) → Own first q h hart next after → Own second q h hart next after
+own_for : (first second : Leaving → Type 0) (q : State) (h : ℕ) (hart : Hart) (next : State) (after : Hart) → ((x : Leaving) → first x → second x) → Own first q h hart next after
+    → Own second q h hart next after
 own_for first second q h hart next after f (Same mode started) = Same mode started
 own_for first second q h hart next after f (Entered interrupt cause tval user permitted same all) = Entered interrupt cause tval user permitted same all
-own_for first second q h hart next after f (Returned why user same) = Returned (f why) user same
-own_for first second q h hart next after f (Demoted gpa same all) = Demoted gpa same all
+own_for first second q h hart next after f (Returned why user same) = Returned (f Returning why) user same
+own_for first second q h hart next after f (Demoted gpa why same all) = Demoted gpa (f (Demoting gpa) why) same all
 own_for first second q h hart next after f (Halted stopped) = Halted stopped
 
-pub does_for : (first second : ℕ → Type 0) (why because : Type 0) (q : State) (h : ℕ) (hart : Hart) (next : State) → ((gpa : ℕ) → first gpa → second gpa) → (why → because)
+pub does_for : (first second : ℕ → Type 0) (why because : Leaving → Type 0) (q : State) (h : ℕ) (hart : Hart) (next : State) → ((gpa : ℕ) → first gpa → second gpa)
+    → ((x : Leaving) → why x → because x)
     → Does first why q h hart next → Does second because q h hart next
 does_for first second why because q h hart next f g d = record {
   bytes = d.bytes;
@@ -215,16 +224,17 @@ nothing_left : (q : State) (h : ℕ) (hart : Hart) → IsMoving q h hart → har
 nothing_left q h hart at user =
     ap (λ (l : List Hart). record q { harts = l }) (ap (slice_set q.harts h) (same_outside q h hart at user) ∙ set_same q.harts h hart at.found)
 
-own_left : (returns : Type 0) (q : State) (h : ℕ) (hart : Hart) (next : State) (after : Hart) → IsMoving q h hart → Own returns (leave_entry q h hart) h (outside hart) next after → Own returns q h hart next after
+own_left : (reasons : Leaving → Type 0) (q : State) (h : ℕ) (hart : Hart) (next : State) (after : Hart) → IsMoving q h hart
+    → Own reasons (leave_entry q h hart) h (outside hart) next after → Own reasons q h hart next after
 unfolding hart_at_trap
-own_left returns q h hart next after at (Same mode started) = Same mode started
-own_left returns q h hart next after at (Entered interrupt cause tval user permitted same all) =
+own_left reasons q h hart next after at (Same mode started) = Same mode started
+own_left reasons q h hart next after at (Entered interrupt cause tval user permitted same all) =
     Entered interrupt cause tval user permitted same
     (all ∙ ap (λ (x : State). trap_from x h (outside hart) User interrupt cause tval) (nothing_left q h hart at user)
     ∙ ap (λ (x : Hart). trap_from q h x User interrupt cause tval) (same_outside q h hart at user))
-own_left returns q h hart next after at (Returned why user same) = Returned why user (same ∙ return_left hart user)
-own_left returns q h hart next after at (Demoted gpa same all) = Demoted gpa same (all ∙ demote_left q h hart gpa)
-own_left returns q h hart next after at (Halted stopped) = Halted stopped
+own_left reasons q h hart next after at (Returned why user same) = Returned why user (same ∙ return_left hart user)
+own_left reasons q h hart next after at (Demoted gpa why same all) = Demoted gpa why same (all ∙ demote_left q h hart gpa)
+own_left reasons q h hart next after at (Halted stopped) = Halted stopped
 
 ends_left : (writes : ℕ → Type 0) (q : State) (h : ℕ) (hart : Hart) (next : State) → IsMoving q h hart → Ends writes (leave_entry q h hart) h (outside hart) next
     → Ends writes q h hart next
@@ -235,12 +245,13 @@ ends_left writes q h hart next at (StopsAtWrite false gpa w same) = StopsAtWrite
 ends_left writes q h hart next at (StopsAtWrite true gpa w same) = StopsAtWrite true gpa w
     (same ∙ ap (λ (x : State). stopped_by x h (Write hart.pc gpa)) (left_twice q h hart))
 
-pub does_left : (writes : ℕ → Type 0) (returns : Type 0) (q : State) (h : ℕ) (hart : Hart) (next : State) → IsMoving q h hart → Does writes returns (leave_entry q h hart) h (outside hart) next
-    → Does writes returns q h hart next
+pub does_left : (writes : ℕ → Type 0) (reasons : Leaving → Type 0) (q : State) (h : ℕ) (hart : Hart) (next : State) → IsMoving q h hart
+    → Does writes reasons (leave_entry q h hart) h (outside hart) next
+    → Does writes reasons q h hart next
 unfolding is_protected
-does_left writes returns q h hart next at d = record {
+does_left writes reasons q h hart next at d = record {
   bytes = λ page e. d.bytes page e;
-  own = λ after e. own_left returns q h hart next after at (d.own after e);
+  own = λ after e. own_left reasons q h hart next after at (d.own after e);
   others = λ k before after other was e. other_left q h hart k before after
       (d.others k before after other (set_other q.harts h k (outside hart) other ∙ was) e);
   ends = ends_left writes q h hart next at d.ends;

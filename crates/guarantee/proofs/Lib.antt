@@ -5,3 +5,6 @@ pub mod ReachedHolds
 pub mod TurnCases
 pub mod LawsHold
 pub mod StopsHold
+pub mod StraysAt
+pub mod Digests
+pub mod GuardedHolds

@@ -1,5 +1,5 @@
 -- Each state that a run reaches is what the guarantee is about.
-use Rattle.std.proofs.Common.{◌≡◌, ℕ, inl, inr, sym, ◌∙◌, ap, slice_get}
+use Rattle.std.proofs.Common.{◌≡◌, ℕ, List, [], inl, inr, sym, ◌∙◌, ap, slice_get}
 use Rattle.std.specs.Prelude.{Option, Some, None, ◌==◌}
 use Rattle.std.proofs.lemmas.Bool.{eqb-true, cases_Bool}
 use Rattle.processor.specs.declared.mode.Mode.{Mode}
@@ -10,19 +10,22 @@ use Rattle.run_laws.proofs.OthersRest.{same_one}
 use Rattle.run_laws.proofs.StateLawsHold.{reached_sound, modules_law}
 use Rattle.resume_laws.specs.Keepable.{IsKeepableLoad}
 use Rattle.resume_laws.proofs.KeepableStarts.{keepable_law}
-use Rattle.resume_laws.proofs.ResumedSoundHolds.{resumed_goes_on_law}
-use Rattle.guarantee.specs.Reached.{ReachedLaw}
+use Rattle.resume_laws.proofs.ResumedHolds.{resumed_law}
+use Rattle.sv_types.specs.declared.event.Event.{Event}
+use Rattle.reference.specs.Run.{run}
+use Rattle.reference.specs.Soundness.{IsSound}
+use Rattle.guarantee.specs.Reached.{HasDigests, ReachedLaw}
+use Rattle.guarantee.proofs.Digests.{start_digests}
+
+kept_digests : (s : State) (events : List Event) → IsSound s → HasDigests s → HasDigests (run s events)
+kept_digests s events sound k = (k.0, (resumed_law s events sound).digests k.0 k.1)
 
 pub reached_law : ReachedLaw
-reached_law = record {
-  starts = λ s events is_start. record {
-    sound = reached_sound s events is_start;
-    origins = modules_law s events is_start;
-    load = (keepable_law s events is_start).load;
-  };
-  resumes = λ rules c events within words has none.
-      let k = resumed_goes_on_law rules c events within words has none in
-      record { sound = k.goes.sound; origins = k.goes.origins; load = k.keepable.load };
+reached_law s events is_start measured = record {
+  sound = reached_sound s events is_start;
+  origins = modules_law s events is_start;
+  digests = kept_digests s events (reached_sound s [] is_start) (start_digests s measured);
+  load = (keepable_law s events is_start).load;
 }
 
 -- ---- a load is no hart's in user mode

@@ -12,7 +12,7 @@ use Rattle.processor.specs.Requests.{Writes}
 use Rattle.processor.specs.Traps.{trap_target, interrupt_number, deliverable}
 use Rattle.processor.specs.declared.effect.Effect.{Effect}
 use Rattle.sv_types.specs.declared.event.Event.{Event}
-use Rattle.sv_types.specs.declared.event.Event.TheVariants.{Turn, Beat, Key, Tick}
+use Rattle.sv_types.specs.declared.event.Event.TheVariants.{Turn, Beat, Key, Tick, Poke}
 use Rattle.sv_types.specs.declared.event.Rule.{Rule}
 use Rattle.sv_types.specs.declared.event.Rule.TheVariants.{Entry, Write}
 use Rattle.sv_types.specs.declared.event.Verdict.{Verdict}
@@ -24,7 +24,8 @@ use Rattle.processor.specs.declared.mode.Mode.{Mode}
 use Rattle.processor.specs.declared.mode.Mode.TheVariants.{Kernel, User}
 use Rattle.reference.specs.Answers.{state_after_answer}
 use Rattle.reference.specs.Counting.{count, with_count, count_dropped, count_turn, count_beat, count_key, stopped_by}
-use Rattle.reference.specs.Devices.{beat, key, tick, lines_at, with_disk, with_bytes, after_move}
+use Rattle.reference.specs.Devices.{may_move_to, beat, poke, key, tick, lines_at, with_disk, with_bytes, after_move}
+use Rattle.reference.specs.Attacker.{poke_move}
 use Rattle.reference.specs.Disk.{Beaten, disk_beat}
 use Rattle.reference.specs.Loads.{decide, is_good, load_step, load_step_of}
 use Rattle.reference.specs.ModuleCalls.{load_decision}
@@ -32,7 +33,7 @@ use Rattle.reference.specs.Move.{Move, Idle, FromRam, IntoRam, DeniedAt, Outside
 use Rattle.reference.specs.Requests.{Guarded, target_of, carry_out_store, carry_out_store_conditional, carry_out_amo}
 use Rattle.reference.specs.Run.{step, happen}
 use Rattle.reference.specs.Soundness.{IsSound}
-use Rattle.reference.specs.States.{State, Hart, Disk, Loading, has_number, is_protected}
+use Rattle.reference.specs.States.{State, Hart, Loading, has_number, is_protected}
 use Rattle.reference.specs.Trapping.{trap_from, trap_entered}
 use Rattle.reference.specs.Turn.{going_hart, after_going, Fetched, NoWord, Word, fetch_of, turn_of_started, carry_out_word, carry_out_instruction, carry_out_effect}
 use Rattle.attempt_laws.specs.Agree.{IsNotLoading}
@@ -274,17 +275,21 @@ turn_stops r k rule h at s on verdict = elim (moves (count r count_turn) k (coun
 
 -- ---- other events
 
-move_verdict : (q : State) (disk : Disk) (x : Move) → (after_move (with_disk q disk) x).journal.verdict ≡ q.journal.verdict
+move_verdict : (q : State) (x : Move) → (after_move q x).journal.verdict ≡ q.journal.verdict
 unfolding after_move with_bytes
-move_verdict q disk Idle = refl
-move_verdict q disk (FromRam gpa) = refl
-move_verdict q disk (IntoRam gpa bytes) = refl
-move_verdict q disk (DeniedAt gpa) = refl
-move_verdict q disk OutsideRam = refl
+move_verdict q Idle = refl
+move_verdict q (FromRam gpa) = refl
+move_verdict q (IntoRam gpa bytes) = refl
+move_verdict q (DeniedAt gpa) = refl
+move_verdict q OutsideRam = refl
 
 beat_verdict : (q : State) → (beat q).journal.verdict ≡ q.journal.verdict
 unfolding beat
-beat_verdict q = let b : Beaten = disk_beat q.devices.disk q.ram (λ page. not (is_protected q page)) in move_verdict q b.disk b.move
+beat_verdict q = let b : Beaten = disk_beat q.devices.disk q.ram (λ page. not (is_protected q page)) in move_verdict (with_disk q b.disk) b.move
+
+poke_verdict : (q : State) (gpa value : ℕ) → (poke q gpa value).journal.verdict ≡ q.journal.verdict
+unfolding poke
+poke_verdict q gpa value = move_verdict q (poke_move q.ram (λ page. may_move_to q page) gpa value)
 
 key_verdict : (q : State) (byte : ℕ) → (key q byte).journal.verdict ≡ q.journal.verdict
 unfolding key
@@ -301,6 +306,7 @@ event_stops r (Turn k) rule h at s on same verdict = turn_stops r k rule h at s 
 event_stops r Beat rule h at s on same verdict = absurd (still_runs _ rule h at (beat_verdict (count r count_beat) ∙ on) verdict)
 event_stops r (Key byte) rule h at s on same verdict = absurd (still_runs _ rule h at (key_verdict (count r count_key) byte ∙ on) verdict)
 event_stops r (Tick n) rule h at s on same verdict = absurd (still_runs _ rule h at on verdict)
+event_stops r (Poke gpa value) rule h at s on same verdict = absurd (still_runs _ rule h at (poke_verdict (count r count_beat) gpa value ∙ on) verdict)
 
 only_there : (r : State) (e : Event) (rule : Rule) (h at : ℕ) → IsSound r → r.journal.verdict ≡ Running
     → (step r e).journal.verdict ≡ Stopped rule h at → StopsRight r e h
@@ -308,4 +314,8 @@ only_there r e rule h at sound on verdict =
     event_stops r e rule h at sound on (runs_on r e on) (sym (ap (λ (x : State). x.journal.verdict) (runs_on r e on)) ∙ verdict)
 
 pub stops_law : StopsLaw
-stops_law = record { only = only_there; traps = user_trap_stops; writes = write_stops word_stops }
+stops_law = record {
+  only = λ r sound e rule h at on verdict. only_there r e rule h at sound on verdict;
+  traps = λ r sound h hart t k user e other. user_trap_stops r h hart t sound k user e other;
+  writes = write_stops word_stops;
+}

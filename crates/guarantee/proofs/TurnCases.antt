@@ -224,9 +224,9 @@ user_traps r h hart t s k user e =
 
 pub user_turns_law : UserTurnsLaw
 user_turns_law = record {
-  free = λ s r h hart reached found user. user_unloading r h hart r.loading reached.load found user;
-  turns = user_turn;
-  traps = user_traps;
+  free = λ s r reached h hart found user. user_unloading r h hart r.loading reached.load found user;
+  turns = λ r sound h hart k user. user_turn r h hart sound k user;
+  traps = λ r sound h hart t k user e. user_traps r h hart t sound k user e;
 }
 
 -- ---- stops

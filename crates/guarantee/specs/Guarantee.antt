@@ -1,8 +1,9 @@
--- What a guest can't do, whatever it and its devices try: in each law `r` is a sound state. Each that a run reaches is sound and
--- has its origins, from a start and from a snapshot that isn't refused (`ReachedLaw`).
--- This project's own.
-use Rattle.std.specs.Prelude.{◌≡◌, ℕ, ◌+◌, Bool, true, false, List, [], ◌∷◌, ◌==◌, Option, Some, None, slice_get}
+-- What a guest can't do, whatever it, its devices and an attacker's device try: in each law `r` is a sound state. Each that a run
+-- reaches from a measured start is sound and has its origins (`ReachedLaw`). This project's own.
+use Rattle.std.specs.Prelude.{◌≡◌, ◌⊎◌, ℕ, ◌+◌, Bool, true, false, List, [], ◌∷◌, map, ◌==◌, Option, Some, None, slice_get}
 use Rattle.sv_types.specs.ApprovedPages.{approved_bytes}
+use Rattle.sv_types.specs.Measure.{page_digest, joined_digests}
+use Rattle.sv_types.specs.declared.saved.SavedModule.{SavedModule}
 use Rattle.processor.specs.Bytes.{word, in_ram, ram_place, page_bytes, page_of, place_in_page, instruction_size}
 use Rattle.processor.specs.Causes.{cause_number}
 use Rattle.processor.specs.Translation.{At}
@@ -30,8 +31,9 @@ use Rattle.reference.specs.Trapping.{hart_at_trap, hart_at_return, trap_from}
 use Rattle.reference.specs.Turn.{NoWord, Word, after_going, bound_entry, carry_out_word, demote, effect_of_word, fetch_of, going_hart, leads_into, noted_gpa, place_of_pc}
 use Rattle.attempt_laws.specs.Agree.{IsNotLoading}
 use Rattle.run_laws.specs.EntryLaws.{TrapsIn}
-use Rattle.run_laws.specs.StateLaws.{HasOrigin, HasOrigins}
-use Rattle.guarantee.specs.Reached.{IsReached}
+use Rattle.run_laws.specs.StateLaws.{IsText, IsModulePage, HasOrigins}
+use Rattle.snapshot_form.specs.declared.whole.TextPage.{TextPage}
+use Rattle.guarantee.specs.Reached.{HasDigests, IsReached}
 use Rattle.guarantee.specs.UserTraps.{UserTrap, user_trap}
 
 -- ---- how a turn begins; q is the state with the turn counted
@@ -58,16 +60,47 @@ pub record HasTurn (r : State) (h : ℕ) (hart : Hart) : Type 0 where
 
 -- ---- kernel mode
 
--- the word at the hart's pc lies in an approved page, as it was approved, and as RAM has it. The page is the kernel's text as it
--- was at the start, or a part of a loaded module's that measures to the policy's digest with each field right
+-- The bytes of the page in RAM have the digest that stands for the page in a list, which has one for each page that was approved
+-- at boot, in their order, and joins to the policy's digest of the kernel.
+pub record HasItsDigest (r : State) (page : ℕ) : Type 0 where
+  pub digests : List TextPage
+  pub pages : map (λ (t : TextPage). t.page) digests ≡ r.text
+  pub joined : joined_digests (map (λ (t : TextPage). t.digest) digests) ≡ r.rules.kernel
+  pub number : ℕ
+  pub there : slice_get digests number ≡ Some (record { page = page; digest = page_digest (page_bytes r.ram page) })
+
+-- a page of the kernel's text, as it was at the start
+pub record IsMeasuredText (s r : State) (page : ℕ) : Type 0 where
+  pub text : IsText s r page
+  pub measured : HasItsDigest r page
+
+-- the kernel's text that was measured, or a part of a loaded module's that measures to the policy's digest with each field right
+abbrev pub IsMeasuredPage : (s r : State) → (page : ℕ) → Type 0
+IsMeasuredPage s r page = IsMeasuredText s r page ⊎ ((m : SavedModule) × IsModulePage r m page)
+
+-- the word at the hart's pc lies in an approved page, as it was approved, and as RAM has it; and the page was measured
 pub record IsMeasuredWord (s r : State) (hart : Hart) (w : ℕ) : Type 0 where
   pub gpa : ℕ
   pub bytes : List ℕ
   pub place : place_of_pc r hart ≡ At gpa
   pub approved : approved_bytes r.approved (page_of gpa) ≡ Some bytes
   pub kept : page_bytes r.ram (page_of gpa) ≡ bytes
-  pub origin : HasOrigin s r (page_of gpa)
+  pub origin : IsMeasuredPage s r (page_of gpa)
   pub word : w ≡ word bytes (place_in_page gpa) instruction_size
+
+-- why a hart is demoted: its pc leads into RAM, in a page that isn't approved;
+pub record Strays (q : State) (hart : Hart) (gpa : ℕ) : Type 0 where
+  pub leads : place_of_pc q hart ≡ At gpa
+  pub inside : in_ram q.ram gpa instruction_size ≡ true
+  pub unapproved : is_approved_in q.approved (page_of gpa) ≡ false
+
+-- or it stands at its entry's address, and its pc leads elsewhere than into the page that the entry is bound to, which is approved
+pub record IsOutOfPlace (q : State) (hart : Hart) (gpa : ℕ) : Type 0 where
+  pub entry : Binding
+  pub bound : bound_entry q.rules hart.entry ≡ Some entry
+  pub there : hart.pc ≡ entry.va
+  pub away : leads_into q (page_of entry.gpa) (place_of_pc q hart) ≡ false
+  pub noted : gpa ≡ noted_gpa q.ram (place_of_pc q hart)
 
 -- q is r with the turn counted
 pub data KernelTurn (s r q : State) (h : ℕ) (hart : Hart) (next : State) : Type 0 where
@@ -78,19 +111,19 @@ pub data KernelTurn (s r q : State) (h : ℕ) (hart : Hart) (next : State) : Typ
   -- the fetch faults
   Traps : (left : Bool) (cause : Cause) → Fetches q h hart left → fetch_of q hart ≡ NoWord cause →
       next ≡ trap_from (after_going left q h hart) h (going_hart left hart) Mode.Kernel false (cause_number cause) hart.pc → KernelTurn s r q h hart next
-  -- it leaves for user mode, and executes nothing: its pc leads into a page that isn't approved,
-  Demotes : (left : Bool) (gpa : ℕ) → Fetches q h hart left → place_of_pc q hart ≡ At gpa → in_ram q.ram gpa instruction_size ≡ true →
-      is_approved_in q.approved (page_of gpa) ≡ false → next ≡ demote q h hart gpa → KernelTurn s r q h hart next
-  -- or it stands at its entry's address, and its pc leads elsewhere than into the page that the entry is bound to, which is approved
-  DemotesAtEntry : (entry : Binding) → deliverable hart.mode hart.supervisor (lines_at q.devices h) ≡ None → bound_entry q.rules hart.entry ≡ Some entry →
-      hart.pc ≡ entry.va → leads_into q (page_of entry.gpa) (place_of_pc q hart) ≡ false →
-      next ≡ demote q h hart (noted_gpa q.ram (place_of_pc q hart)) → KernelTurn s r q h hart next
+  -- it leaves for user mode, and executes nothing
+  Demotes : (left : Bool) (gpa : ℕ) → Fetches q h hart left → Strays q hart gpa → next ≡ demote q h hart gpa → KernelTurn s r q h hart next
+  DemotesAtEntry : (gpa : ℕ) → deliverable hart.mode hart.supervisor (lines_at q.devices h) ≡ None → IsOutOfPlace q hart gpa →
+      next ≡ demote q h hart gpa → KernelTurn s r q h hart next
   Executes : (left : Bool) (w : ℕ) → Fetches q h hart left → IsMeasuredWord s r hart w →
       next ≡ carry_out_word (after_going left q h hart) h (going_hart left hart) w → KernelTurn s r q h hart next
 
+abbrev pub KernelWords : (s r : State) → Type 0
+KernelWords s r = (h : ℕ) (hart : Hart) → r.journal.verdict ≡ Verdict.Running → slice_get r.harts h ≡ Some hart → in_kernel hart ≡ true →
+    KernelTurn s r (count r count_turn) h hart (step r (Event.Turn h))
+
 abbrev pub KernelWordsLaw : Type 0
-KernelWordsLaw = (s r : State) (h : ℕ) (hart : Hart) → IsSound r → HasOrigins s r → r.journal.verdict ≡ Verdict.Running →
-    slice_get r.harts h ≡ Some hart → in_kernel hart ≡ true → KernelTurn s r (count r count_turn) h hart (step r (Event.Turn h))
+KernelWordsLaw = (s r : State) → IsSound r → HasOrigins s r → HasDigests r → KernelWords s r
 
 -- ---- user mode
 
@@ -110,13 +143,23 @@ pub data UserTurn (q : State) (h : ℕ) (hart : Hart) (next : State) : Type 0 wh
       next ≡ trap_from q h hart Mode.User false (cause_number cause) hart.pc → UserTurn q h hart next
   Carries : (w : ℕ) → Fetches q h hart false → fetch_of q hart ≡ Word w → IsFreeWord q hart w → next ≡ carry_out_word q h hart w → UserTurn q h hart next
 
--- a hart in user mode has no load under way. Its turn is one of these, and where the table of traps says so, it is that trap
+-- a hart in user mode has no load under way
+abbrev pub UsersLoadNothing : State → Type 0
+UsersLoadNothing r = (h : ℕ) (hart : Hart) → slice_get r.harts h ≡ Some hart → hart.mode ≡ Mode.User → IsNotLoading h r.loading
+
+-- its turn is one of these,
+abbrev pub UserTurns : State → Type 0
+UserTurns r = (h : ℕ) (hart : Hart) → HasTurn r h hart → hart.mode ≡ Mode.User → UserTurn (count r count_turn) h hart (step r (Event.Turn h))
+
+-- and where the table of traps says so, it is that trap
+abbrev pub UserTraps : State → Type 0
+UserTraps r = (h : ℕ) (hart : Hart) (t : UserTrap) → HasTurn r h hart → hart.mode ≡ Mode.User → user_trap (count r count_turn) h hart ≡ Some t →
+    step r (Event.Turn h) ≡ trap_from (count r count_turn) h hart Mode.User t.interrupt t.cause t.tval
+
 pub record UserTurnsLaw : Type 0 where
-  pub free : (s r : State) (h : ℕ) (hart : Hart) → IsReached s r → slice_get r.harts h ≡ Some hart → hart.mode ≡ Mode.User → IsNotLoading h r.loading
-  pub turns : (r : State) (h : ℕ) (hart : Hart) → IsSound r → HasTurn r h hart → hart.mode ≡ Mode.User →
-      UserTurn (count r count_turn) h hart (step r (Event.Turn h))
-  pub traps : (r : State) (h : ℕ) (hart : Hart) (t : UserTrap) → IsSound r → HasTurn r h hart → hart.mode ≡ Mode.User →
-      user_trap (count r count_turn) h hart ≡ Some t → step r (Event.Turn h) ≡ trap_from (count r count_turn) h hart Mode.User t.interrupt t.cause t.tval
+  pub free : (s r : State) → IsReached s r → UsersLoadNothing r
+  pub turns : (r : State) → IsSound r → UserTurns r
+  pub traps : (r : State) → IsSound r → UserTraps r
 
 -- ---- into kernel mode and out of it
 
@@ -124,25 +167,33 @@ pub record UserTurnsLaw : Type 0 where
 pub data Enters (r : State) (e : Event) (h : ℕ) (before after : Hart) : Type 0 where
   ByTrap : (k : TrapsIn r h) → e ≡ Event.Turn h → k.hart ≡ before → before.mode ≡ Mode.User →
       after ≡ hart_at_trap r.rules before Mode.User k.interrupt k.cause k.tval → Enters r e h before after
-  -- another hart starts it
-  ByStart : (opaque : ℕ) → before.started ≡ false → after ≡ started_hart h after.pc opaque → Enters r e h before after
+  -- another hart starts it, in its own turn
+  ByStart : (other opaque : ℕ) → e ≡ Event.Turn other → (h == other) ≡ false → before.started ≡ false →
+      after ≡ started_hart h after.pc opaque → Enters r e h before after
 
 -- what follows such a trap where entries are bound says `EntryLaw`
+abbrev pub EntersRight : State → Type 0
+EntersRight r = (e : Event) (h : ℕ) (before after : Hart) → slice_get r.harts h ≡ Some before → slice_get (step r e).harts h ≡ Some after →
+    in_kernel before ≡ false → in_kernel after ≡ true → Enters r e h before after × (has_number r.rules.entries after.pc ≡ true)
+
 abbrev pub EntriesLaw : Type 0
-EntriesLaw = (s r : State) (e : Event) (h : ℕ) (before after : Hart) → IsReached s r →
-    slice_get r.harts h ≡ Some before → slice_get (step r e).harts h ≡ Some after → in_kernel before ≡ false → in_kernel after ≡ true →
-    Enters r e h before after × (has_number r.rules.entries after.pc ≡ true)
+EntriesLaw = (s r : State) → IsReached s r → EntersRight r
 
 pub data Leaves (r next : State) (h : ℕ) (before after : Hart) : Type 0 where
   ByReturn : (w : ℕ) → fetch_of r before ≡ Word w → effect_of_word w before ≡ Some Effect.Sret →
       mode_at_return before.supervisor.sstatus ≡ Mode.User → after ≡ hart_at_return before → Leaves r next h before after
-  ByDemotion : (gpa : ℕ) → next ≡ demote (count r count_turn) h before gpa → Leaves r next h before after
+  ByDemotion : (gpa : ℕ) → (Strays (count r count_turn) before gpa ⊎ IsOutOfPlace (count r count_turn) before gpa) →
+      next ≡ demote (count r count_turn) h before gpa → Leaves r next h before after
   ByStop : after.started ≡ false → Leaves r next h before after
 
+abbrev pub LeavesRight : State → Type 0
+LeavesRight r = (e : Event) (h : ℕ) (before after : Hart) → slice_get r.harts h ≡ Some before → slice_get (step r e).harts h ≡ Some after →
+    in_kernel before ≡ true → in_kernel after ≡ false → Leaves r (step r e) h before after × (e ≡ Event.Turn h)
+
 abbrev pub ExitsLaw : Type 0
-ExitsLaw = (r : State) (e : Event) (h : ℕ) (before after : Hart) → IsSound r →
-    slice_get r.harts h ≡ Some before → slice_get (step r e).harts h ≡ Some after → in_kernel before ≡ true → in_kernel after ≡ false →
-    Leaves r (step r e) h before after × (e ≡ Event.Turn h)
+ExitsLaw = (r : State) → IsSound r → LeavesRight r
+
+-- ---- protected pages
 
 -- where in memory a move goes
 abbrev pub move_gpa : VirtioMove → ℕ
@@ -166,15 +217,25 @@ abbrev pub disk_gpa : Disk → Option ℕ
 disk_gpa (BlockDisk d) = Some (beat_gpa d.block)
 disk_gpa (VirtioDisk d) = request_gpa d.request
 
+-- where in memory an event's device moves, the disk's or an attacker's
+abbrev pub device_gpa : Disk → Event → Option ℕ
+device_gpa disk (Event.Turn h) = None
+device_gpa disk Event.Beat = disk_gpa disk
+device_gpa disk (Event.Key byte) = None
+device_gpa disk (Event.Tick n) = None
+device_gpa disk (Event.Poke gpa value) = Some gpa
+
 -- pages that are held or approved
 pub record KeepsPages (r : State) (e : Event) : Type 0 where
   pub bytes : (page : ℕ) → is_protected r page ≡ true → page_bytes (step r e).ram page ≡ page_bytes r.ram page
   -- a device's move to one changes no byte and no hart
-  pub moves : (gpa : ℕ) → disk_gpa r.devices.disk ≡ Some gpa → is_protected r (page_of gpa) ≡ true →
-      ((step r Event.Beat).ram ≡ r.ram) × ((step r Event.Beat).harts ≡ r.harts)
+  pub moves : (gpa : ℕ) → device_gpa r.devices.disk e ≡ Some gpa → is_protected r (page_of gpa) ≡ true →
+      ((step r e).ram ≡ r.ram) × ((step r e).harts ≡ r.harts)
 
 abbrev pub ProtectedBytesLaw : Type 0
 ProtectedBytesLaw = (r : State) (e : Event) → IsSound r → KeepsPages r e
+
+-- ---- stops
 
 -- a word writes into a protected page
 pub record WritesGuarded (r : State) (hart : Hart) (w gpa : ℕ) : Type 0 where
@@ -211,14 +272,23 @@ pub record StopsBy (r : State) (h : ℕ) (hart : Hart) (left : Bool) (rule : Rul
   pub same : step r (Event.Turn h) ≡ stopped_by (after_going left (count r count_turn) h hart) h rule
   pub verdict : (step r (Event.Turn h)).journal.verdict ≡ Verdict.Stopped rule h (r.journal.counts.turns + 1)
 
--- the machine stops for these two alone; and it does stop at every trap from user mode to another target, and at every word that is
--- carried out and writes into a protected page
+-- the machine stops for these two alone;
+abbrev pub StopsForThese : State → Type 0
+StopsForThese r = (e : Event) (rule : Rule) (h at : ℕ) → r.journal.verdict ≡ Verdict.Running → (step r e).journal.verdict ≡ Verdict.Stopped rule h at →
+    StopsRight r e h
+
+-- and it does stop at every trap from user mode to another target,
+abbrev pub StopsAtTraps : State → Type 0
+StopsAtTraps r = (h : ℕ) (hart : Hart) (t : UserTrap) → HasTurn r h hart → hart.mode ≡ Mode.User → user_trap (count r count_turn) h hart ≡ Some t →
+    has_number r.rules.entries (trap_target hart.supervisor.stvec t.interrupt t.cause) ≡ false →
+    StopsBy r h hart false (Rule.Entry (trap_target hart.supervisor.stvec t.interrupt t.cause))
+
+-- and at every word that is carried out and writes into a protected page
+abbrev pub StopsAtWrites : State → Type 0
+StopsAtWrites r = (h : ℕ) (hart : Hart) (w gpa : ℕ) → (k : CarriesOut r h hart w) → WritesGuarded (count r count_turn) hart w gpa →
+    StopsBy r h hart k.left (Rule.Write hart.pc gpa)
+
 pub record StopsLaw : Type 0 where
-  pub only : (r : State) (e : Event) (rule : Rule) (h at : ℕ) → IsSound r → r.journal.verdict ≡ Verdict.Running →
-      (step r e).journal.verdict ≡ Verdict.Stopped rule h at → StopsRight r e h
-  pub traps : (r : State) (h : ℕ) (hart : Hart) (t : UserTrap) → IsSound r → HasTurn r h hart → hart.mode ≡ Mode.User →
-      user_trap (count r count_turn) h hart ≡ Some t →
-      has_number r.rules.entries (trap_target hart.supervisor.stvec t.interrupt t.cause) ≡ false →
-      StopsBy r h hart false (Rule.Entry (trap_target hart.supervisor.stvec t.interrupt t.cause))
-  pub writes : (r : State) (h : ℕ) (hart : Hart) (w gpa : ℕ) → (k : CarriesOut r h hart w) → WritesGuarded (count r count_turn) hart w gpa →
-      StopsBy r h hart k.left (Rule.Write hart.pc gpa)
+  pub only : (r : State) → IsSound r → StopsForThese r
+  pub traps : (r : State) → IsSound r → StopsAtTraps r
+  pub writes : (r : State) → StopsAtWrites r

@@ -1,3 +1,4 @@
 pub mod UserTraps
 pub mod Reached
 pub mod Guarantee
+pub mod Guarded

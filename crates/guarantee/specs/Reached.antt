@@ -1,25 +1,32 @@
--- Which states the guarantee is about: each that a run reaches, from a start or from a snapshot that isn't refused. This
--- project's own.
-use Rattle.std.specs.Prelude.{◌≡◌, List, true, None, IsTrue}
-use Rattle.sv_types.specs.Policies.{Rules, rules_within}
+-- Which states the guarantee is about: each that a run reaches whose text was measured. This project's own.
+use Rattle.std.specs.Prelude.{◌≡◌, ℕ, List, map}
+use Rattle.processor.specs.Bytes.{page_bytes}
+use Rattle.sv_types.specs.Measure.{page_digest, joined_digests}
 use Rattle.sv_types.specs.declared.event.Event.{Event}
 use Rattle.reference.specs.Run.{run}
 use Rattle.reference.specs.Soundness.{IsSound}
-use Rattle.reference.specs.Start.{AreWords, IsStart}
+use Rattle.reference.specs.Start.{IsStart}
 use Rattle.reference.specs.States.{State}
 use Rattle.run_laws.specs.StateLaws.{HasOrigins}
-use Rattle.snapshot_form.specs.Snapshots.{Contents, snapshot}
-use Rattle.resumption.specs.Judgements.{resume_refusal}
-use Rattle.resumption.specs.ResumedStates.{resumed_state}
+use Rattle.snapshot_form.specs.declared.whole.TextPage.{TextPage}
 use Rattle.resume_laws.specs.Keepable.{IsKeepableLoad}
+use Rattle.resume_laws.specs.Resumed.{KeepsDigests}
 
--- the state is sound, its approved pages come from s, and a load under way is that of a started hart in kernel mode
+-- the text has digests that join to the policy's, and each page that isn't retired has its own
+abbrev pub HasDigests : State → Type 0
+HasDigests r = (kept : List TextPage) × KeepsDigests r kept
+
+-- the state is sound, its approved pages come from s, its text was measured, and a load under way is that of a started hart in
+-- kernel mode
 pub record IsReached (s r : State) : Type 0 where
   pub sound : IsSound r
   pub origins : HasOrigins s r
+  pub digests : HasDigests r
   pub load : IsKeepableLoad r.harts r.loading
 
-pub record ReachedLaw : Type 0 where
-  pub starts : (s : State) (events : List Event) → IsStart s → IsReached s (run s events)
-  pub resumes : (rules : Rules) (c : Contents) (events : List Event) → IsTrue (rules_within rules) → AreWords rules.entries → snapshot.has c ≡ true →
-      resume_refusal rules c ≡ None → IsReached (resumed_state rules c) (run (resumed_state rules c) events)
+-- the digests of the pages that are approved at the start join to the digest that the rules have
+abbrev pub HasMeasuredText : State → Type 0
+HasMeasuredText s = joined_digests (map (λ (page : ℕ). page_digest (page_bytes s.ram page)) s.text) ≡ s.rules.kernel
+
+abbrev pub ReachedLaw : Type 0
+ReachedLaw = (s : State) (events : List Event) → IsStart s → HasMeasuredText s → IsReached s (run s events)

@@ -1,18 +1,13 @@
-//! The guarantee: what a guest can't do, in each state that a run reaches, from a start or from a snapshot, at any next event.
+//! The guarantee: what a guest, its devices and an attacker's device can't do, in each state that a run reaches, at any next event.
 #![tactic(auto)]
 
 ghost use Rattle.guarantee.specs.Guarantee.{EntriesLaw, ExitsLaw, KernelWordsLaw, ProtectedBytesLaw, StopsLaw, UserTurnsLaw};
-ghost use Rattle.guarantee.specs.Reached.{ReachedLaw};
+ghost use Rattle.guarantee.specs.Guarded.{GuardedLaw};
 
 pub use run_laws::law_sound;
 
-/// Each state that a run reaches, from a start or from a snapshot that isn't refused, is sound and has its origins: what the
-/// laws below ask.
-pub fn law_reached()
-    ensures { ReachedLaw }
-{}
-
-/// In kernel mode no word is executed but those that were measured.
+/// In kernel mode no word is executed but those that were measured: of the kernel's text, by digests that join to the policy's, and of
+/// loaded modules.
 pub fn law_kernel_words()
     ensures { KernelWordsLaw }
 {}
@@ -33,7 +28,8 @@ pub fn law_exits()
     ensures { ExitsLaw }
 {}
 
-/// No event changes a byte of a page that was held or approved before it, and a device's move to one changes nothing.
+/// No event changes a byte of a page that was held or approved before it; where a device's move leads to one, the disk's or an
+/// attacker's, RAM and harts stay.
 pub fn law_protected_bytes()
     ensures { ProtectedBytesLaw }
 {}
@@ -42,4 +38,9 @@ pub fn law_protected_bytes()
 /// out writes into a protected page. Then the verdict says where, and nothing else is changed.
 pub fn law_stops()
     ensures { StopsLaw }
+{}
+
+/// All of these in each such state.
+pub fn law_guarded()
+    ensures { GuardedLaw }
 {}

@@ -12,14 +12,13 @@ use Rattle.command_plans.specs.Reading.{Follows}
 use Rattle.guarantee.specs.Reached.{IsReached}
 use Rattle.guarantee.proofs.ReachedHolds.{reached_law}
 use Rattle.program_laws.specs.GuaranteedLaw.{GuaranteedLaw}
-use Rattle.program_laws.specs.ResumeLaw.{IsResumedStart}
-use Rattle.program_laws.proofs.PlansRun.{program_law}
+use Rattle.program_laws.specs.Starts.{IsMeasuredStart}
+use Rattle.program_laws.proofs.PlansRun.{starts_law}
 use Rattle.program_laws.proofs.ResumesRun.{resume_law}
 use Rattle.program_laws.proofs.TextMeasured.{measured_law}
 
-resumed_reached : (s : State) (events : List Event) → IsResumedStart s → IsReached s (run s events)
-resumed_reached s events k = subst (λ (x : State). IsReached x (run x events)) (sym k.same)
-    (reached_law.resumes k.rules k.contents events k.within k.words k.spelled k.accepted)
+pub measured_reached : (s : State) (events : List Event) → IsMeasuredStart s → IsReached s (run s events)
+measured_reached s events k = reached_law s events (measured_law.starts s k) (measured_law.text s k)
 
 text_by : (s r : State) (page : ℕ) → IsReached s r → is_kernel_text (ownership r) page ≡ true → HasOrigin s r page → page_bytes r.ram page ≡ page_bytes s.ram page
 text_by s r page reached e (inl text) = reached.sound.text.same page (page_bytes s.ram page) text.bytes
@@ -29,11 +28,11 @@ text_by s r page reached e (inr of) =
 pub guaranteed_law : GuaranteedLaw
 guaranteed_law = record {
   runs = λ asked old read start events save f done.
-      reached_law.starts start done (measured_law.starts start (program_law asked old read start events save f));
+      measured_reached start done (starts_law asked old read start events save f);
   headline = λ asked old new answer start events save k is done.
-      reached_law.starts start done (measured_law.starts start (program_law asked old.files k.read start events save
-      (subst (Follows (plan_of asked) old.files k.read) is k.follows)));
+      measured_reached start done (starts_law asked old.files k.read start events save
+      (subst (Follows (plan_of asked) old.files k.read) is k.follows));
   resumes = λ asked old read start events save holds f done.
-      resumed_reached start done (resume_law.begins asked old read start events save holds f);
+      resume_law.reached start done (resume_law.begins asked old read start events save holds f);
   text = λ s r page reached e. text_by s r page reached e (reached.origins.origin page (reached.sound.pages.text page e));
 }

@@ -4,3 +4,4 @@ pub mod PlansRun
 pub mod TextMeasured
 pub mod ResumesRun
 pub mod Guaranteed
+pub mod ProgramHolds

@@ -18,10 +18,11 @@ use Rattle.program_laws.proofs.PolicyWords.{GoodRules, text_good}
 
 -- ---- plans, whatever is found
 
-abbrev pub DueRuns : (State → Type 0) → Due → Type 0
-DueRuns P (Refuse refusal) = Unit {0}
-DueRuns P (RunFrom start events save) = P start
-DueRuns P (Make name rules line) = Unit {0}
+-- a run has the property, and where a policy is made `makes` holds
+abbrev pub DueRuns : (makes : Type 0) → (State → Type 0) → Due → Type 0
+DueRuns makes P (Refuse refusal) = Unit {0}
+DueRuns makes P (RunFrom start events save) = P start
+DueRuns makes P (Make name rules line) = makes
 
 abbrev IsShort : ℕ → Found → Type 0
 IsShort limit Faulty = Unit {0}
@@ -29,10 +30,10 @@ IsShort limit Missing = Unit {0}
 IsShort limit Longer = Unit {0}
 IsShort limit (Held bytes) = length bytes ≤ limit
 
-abbrev pub Runs : (State → Type 0) → Plan → Type 0
-Runs P (End due) = DueRuns P due
-Runs P (Read name limit next) = (found : Found) → IsShort limit found → Runs P (next found)
-Runs P (Judge next) = Runs P next
+abbrev pub Runs : (makes : Type 0) → (State → Type 0) → Plan → Type 0
+Runs makes P (End due) = DueRuns makes P due
+Runs makes P (Read name limit next) = (found : Found) → IsShort limit found → Runs makes P (next found)
+Runs makes P (Judge next) = Runs makes P next
 
 found_short : (old new : FilesState) (name : List ℕ) (limit : ℕ) (found : Found) → FoundAs old new name limit found → IsShort limit found
 found_short old new name limit Faulty k = tt
@@ -43,52 +44,55 @@ found_short old new name limit (Held bytes) k = k.0
 same_due : (due other : Due) → Some due ≡ Some other → due ≡ other
 same_due due other e = cc
 
-pub followed : (P : State → Type 0) (plan : Plan) (old read : FilesState) (due : Due) → Runs P plan → Follows plan old read (Some due) → DueRuns P due
-followed P (End other) old read due runs f = subst (DueRuns P) (sym (same_due due other f.0)) runs
-followed P (Read name limit next) old read due runs (inl none) = absurd (cc none.0)
-followed P (Read name limit next) old read due runs (inr k) =
-    followed P (next k.0) k.1 read due (runs k.0 (found_short old k.1 name limit k.0 k.2)) k.3
-followed P (Judge next) old read due runs (inl none) = absurd (cc none.0)
-followed P (Judge next) old read due runs (inr k) = followed P next old read due runs k
+pub followed : (makes : Type 0) (P : State → Type 0) (plan : Plan) (old read : FilesState) (due : Due) → Runs makes P plan → Follows plan old read (Some due) → DueRuns makes P due
+followed makes P (End other) old read due runs f = subst (DueRuns makes P) (sym (same_due due other f.0)) runs
+followed makes P (Read name limit next) old read due runs (inl none) = absurd (cc none.0)
+followed makes P (Read name limit next) old read due runs (inr k) =
+    followed makes P (next k.0) k.1 read due (runs k.0 (found_short old k.1 name limit k.0 k.2)) k.3
+followed makes P (Judge next) old read due runs (inl none) = absurd (cc none.0)
+followed makes P (Judge next) old read due runs (inr k) = followed makes P next old read due runs k
 
 -- ---- parts
 
-pub part_runs : (P : State → Type 0) (part : Part) (name : List ℕ) (limit : ℕ) (next : List ℕ → Plan) → ((bytes : List ℕ) → length bytes ≤ limit → Runs P (next bytes))
-    → Runs P (read_part part name limit next)
+pub part_runs : (makes : Type 0) (P : State → Type 0) (part : Part) (name : List ℕ) (limit : ℕ) (next : List ℕ → Plan) → ((bytes : List ℕ) → length bytes ≤ limit → Runs makes P (next bytes))
+    → Runs makes P (read_part part name limit next)
 unfolding found_plan
-part_runs P part name limit next k Faulty short = tt
-part_runs P part name limit next k Missing short = tt
-part_runs P part name limit next k Longer short = tt
-part_runs P part name limit next k (Held bytes) short = k bytes short
+part_runs makes P part name limit next k Faulty short = tt
+part_runs makes P part name limit next k Missing short = tt
+part_runs makes P part name limit next k Longer short = tt
+part_runs makes P part name limit next k (Held bytes) short = k bytes short
 
-pub judged_runs : (P : State → Type 0) {F : Type 0} (file_fault : F → FileFault) (next : Plan) (x : Option F) → (x ≡ None → Runs P next) → Runs P (part_judged file_fault next x)
-judged_runs P file_fault next None k = k refl
-judged_runs P file_fault next (Some fault) k = tt
+pub judged_runs : (makes : Type 0) (P : State → Type 0) {F : Type 0} (file_fault : F → FileFault) (next : Plan) (x : Option F) → (x ≡ None → Runs makes P next)
+    → Runs makes P (part_judged file_fault next x)
+judged_runs makes P file_fault next None k = k refl
+judged_runs makes P file_fault next (Some fault) k = tt
 
-pub rules_run : (P : State → Type 0) (next : Rules → Plan) (x : Judged Rules) → ((rules : Rules) → x ≡ Ok rules → Runs P (next rules)) → Runs P (policy_judged next x)
-rules_run P next (Ok rules) k = k rules refl
-rules_run P next (Err fault) k = tt
+pub rules_run : (makes : Type 0) (P : State → Type 0) (next : Rules → Plan) (x : Judged Rules) → ((rules : Rules) → x ≡ Ok rules → Runs makes P (next rules)) → Runs makes P (policy_judged next x)
+rules_run makes P next (Ok rules) k = k rules refl
+rules_run makes P next (Err fault) k = tt
 
-pub policy_runs : (P : State → Type 0) (name : List ℕ) (next : Rules → Plan) → ((rules : Rules) → GoodRules rules → Runs P (next rules)) → Runs P (policy_part name next)
+pub policy_runs : (makes : Type 0) (P : State → Type 0) (name : List ℕ) (next : Rules → Plan) → ((rules : Rules) → GoodRules rules → Runs makes P (next rules)) → Runs makes P (policy_part name next)
 unfolding policy_part
-policy_runs P name next k =
-    part_runs P Part.Policy name _ _ (λ bytes short. rules_run P next (rules_of_text bytes) (λ rules is. k rules (text_good bytes rules is)))
+policy_runs makes P name next k =
+    part_runs makes P Part.Policy name _ _ (λ bytes short. rules_run makes P next (rules_of_text bytes) (λ rules is. k rules (text_good bytes rules is)))
 
-pub image_runs : (P : State → Type 0) (rules : Rules) (name : List ℕ) (next : List ℕ → Plan) → ((file : List ℕ) → kernel_refusal file rules.ram_pages ≡ None → Runs P (next file))
-    → Runs P (image_part rules name next)
+pub image_runs : (makes : Type 0) (P : State → Type 0) (rules : Rules) (name : List ℕ) (next : List ℕ → Plan)
+    → ((file : List ℕ) → kernel_refusal file rules.ram_pages ≡ None → Runs makes P (next file))
+    → Runs makes P (image_part rules name next)
 unfolding kernel_part
-image_runs P rules name next k =
-    part_runs P Part.Image name _ _ (λ file short. judged_runs P FileFault.Image (next file) (kernel_refusal file rules.ram_pages) (k file))
+image_runs makes P rules name next k =
+    part_runs makes P Part.Image name _ _ (λ file short. judged_runs makes P FileFault.Image (next file) (kernel_refusal file rules.ram_pages) (k file))
 
-pub disk_runs : (P : State → Type 0) (name : Option (List ℕ)) (next : List ℕ → Plan) → ((disk : List ℕ) → Runs P (next disk)) → Runs P (disk_part name next)
+pub disk_runs : (makes : Type 0) (P : State → Type 0) (name : Option (List ℕ)) (next : List ℕ → Plan) → ((disk : List ℕ) → Runs makes P (next disk)) → Runs makes P (disk_part name next)
 unfolding disk_part
-disk_runs P None next k = k []
-disk_runs P (Some name) next k = part_runs P Part.Disk name _ _ (λ bytes short. judged_runs P (λ fault. fault) (next bytes) (disk_refusal bytes) (λ none. k bytes))
+disk_runs makes P None next k = k []
+disk_runs makes P (Some name) next k = part_runs makes P Part.Disk name _ _ (λ bytes short. judged_runs makes P (λ fault. fault) (next bytes) (disk_refusal bytes) (λ none. k bytes))
 
-pub script_runs : (P : State → Type 0) (harts : ℕ) (source : Source) (next : Schedule → Plan) → ((schedule : Schedule) → Runs P (next schedule)) → Runs P (script_part harts source next)
+pub script_runs : (makes : Type 0) (P : State → Type 0) (harts : ℕ) (source : Source) (next : Schedule → Plan) → ((schedule : Schedule) → Runs makes P (next schedule))
+    → Runs makes P (script_part harts source next)
 unfolding script_part text_part
-script_runs P harts Rounds next k = k _
-script_runs P harts (Auto number) next k = k _
-script_runs P harts (Bursts number) next k = k _
-script_runs P harts (Text name) next k =
-    part_runs P Part.Script name _ _ (λ bytes short. judged_runs P FileFault.ScriptLine (next (Schedule.Listed (events_of_text harts bytes))) (first_refused bytes) (λ none. k _))
+script_runs makes P harts Rounds next k = k _
+script_runs makes P harts (Auto number) next k = k _
+script_runs makes P harts (Bursts number) next k = k _
+script_runs makes P harts (Text name) next k =
+    part_runs makes P Part.Script name _ _ (λ bytes short. judged_runs makes P FileFault.ScriptLine (next (Schedule.Listed (events_of_text harts bytes))) (first_refused bytes) (λ none. k _))

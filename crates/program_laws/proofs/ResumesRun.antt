@@ -11,6 +11,8 @@ use Rattle.snapshot_form.specs.Snapshots.{Contents, snapshot, snapshot_read}
 use Rattle.snapshot_form.specs.declared.refusal.SnapRefusal.{SnapRefusal}
 use Rattle.snapshot_form.proofs.SnapshotLaws.{snapshot_law}
 use Rattle.resumption.specs.Judgements.{resume_refusal}
+use Rattle.resumption.specs.ResumedStates.{resumed_state}
+use Rattle.guarantee.specs.Reached.{IsReached}
 use Rattle.resumption.specs.declared.refusal.ResumeRefusal.{ResumeRefusal}
 use Rattle.resume_laws.specs.ResumedSound.{GoesOnFrom}
 use Rattle.resume_laws.proofs.ResumedSoundHolds.{resumed_goes_on_law}
@@ -25,7 +27,7 @@ use Rattle.program_laws.proofs.PolicyWords.{GoodRules}
 use Rattle.program_laws.proofs.PlanWalks.{DueRuns, Runs, followed, policy_runs, script_runs}
 
 due_runs : (rules : Rules) (c : Contents) (events : List Event) (save : Option (List ℕ)) (x : Option ResumeRefusal) → GoodRules rules → snapshot.has c ≡ true
-    → resume_refusal rules c ≡ x → DueRuns IsResumedStart (resumed_due rules c events save x)
+    → resume_refusal rules c ≡ x → DueRuns ⊥ IsResumedStart (resumed_due rules c events save x)
 due_runs rules c events save None good has none = record {
   rules = rules;
   contents = c;
@@ -37,20 +39,20 @@ due_runs rules c events save None good has none = record {
 }
 due_runs rules c events save (Some refusal) good has e = tt
 
-snapshot_runs : (words : ResumeWords) (c : Contents) → snapshot.has c ≡ true → Runs IsResumedStart (behind_snapshot words c)
+snapshot_runs : (words : ResumeWords) (c : Contents) → snapshot.has c ≡ true → Runs ⊥ IsResumedStart (behind_snapshot words c)
 unfolding behind_snapshot behind_policy behind_script
 snapshot_runs words c has =
-    policy_runs IsResumedStart words.policy _ (λ rules good. script_runs IsResumedStart rules.harts words.script _
+    policy_runs ⊥ IsResumedStart words.policy _ (λ rules good. script_runs ⊥ IsResumedStart rules.harts words.script _
     (λ schedule. due_runs rules c (events_behind c.events words.events schedule) words.save (resume_refusal rules c) good has refl))
 
-contents_runs : (next : Contents → Plan) (x : Result Contents SnapRefusal) → ((c : Contents) → x ≡ Ok c → Runs IsResumedStart (next c))
-    → Runs IsResumedStart (contents_judged next x)
+contents_runs : (next : Contents → Plan) (x : Result Contents SnapRefusal) → ((c : Contents) → x ≡ Ok c → Runs ⊥ IsResumedStart (next c))
+    → Runs ⊥ IsResumedStart (contents_judged next x)
 contents_runs next (Ok c) k = k c refl
 contents_runs next (Err refusal) k = tt
 
 -- what is found is what the files hold
 found_runs : (old now : FilesState) (name : List ℕ) (limit : ℕ) (found : Found) (next : List ℕ → Plan) → HoldBytes old → FoundAs old now name limit found
-    → ((bytes : List ℕ) → IsBytes bytes → Runs IsResumedStart (next bytes)) → Runs IsResumedStart (found_plan Part.Snapshot next found)
+    → ((bytes : List ℕ) → IsBytes bytes → Runs ⊥ IsResumedStart (next bytes)) → Runs ⊥ IsResumedStart (found_plan Part.Snapshot next found)
 unfolding found_plan
 found_runs old now name limit Faulty next holds at k = tt
 found_runs old now name limit Missing next holds at k = tt
@@ -58,23 +60,34 @@ found_runs old now name limit Longer next holds at k = tt
 found_runs old now name limit (Held bytes) next holds at k = k bytes (holds.bytes name bytes (at.1 holds.tells))
 
 read_runs : (name : List ℕ) (limit : ℕ) (next : List ℕ → Plan) (old read : FilesState) (due : Due) → HoldBytes old
-    → ((bytes : List ℕ) → IsBytes bytes → Runs IsResumedStart (next bytes))
-    → Follows (Read name limit (found_plan Part.Snapshot next)) old read (Some due) → DueRuns IsResumedStart due
+    → ((bytes : List ℕ) → IsBytes bytes → Runs ⊥ IsResumedStart (next bytes))
+    → Follows (Read name limit (found_plan Part.Snapshot next)) old read (Some due) → DueRuns ⊥ IsResumedStart due
 read_runs name limit next old read due holds k (inl none) = absurd (cc none.0)
 read_runs name limit next old read due holds k (inr f) =
-    followed IsResumedStart (found_plan Part.Snapshot next f.0) f.1 read due (found_runs old f.1 name limit f.0 next holds f.2 k) f.3
+    followed ⊥ IsResumedStart (found_plan Part.Snapshot next f.0) f.1 read due (found_runs old f.1 name limit f.0 next holds f.2 k) f.3
 
-begins : (asked : Result ResumeWords Refusal) (old read : FilesState) (start : State) (events : List Event) (save : Option (List ℕ))
-    → HoldBytes old → Follows (resume_plan asked) old read (Some (RunFrom start events save)) → IsResumedStart start
+-- whatever is due, a policy is never made
+pub resume_due : (asked : Result ResumeWords Refusal) (old read : FilesState) (due : Due) → HoldBytes old → Follows (resume_plan asked) old read (Some due)
+    → DueRuns ⊥ IsResumedStart due
 unfolding resume_plan words_plan snapshot_part
-begins (Err refusal) old read start events save holds f = followed IsResumedStart (End (Refuse refusal)) old read (RunFrom start events save) tt f
-begins (Ok words) old read start events save holds f =
-    read_runs words.saved _ _ old read (RunFrom start events save) holds
+resume_due (Err refusal) old read due holds f = followed ⊥ IsResumedStart (End (Refuse refusal)) old read due tt f
+resume_due (Ok words) old read due holds f =
+    read_runs words.saved _ _ old read due holds
     (λ bytes are. contents_runs (behind_snapshot words) (snapshot_read bytes) (λ c is. snapshot_runs words c (snapshot_law.only bytes c are is).1)) f
+
+resumed_reached : (s : State) (events : List Event) → IsResumedStart s → IsReached s (run s events)
+resumed_reached s events k = subst (λ (x : State). IsReached x (run x events)) (sym k.same)
+    (from_snapshot (resumed_goes_on_law k.rules k.contents events k.within k.words k.spelled k.accepted))
+  where
+    from_snapshot : GoesOnFrom k.rules k.contents (run (resumed_state k.rules k.contents) events)
+        → IsReached (resumed_state k.rules k.contents) (run (resumed_state k.rules k.contents) events)
+    from_snapshot on =
+        record { sound = on.goes.sound; origins = on.goes.origins; digests = (k.contents.text, on.digests); load = on.keepable.load }
 
 pub resume_law : ResumeLaw
 resume_law = record {
-  begins = begins;
+  begins = λ asked old read start events save holds f. resume_due asked old read (RunFrom start events save) holds f;
   goes = λ s events k. subst (λ (x : State). GoesOnFrom k.rules k.contents (run x events)) (sym k.same)
       (resumed_goes_on_law k.rules k.contents events k.within k.words k.spelled k.accepted);
+  reached = resumed_reached;
 }

@@ -14,7 +14,8 @@ use Rattle.reference.specs.States.{State, Disk, has_number}
 use Rattle.elf64_load.proofs.LoadedText.{text_in_ram}
 use Rattle.run_laws.proofs.Lookups.{same_number}
 use Rattle.run_laws.proofs.StartsSound.{CanStart, image_can}
-use Rattle.program_laws.specs.ProgramLaw.{IsMeasuredImage, IsMeasuredStart, HasMeasuredText, MeasuredLaw}
+use Rattle.guarantee.specs.Reached.{HasMeasuredText}
+use Rattle.program_laws.specs.Starts.{IsMeasuredImage, IsMeasuredStart, MeasuredLaw}
 
 -- ---- digests of pages that lie one behind the other
 

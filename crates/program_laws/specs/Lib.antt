@@ -1,3 +1,4 @@
-pub mod ProgramLaw
+pub mod Starts
 pub mod ResumeLaw
 pub mod GuaranteedLaw
+pub mod ProgramLaw

@@ -1,43 +1,111 @@
--- Where the program's runs begin. This project's own.
-use Rattle.std.specs.Prelude.{◌≡◌, ◌⊎◌, ℕ, List, map, Option, Some, Result}
-use Rattle.processor.specs.Bytes.{page_bytes}
-use Rattle.sv_types.specs.Kernel.{kernel_segments, text_of}
-use Rattle.sv_types.specs.Measure.{measure, joined_digests, page_digest}
-use Rattle.sv_types.specs.Policies.{Rules}
+-- The guarantee of the program: where it was asked for a run and answered as the run ended, what it printed and saved is that of a
+-- run of the reference machine which is guarded, event by event. This project's own.
+use Rattle.std.specs.Prelude.{◌≡◌, ℕ, List, Option, Some, None, Result, Ok, Err}
+use Rattle.sv_types.specs.Output.{run_status}
 use Rattle.sv_types.specs.declared.event.Event.{Event}
-use Rattle.reference.specs.Start.{IsStart, StartsFlat, StartsBy, boot_start, virtio_start}
+use Rattle.sv_types.specs.declared.status.Status.{Status}
+use Rattle.reference.specs.Disk.{disk_bytes}
+use Rattle.reference.specs.Report.{output}
+use Rattle.reference.specs.Run.{run}
 use Rattle.reference.specs.States.{State}
-use Rattle.outside.specs.Outside.{FilesState}
-use Rattle.command_plans.specs.CommandLine.{Command}
-use Rattle.command_plans.specs.Plans.{RunFrom, plan_of}
-use Rattle.command_plans.specs.Reading.{Follows}
+use Rattle.snapshot_form.specs.declared.whole.Snapshot.{Snapshot}
+use Rattle.resumed_start.specs.SnapLaws.{IsSnapshotOf}
+use Rattle.outside.specs.Outside.{FilesState, after_taking}
+use Rattle.command_plans.specs.CommandLine.{Command, Flat, Generated, Run, MakePolicy, Convert}
+use Rattle.command_plans.specs.Plans.{RunFrom, Plan, Saving, Exactly, saving_of_bytes, plan_of}
+use Rattle.command_plans.specs.Reading.{Follows, Saved}
 use Rattle.command_plans.specs.declared.refusal.Refusal.{Refusal}
+use Rattle.secvisor_cli.specs.Answers.{Headline, Outside}
+use Rattle.live_cli.specs.LiveAnswers.{LiveHeadline, LiveOutside, IsScriptOf}
+use Rattle.live_cli.specs.LiveWords.{LiveWords, live_plan}
+use Rattle.live_cli.specs.LiveReady.{out_of}
+use Rattle.snap_cli.specs.SnapAnswers.{SnapHeadline, saving_of}
+use Rattle.snap_cli.specs.SnapWords.{SnapWords, snap_plan}
+use Rattle.snap_cli.specs.SnapWords.{out_of as snap_out}
+use Rattle.resume_cli.specs.ResumePlans.{resume_plan}
+use Rattle.resume_cli.specs.ResumeWords.{ResumeWords}
+use Rattle.guarantee.specs.Guarded.{IsGuarded}
+use Rattle.program_laws.specs.Starts.{IsMeasuredStart}
+use Rattle.program_laws.specs.ResumeLaw.{HoldBytes, IsResumedStart}
 
--- plain pages that have the measure that was asked for
-pub record IsMeasuredFlat (s : State) : Type 0 where
-  pub starts : StartsFlat s
-  pub measured : measure starts.pages ≡ starts.digest
+-- ---- what is asked, and what is answered
 
--- a kernel's image whose text has the policy's measure
-pub record IsMeasuredImage (boot : Rules → (file disk : List ℕ) → State) (s : State) : Type 0 where
-  pub starts : StartsBy boot s
-  pub measured : measure (text_of (kernel_segments starts.file)) ≡ starts.rules.kernel
+-- a run is asked for, and no policy
+abbrev pub AsksRun : Result Command Refusal → Type 0
+AsksRun (Ok (Flat file wanted events)) = Unit {0}
+AsksRun (Ok (Generated calls)) = Unit {0}
+AsksRun (Ok (Run words)) = Unit {0}
+AsksRun (Ok (MakePolicy words)) = ⊥
+AsksRun (Ok (Convert words)) = ⊥
+AsksRun (Err refusal) = ⊥
 
--- a start, as `IsStart` says it, with the measure
-abbrev pub IsMeasuredStart : State → Type 0
-IsMeasuredStart s = IsMeasuredFlat s ⊎ (IsMeasuredImage boot_start s ⊎ IsMeasuredImage virtio_start s)
+-- 0 for a shutdown, 1 for a broken rule, 7 where the events ran out
+abbrev pub IsRunStatus : Status → Type 0
+IsRunStatus Status.Done = Unit {0}
+IsRunStatus Status.Stopped = Unit {0}
+IsRunStatus Status.Usage = ⊥
+IsRunStatus Status.Refused = ⊥
+IsRunStatus Status.ReadFault = ⊥
+IsRunStatus Status.WriteFault = ⊥
+IsRunStatus Status.Memory = ⊥
+IsRunStatus Status.Ended = Unit {0}
 
--- whatever a command is and the files hold, a run that it comes to begins there: in the state of which `Headline` says what is
--- printed, saved and answered
-abbrev pub ProgramLaw : Type 0
-ProgramLaw = (asked : Result Command Refusal) (old read : FilesState) (start : State) (events : List Event) (save : Option (List ℕ)) →
-    Follows (plan_of asked) old read (Some (RunFrom start events save)) → IsMeasuredStart start
+abbrev pub SavedIfAsked : Option Saving → FilesState → FilesState → Type 0
+SavedIfAsked None old new = new ≡ old
+SavedIfAsked (Some saving) old new = Saved saving old new
 
--- the digests of the pages that are approved at the start join to the digest that the rules have
-abbrev pub HasMeasuredText : State → Type 0
-HasMeasuredText s = joined_digests (map (λ (page : ℕ). page_digest (page_bytes s.ram page)) s.text) ≡ s.rules.kernel
+-- ---- runs
 
--- so such a start is one that the guarantee is about, and its text was measured
-pub record MeasuredLaw : Type 0 where
-  pub starts : (s : State) → IsMeasuredStart s → IsStart s
-  pub text : (s : State) → IsMeasuredStart s → HasMeasuredText s
+-- The words and the files ask for a run from this start, which `begins` tells of, over these events.
+pub record AsksFor (begins : State → Type 0) (plan : Plan) (old : FilesState) (start : State) (events : List Event) : Type 0 where
+  pub save : Option (List ℕ)
+  -- the files once they were read
+  pub read : FilesState
+  pub asked : Follows plan old read (Some (RunFrom start events save))
+  pub begun : begins start
+  -- each state that events lead to from there, these or any others, is guarded, whatever event is next
+  pub guarded : (done : List Event) → IsGuarded start (run start done)
+
+-- console, report, status and saved disk are those of the run
+pub record GuardedRun (begins : State → Type 0) (plan : Plan) (old new : Outside) (answer : Status) : Type 0 where
+  pub start : State
+  pub events : List Event
+  pub ran : AsksFor begins plan old.files start events
+  pub printed : new.sink ≡ after_taking old.sink (output (run start events))
+  pub status : answer ≡ run_status (run start events).journal.verdict
+  pub saved : SavedIfAsked (saving_of_bytes (disk_bytes (run start events).devices.disk) ran.save) ran.read new.files
+
+-- those of `live` are those of the run over its journal, and the script that is saved reads as the journal
+pub record GuardedLive (words : Result LiveWords Refusal) (old new : LiveOutside) (answer : Status) : Type 0 where
+  pub start : State
+  pub events : List Event
+  pub ran : AsksFor IsMeasuredStart (live_plan words) old.files start events
+  pub journal : List Event
+  pub printed : new.sink ≡ after_taking old.sink (output (run start journal))
+  pub status : answer ≡ run_status (run start journal).journal.verdict
+  pub text : List ℕ
+  pub script : IsScriptOf start.rules.harts journal text
+  pub saved : Saved (record { name = out_of words; content = Exactly text }) ran.read new.files
+
+-- the console of `snap` is that of the run, and the snapshot that is saved is of its last state
+pub record GuardedSnap (words : Result SnapWords Refusal) (old new : Outside) : Type 0 where
+  pub start : State
+  pub events : List Event
+  pub ran : AsksFor IsMeasuredStart (snap_plan words) old.files start events
+  pub printed : new.sink ≡ after_taking old.sink (run start events).journal.printed
+  pub snapshot : Snapshot
+  pub its : IsSnapshotOf start events snapshot
+  pub saved : Saved (saving_of (snap_out words) snapshot) ran.read new.files
+
+-- ---- the law, over what each top call owes
+
+pub record ProgramLaw : Type 0 where
+  -- flat, gen, run and vrun
+  pub runs : (asked : Result Command Refusal) (old new : Outside) (answer : Status) → AsksRun asked → IsRunStatus answer →
+      Headline (plan_of asked) old new answer → GuardedRun IsMeasuredStart (plan_of asked) old new answer
+  pub resumes : (asked : Result ResumeWords Refusal) (old new : Outside) (answer : Status) → HoldBytes old.files → IsRunStatus answer →
+      Headline (resume_plan asked) old new answer → GuardedRun IsResumedStart (resume_plan asked) old new answer
+  pub lives : (asked : Result LiveWords Refusal) (old new : LiveOutside) (answer : Status) → IsRunStatus answer →
+      LiveHeadline asked old new answer → GuardedLive asked old new answer
+  -- `snap` answers 0, whatever the run's verdict
+  pub snaps : (asked : Result SnapWords Refusal) (old new : Outside) → SnapHeadline asked old new Status.Done → GuardedSnap asked old new

@@ -16,6 +16,7 @@ use Rattle.command_plans.specs.Reading.{Follows}
 use Rattle.command_plans.specs.declared.refusal.Refusal.{Refusal}
 use Rattle.resume_cli.specs.ResumePlans.{resume_plan}
 use Rattle.resume_cli.specs.ResumeWords.{ResumeWords}
+use Rattle.guarantee.specs.Reached.{IsReached}
 
 -- the files tell what they hold, and that is bytes
 pub record HoldBytes (files : FilesState) : Type 0 where
@@ -38,3 +39,5 @@ pub record ResumeLaw : Type 0 where
       HoldBytes old → Follows (resume_plan asked) old read (Some (RunFrom start events save)) → IsResumedStart start
   -- and in each state that it reaches from there, soundness, origins and the digests of the text are kept
   pub goes : (s : State) (events : List Event) → (k : IsResumedStart s) → GoesOnFrom k.rules k.contents (run s events)
+  -- so it is one of those that the guarantee is about
+  pub reached : (s : State) (events : List Event) → IsResumedStart s → IsReached s (run s events)

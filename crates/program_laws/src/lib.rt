@@ -1,14 +1,23 @@
-//! The laws that join the program to the guarantee: whatever is asked of it, a run begins in a start of the reference machine
-//! whose text has the measure that was asked for, or in the state that a snapshot says, which isn't refused.
+//! The laws that join the program to the guarantee: whatever is asked of it, what it printed and saved for a run is that of a run of
+//! the reference machine that is guarded, from a start whose text was measured, or from the state that a snapshot says.
 #![tactic(auto)]
 
+ghost use Rattle.guarantee.specs.Reached.{ReachedLaw};
 ghost use Rattle.program_laws.specs.GuaranteedLaw.{GuaranteedLaw};
-ghost use Rattle.program_laws.specs.ProgramLaw.{MeasuredLaw, ProgramLaw};
+ghost use Rattle.program_laws.specs.ProgramLaw.{ProgramLaw};
 ghost use Rattle.program_laws.specs.ResumeLaw.{ResumeLaw};
+ghost use Rattle.program_laws.specs.Starts.{MeasuredLaw, StartsLaw};
 
-/// Where the files lead a command to a run, the run begins in a measured start.
+/// Where the program was asked for a run and answered 0, 1 or 7, its console, report and saved disk are those of a run in which
+/// kernel mode carries out measured words alone, is entered at permitted entries alone, and is left by SRET, by a demotion or by
+/// stopping alone; no byte of a protected page changes; and the machine stops exactly where a rule is broken.
 pub fn law_program()
     ensures { ProgramLaw }
+{}
+
+/// Where the files lead a command to a run, the run begins in a measured start.
+pub fn law_starts()
+    ensures { StartsLaw }
 {}
 
 /// A measured start is a start, and the digests of its text join to the digest that was asked for.
@@ -25,4 +34,9 @@ pub fn law_resume()
 /// So each state that a run of the program comes through meets what the laws of `guarantee` ask.
 pub fn law_guaranteed()
     ensures { GuaranteedLaw }
+{}
+
+/// Each state that a run reaches from a start whose text was measured is sound, has its origins and the digests of its text.
+pub fn law_reached()
+    ensures { ReachedLaw }
 {}

@@ -11,7 +11,7 @@ use Rattle.processor.specs.declared.mode.Mode.TheVariants.{Kernel, User}
 use Rattle.reference.specs.States.{State, Journal}
 use Rattle.reference.specs.Counting.{with_count, with_note, printed_low, machine_ended, count_trap, count_return, count_retired, count_denied, count_demote, count_dropped, count_load, count_unload, count_refused, count_turn, count_beat, count_key, count_tick}
 use Rattle.reference.specs.Answers.{count_answer}
-use Rattle.run_laws.specs.GrowthLaws.{Grows}
+use Rattle.run_laws.specs.GrowthLaws.{NoneFalls, Grows}
 
 -- the counts but for those of the events
 pub record Rises (old new : Journal) : Type 0 where
@@ -38,6 +38,7 @@ pub record Prints (old new : List ℕ) : Type 0 where
 
 pub record Moves (old new : Journal) : Type 0 where
   pub rises : Rises old new
+  pub kept : NoneFalls old.counts new.counts
   pub prints : Prints old.printed new.printed
 
 abbrev pub Gains : State → State → Type 0
@@ -49,56 +50,56 @@ prints_none list = record { console = omega arith; behind = ([], sym (append-nil
 prints_one : (list : List ℕ) (byte : ℕ) → Prints list (list ++ byte ∷ [])
 prints_one list byte = record { console = grind (arith, length-append list (byte ∷ [])); behind = (byte ∷ [], refl) }
 
-quietly : (old new : Journal) → Rises old new → old.printed ≡ new.printed → Moves old new
-quietly old new rises same = record { rises = rises; prints = subst (Prints old.printed) same (prints_none old.printed) }
+quietly : (old new : Journal) → Rises old new → NoneFalls old.counts new.counts → old.printed ≡ new.printed → Moves old new
+quietly old new rises kept same = record { rises = rises; kept = kept; prints = subst (Prints old.printed) same (prints_none old.printed) }
 
 -- nothing, or the verdict alone
 pub still : (j : Journal) → Moves j (j)
-still j = quietly j _ (record { turns = refl; beats = refl; keys = refl; ticks = refl; retired = omega arith; traps = omega arith; enters = omega arith; leaves = omega arith; demotes = omega arith; denied = omega arith; dropped = omega arith; loads = omega arith; unloads = omega arith; refused = omega arith; notes = omega arith }) refl
+still j = quietly j _ (grind arith) (grind arith) refl
 
 pub ended : (j : Journal) (verdict : Verdict) → Moves j (machine_ended verdict j)
-ended j verdict = quietly j _ (record { turns = refl; beats = refl; keys = refl; ticks = refl; retired = omega arith; traps = omega arith; enters = omega arith; leaves = omega arith; demotes = omega arith; denied = omega arith; dropped = omega arith; loads = omega arith; unloads = omega arith; refused = omega arith; notes = omega arith }) refl
+ended j verdict = quietly j _ (grind arith) (grind arith) refl
 
 -- an instruction, with or without a byte that it prints
 pub retires : (j : Journal) → Moves j (with_count count_retired j)
-retires j = quietly j _ (record { turns = refl; beats = refl; keys = refl; ticks = refl; retired = omega arith; traps = omega arith; enters = omega arith; leaves = omega arith; demotes = omega arith; denied = omega arith; dropped = omega arith; loads = omega arith; unloads = omega arith; refused = omega arith; notes = omega arith }) refl
+retires j = quietly j _ (grind arith) (grind arith) refl
 
 pub printed : (j : Journal) (value : ℕ) → Moves j (printed_low value j)
-printed j value = record { rises = record { turns = refl; beats = refl; keys = refl; ticks = refl; retired = omega arith; traps = omega arith; enters = omega arith; leaves = omega arith; demotes = omega arith; denied = omega arith; dropped = omega arith; loads = omega arith; unloads = omega arith; refused = omega arith; notes = omega arith }; prints = prints_one j.printed (value % 256) }
+printed j value = record { rises = grind arith; kept = grind arith; prints = prints_one j.printed (value % 256) }
 
 pub printed_retired : (j : Journal) (value : ℕ) → Moves j (with_count count_retired (printed_low value j))
-printed_retired j value = record { rises = record { turns = refl; beats = refl; keys = refl; ticks = refl; retired = omega arith; traps = omega arith; enters = omega arith; leaves = omega arith; demotes = omega arith; denied = omega arith; dropped = omega arith; loads = omega arith; unloads = omega arith; refused = omega arith; notes = omega arith }; prints = prints_one j.printed (value % 256) }
+printed_retired j value = record { rises = grind arith; kept = grind arith; prints = prints_one j.printed (value % 256) }
 
 -- traps and returns
 pub trapped : (j : Journal) (from : Mode) → Moves j (with_count (count_trap from) j)
-trapped j Kernel = quietly j _ (record { turns = refl; beats = refl; keys = refl; ticks = refl; retired = omega arith; traps = omega arith; enters = omega arith; leaves = omega arith; demotes = omega arith; denied = omega arith; dropped = omega arith; loads = omega arith; unloads = omega arith; refused = omega arith; notes = omega arith }) refl
-trapped j User = quietly j _ (record { turns = refl; beats = refl; keys = refl; ticks = refl; retired = omega arith; traps = omega arith; enters = omega arith; leaves = omega arith; demotes = omega arith; denied = omega arith; dropped = omega arith; loads = omega arith; unloads = omega arith; refused = omega arith; notes = omega arith }) refl
+trapped j Kernel = quietly j _ (grind arith) (grind arith) refl
+trapped j User = quietly j _ (grind arith) (grind arith) refl
 
 pub returned : (j : Journal) (to : Mode) → Moves j (with_count (count_return to) j)
-returned j Kernel = quietly j _ (record { turns = refl; beats = refl; keys = refl; ticks = refl; retired = omega arith; traps = omega arith; enters = omega arith; leaves = omega arith; demotes = omega arith; denied = omega arith; dropped = omega arith; loads = omega arith; unloads = omega arith; refused = omega arith; notes = omega arith }) refl
-returned j User = quietly j _ (record { turns = refl; beats = refl; keys = refl; ticks = refl; retired = omega arith; traps = omega arith; enters = omega arith; leaves = omega arith; demotes = omega arith; denied = omega arith; dropped = omega arith; loads = omega arith; unloads = omega arith; refused = omega arith; notes = omega arith }) refl
+returned j Kernel = quietly j _ (grind arith) (grind arith) refl
+returned j User = quietly j _ (grind arith) (grind arith) refl
 
 -- what is noted
 pub demotes : (j : Journal) (line : Note) → Moves j (with_note line (with_count count_demote j))
-demotes j line = quietly j _ (record { turns = refl; beats = refl; keys = refl; ticks = refl; retired = omega arith; traps = omega arith; enters = omega arith; leaves = omega arith; demotes = omega arith; denied = omega arith; dropped = omega arith; loads = omega arith; unloads = omega arith; refused = omega arith; notes = omega arith }) refl
+demotes j line = quietly j _ (grind arith) (grind arith) refl
 
 pub denies : (j : Journal) (line : Note) → Moves j (with_note line (with_count count_denied j))
-denies j line = quietly j _ (record { turns = refl; beats = refl; keys = refl; ticks = refl; retired = omega arith; traps = omega arith; enters = omega arith; leaves = omega arith; demotes = omega arith; denied = omega arith; dropped = omega arith; loads = omega arith; unloads = omega arith; refused = omega arith; notes = omega arith }) refl
+denies j line = quietly j _ (grind arith) (grind arith) refl
 
 pub loads : (j : Journal) (line : Note) → Moves j (with_note line (with_count count_load j))
-loads j line = quietly j _ (record { turns = refl; beats = refl; keys = refl; ticks = refl; retired = omega arith; traps = omega arith; enters = omega arith; leaves = omega arith; demotes = omega arith; denied = omega arith; dropped = omega arith; loads = omega arith; unloads = omega arith; refused = omega arith; notes = omega arith }) refl
+loads j line = quietly j _ (grind arith) (grind arith) refl
 
 pub unloads : (j : Journal) (line : Note) → Moves j (with_note line (with_count count_unload j))
-unloads j line = quietly j _ (record { turns = refl; beats = refl; keys = refl; ticks = refl; retired = omega arith; traps = omega arith; enters = omega arith; leaves = omega arith; demotes = omega arith; denied = omega arith; dropped = omega arith; loads = omega arith; unloads = omega arith; refused = omega arith; notes = omega arith }) refl
+unloads j line = quietly j _ (grind arith) (grind arith) refl
 
 pub drops : (j : Journal) → Moves j (with_count count_dropped j)
-drops j = quietly j _ (record { turns = refl; beats = refl; keys = refl; ticks = refl; retired = omega arith; traps = omega arith; enters = omega arith; leaves = omega arith; demotes = omega arith; denied = omega arith; dropped = omega arith; loads = omega arith; unloads = omega arith; refused = omega arith; notes = omega arith }) refl
+drops j = quietly j _ (grind arith) (grind arith) refl
 
 went_well : (j : Journal) (line : Note) → Moves j (with_note line j)
-went_well j line = quietly j _ (record { turns = refl; beats = refl; keys = refl; ticks = refl; retired = omega arith; traps = omega arith; enters = omega arith; leaves = omega arith; demotes = omega arith; denied = omega arith; dropped = omega arith; loads = omega arith; unloads = omega arith; refused = omega arith; notes = omega arith }) refl
+went_well j line = quietly j _ (grind arith) (grind arith) refl
 
 failed : (j : Journal) (line : Note) → Moves j (with_note line (with_count count_refused j))
-failed j line = quietly j _ (record { turns = refl; beats = refl; keys = refl; ticks = refl; retired = omega arith; traps = omega arith; enters = omega arith; leaves = omega arith; demotes = omega arith; denied = omega arith; dropped = omega arith; loads = omega arith; unloads = omega arith; refused = omega arith; notes = omega arith }) refl
+failed j line = quietly j _ (grind arith) (grind arith) refl
 
 pub answers : (j : Journal) (how : SbiCode) (line : Note) → Moves j (with_note line (with_count (count_answer how) j))
 answers j SbiCode.Success line = went_well j line
@@ -113,16 +114,16 @@ choose_gains r false x y s t = t
 -- ---- the event's own count, which is raised first
 
 pub turn_grows : (old new : Journal) → Moves (with_count count_turn old) new → Grows old new
-turn_grows old new m = record { counts = record { turns = omega (arith, m.rises.turns); beats = omega (arith, m.rises.beats); keys = omega (arith, m.rises.keys); ticks = omega (arith, m.rises.ticks); retired = omega (arith, m.rises.retired); traps = omega (arith, m.rises.traps); enters = omega (arith, m.rises.enters); leaves = omega (arith, m.rises.leaves); demotes = omega (arith, m.rises.demotes); denied = omega (arith, m.rises.denied); dropped = omega (arith, m.rises.dropped); loads = omega (arith, m.rises.loads); unloads = omega (arith, m.rises.unloads); refused = omega (arith, m.rises.refused); notes = omega (arith, m.rises.notes) }; console = m.prints.console; behind = m.prints.behind }
+turn_grows old new m = record { counts = grind (arith, m.rises); kept = grind (arith, m.kept); console = m.prints.console; behind = m.prints.behind }
 
 pub beat_grows : (old new : Journal) → Moves (with_count count_beat old) new → Grows old new
-beat_grows old new m = record { counts = record { turns = omega (arith, m.rises.turns); beats = omega (arith, m.rises.beats); keys = omega (arith, m.rises.keys); ticks = omega (arith, m.rises.ticks); retired = omega (arith, m.rises.retired); traps = omega (arith, m.rises.traps); enters = omega (arith, m.rises.enters); leaves = omega (arith, m.rises.leaves); demotes = omega (arith, m.rises.demotes); denied = omega (arith, m.rises.denied); dropped = omega (arith, m.rises.dropped); loads = omega (arith, m.rises.loads); unloads = omega (arith, m.rises.unloads); refused = omega (arith, m.rises.refused); notes = omega (arith, m.rises.notes) }; console = m.prints.console; behind = m.prints.behind }
+beat_grows old new m = record { counts = grind (arith, m.rises); kept = grind (arith, m.kept); console = m.prints.console; behind = m.prints.behind }
 
 pub key_grows : (old new : Journal) → Moves (with_count count_key old) new → Grows old new
-key_grows old new m = record { counts = record { turns = omega (arith, m.rises.turns); beats = omega (arith, m.rises.beats); keys = omega (arith, m.rises.keys); ticks = omega (arith, m.rises.ticks); retired = omega (arith, m.rises.retired); traps = omega (arith, m.rises.traps); enters = omega (arith, m.rises.enters); leaves = omega (arith, m.rises.leaves); demotes = omega (arith, m.rises.demotes); denied = omega (arith, m.rises.denied); dropped = omega (arith, m.rises.dropped); loads = omega (arith, m.rises.loads); unloads = omega (arith, m.rises.unloads); refused = omega (arith, m.rises.refused); notes = omega (arith, m.rises.notes) }; console = m.prints.console; behind = m.prints.behind }
+key_grows old new m = record { counts = grind (arith, m.rises); kept = grind (arith, m.kept); console = m.prints.console; behind = m.prints.behind }
 
 pub tick_grows : (old new : Journal) → Moves (with_count count_tick old) new → Grows old new
-tick_grows old new m = record { counts = record { turns = omega (arith, m.rises.turns); beats = omega (arith, m.rises.beats); keys = omega (arith, m.rises.keys); ticks = omega (arith, m.rises.ticks); retired = omega (arith, m.rises.retired); traps = omega (arith, m.rises.traps); enters = omega (arith, m.rises.enters); leaves = omega (arith, m.rises.leaves); demotes = omega (arith, m.rises.demotes); denied = omega (arith, m.rises.denied); dropped = omega (arith, m.rises.dropped); loads = omega (arith, m.rises.loads); unloads = omega (arith, m.rises.unloads); refused = omega (arith, m.rises.refused); notes = omega (arith, m.rises.notes) }; console = m.prints.console; behind = m.prints.behind }
+tick_grows old new m = record { counts = grind (arith, m.rises); kept = grind (arith, m.kept); console = m.prints.console; behind = m.prints.behind }
 
 pub rests_grows : (j : Journal) → Grows j j
-rests_grows j = record { counts = record { turns = omega arith; beats = omega arith; keys = omega arith; ticks = omega arith; retired = omega arith; traps = omega arith; enters = omega arith; leaves = omega arith; demotes = omega arith; denied = omega arith; dropped = omega arith; loads = omega arith; unloads = omega arith; refused = omega arith; notes = omega arith }; console = omega arith; behind = ([], sym (append-nil j.printed)) }
+rests_grows j = record { counts = grind arith; kept = grind arith; console = omega arith; behind = ([], sym (append-nil j.printed)) }

@@ -23,9 +23,28 @@ pub record RiseByOne (old new : Counts) : Type 0 where
   pub refused : new.refused ≤ old.refused + 1
   pub notes : new.notes ≤ old.notes + 1
 
+-- no count falls
+pub record NoneFalls (old new : Counts) : Type 0 where
+  pub turns : old.turns ≤ new.turns
+  pub beats : old.beats ≤ new.beats
+  pub keys : old.keys ≤ new.keys
+  pub ticks : old.ticks ≤ new.ticks
+  pub retired : old.retired ≤ new.retired
+  pub traps : old.traps ≤ new.traps
+  pub enters : old.enters ≤ new.enters
+  pub leaves : old.leaves ≤ new.leaves
+  pub demotes : old.demotes ≤ new.demotes
+  pub denied : old.denied ≤ new.denied
+  pub dropped : old.dropped ≤ new.dropped
+  pub loads : old.loads ≤ new.loads
+  pub unloads : old.unloads ≤ new.unloads
+  pub refused : old.refused ≤ new.refused
+  pub notes : old.notes ≤ new.notes
+
 -- and at most one byte is printed, behind those that were
 pub record Grows (old new : Journal) : Type 0 where
   pub counts : RiseByOne old.counts new.counts
+  pub kept : NoneFalls old.counts new.counts
   pub console : length new.printed ≤ length old.printed + 1
   pub behind : (more : List ℕ) × (new.printed ≡ old.printed ++ more)
 
