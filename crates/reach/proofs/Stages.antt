@@ -10,7 +10,7 @@ use Rattle.processor.specs.declared.access.Access.{Access}
 use Rattle.processor.specs.declared.mode.Mode.{Mode}
 use Rattle.processor_laws.proofs.Walks.{walk_guest_fits}
 use Rattle.sv39_walk.specs.Levels.{indices_of}
-use Rattle.sv39_walk.specs.Regimes.{settings_of}
+use Rattle.sv39_walk.specs.Regimes.{leaf_gpa, settings_of}
 use Rattle.sv39_walk.specs.declared.first_stage.Regime.{Regime}
 use Rattle.gstage_cache.proofs.Walks.{IsReadable, destination_at, leads_in_region, region_readable, page_moves, answer_near, answer_is}
 use Rattle.reach.specs.declared.entries.Entries.{Entries}
@@ -198,7 +198,7 @@ after_leaf false leaf permits r hgatp gpa access = after_none r hgatp access Pag
 -- the entry where the first stage ends leads on
 pub leaf_led : (r : Region) (regime : Regime) (access : Access) (va below entry : ℕ) (entries : Entries) (gpa : Option ℕ) → (IsBare regime.vsatp → ⊥)
     → EndsAt r.tables regime.hgatp (root_of regime.vsatp) va entries below entry → AreThere r entries
-    → gpa ≡ (if is_canonical va && is_leaf below entry && permits_access (settings_of regime) regime.mode access entry then Some (leaf_address below entry va) else None)
+    → gpa ≡ leaf_gpa regime access below entry va
     → leads_under r regime access va ≡ led_on r regime.hgatp access gpa
 leaf_led r regime access va below entry entries gpa paged ends there is =
     let s : Settings = settings_of regime in
