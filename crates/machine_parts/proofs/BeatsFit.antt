@@ -9,18 +9,21 @@ use Rattle.sv_types.specs.Schedule.{is_poke_address, poke_size}
 use Rattle.sv_types.specs.declared.block.BlockStatus.{BlockStatus}
 use Rattle.sv_types.specs.declared.virtio.VirtioMove.{VirtioMove}
 use Rattle.sv_types.specs.declared.virtio.VirtioPart.{VirtioPart}
-use Rattle.reference.specs.States.{Disk, BlockDevice, BlockDisk, VirtioDisk}
+use Rattle.sv_types.specs.declared.event.Event.TheVariants.{Beat, Poke}
+use Rattle.reference.specs.Counting.{count_beat, with_count}
+use Rattle.reference.specs.States.{Devices, Disk, Journal, BlockDevice, BlockDisk, VirtioDisk}
 use Rattle.reference.specs.VirtioDevice.{VirtioDevice, Request}
 use Rattle.reference.specs.VirtioQueue.{rings_in_ram, available_index, next_head, waiting_count}
 use Rattle.reference.specs.VirtioChain.{chain, most_parts, is_good}
 use Rattle.reference.specs.VirtioBeats.{VirtioBeat, nothing, broken_beat, with_request, last_moves_alone, with_written, to_memory, to_disk, put_last, finish_request, make, make_first, accept_request, accept, look, go_on, is_live, virtio_beat}
 use Rattle.reference.specs.BlockDisk.{block_beat, is_busy, block_to_disk, transfer_ended, block_after_beat, beat_gpa, beat_place, beat_size, is_to_memory}
 use Rattle.reference.specs.Attacker.{poke_move}
-use Rattle.reference.specs.Disk.{disk_beat}
+use Rattle.reference.specs.Disk.{disk_beat, is_writable}
 use Rattle.reference.specs.Move.{Move, Idle, FromRam, IntoRam, DeniedAt, OutsideRam}
 use Rattle.dma_guard.specs.Transfers.{beat_of, after_move}
-use Rattle.machine_model.specs.HostEvents.{after_host_move}
-use Rattle.machine_model.specs.Machine.{Machine}
+use Rattle.dma_guard.specs.declared.port.Beaten.{Beaten}
+use Rattle.machine_model.specs.HostEvents.{after_host_move, beat_served, event_served, poke_served, with_host_disk}
+use Rattle.machine_model.specs.Machine.{Machine, with_count_raised}
 use Rattle.run_laws.proofs.Lookups.{part_short}
 use Rattle.machine_parts.specs.Beats.{LiesInRam, ToldInRam, told_served}
 use Rattle.run_laws.proofs.BeatsSound.{room_of}
@@ -139,7 +142,7 @@ poke_fits ram may_write gpa value = poke_fits_by ram gpa value (is_poke_address 
 -- ---- after a move
 
 -- a move, and what follows it
-pub told_after : (m : Machine) (x : Move) → told_served (record m { region = after_move m.region x }) (beat_of x) ≡ after_host_move m x
+told_after : (m : Machine) (x : Move) → told_served (record m { region = after_move m.region x }) (beat_of x) ≡ after_host_move m x
 unfolding told_served after_host_move
 told_after m Idle = refl
 told_after m (FromRam gpa) = refl
@@ -161,6 +164,21 @@ move_keeps_size r (IntoRam gpa bytes) fits = length_overwrite r.ram bytes (ram_p
 move_keeps_size r (DeniedAt gpa) fits = refl
 move_keeps_size r OutsideRam fits = refl
 
--- what follows a move of a machine whose bytes are written
-pub told_follows : (m mid : Machine) (x : Move) (told : Beaten) → told ≡ beat_of x → mid ≡ record m { region = after_move m.region x } → told_served mid told ≡ after_host_move m x
-told_follows m mid x told is same = rw (is, same) told_after m x
+-- a beat, and what follows it
+pub beat_follows : (m : Machine) (dma : List Bool) (devices : Devices) (region : Region) (journal : Journal) (told : Beaten) → dma ≡ m.dma
+    → devices ≡ record m.devices { disk = (disk_beat m.devices.disk m.region.ram (is_writable dma)).disk }
+    → region ≡ after_move m.region (disk_beat m.devices.disk m.region.ram (is_writable dma)).move
+    → told ≡ beat_of (disk_beat m.devices.disk m.region.ram (is_writable dma)).move → journal ≡ with_count count_beat m.journal
+    → told_served (record m { region = region; devices = devices; journal = journal }) told ≡ event_served m Beat
+unfolding event_served beat_served
+beat_follows m dma devices region journal told guard d r t j =
+    let b = disk_beat m.devices.disk m.region.ram (is_writable m.dma) in
+    rw (d, r, t, j, guard) (told_after (with_host_disk (with_count_raised m count_beat) b.disk) b.move)
+
+-- a write of an attacker's device, and what follows it
+pub poke_follows : (m : Machine) (gpa value : ℕ) (dma : List Bool) (region : Region) (journal : Journal) (told : Beaten) → dma ≡ m.dma
+    → region ≡ after_move m.region (poke_move m.region.ram (is_writable dma) gpa value) → told ≡ beat_of (poke_move m.region.ram (is_writable dma) gpa value)
+    → journal ≡ with_count count_beat m.journal → told_served (record m { region = region; journal = journal }) told ≡ event_served m (Poke gpa value)
+unfolding event_served poke_served
+poke_follows m gpa value dma region journal told guard r t j =
+    rw (r, t, j, guard) (told_after (with_count_raised m count_beat) (poke_move m.region.ram (is_writable m.dma) gpa value))

@@ -249,7 +249,6 @@ impl Parts {
     }
 
     /// One beat of the disk's device.
-    #[tactic(auto, unfolding(machine_model::specs::HostEvents::event_served, machine_model::specs::HostEvents::beat_served), using(crate::proofs::BeatsFit::told_after))]
     pub(crate) fn beat(&mut self)
         requires beats { CanCount self.old.journal.counts.beats }
         requires counts { MayCount self.old.journal.counts }
@@ -261,7 +260,6 @@ impl Parts {
     }
 
     /// One write of an attacker's device.
-    #[tactic(auto, unfolding(machine_model::specs::HostEvents::event_served, machine_model::specs::HostEvents::poke_served), using(crate::proofs::BeatsFit::told_after))]
     pub(crate) fn poke(&mut self, gpa: u64, value: u64)
         requires beats { CanCount self.old.journal.counts.beats }
         requires counts { MayCount self.old.journal.counts }
