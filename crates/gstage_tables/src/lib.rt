@@ -168,7 +168,7 @@ impl Trees {
     {
         let block = self.block_of(page);
         let was_free = self.is_free(mem, page);
-        let count = count_after(self.counts[block as usize], was_free, is_free(protection));
+        let count = count_after(self.counts[block as usize], was_free, protection.is_free());
         let before = self.is_whole(block);
         let after = self.is_whole_with(block, count);
         self.set_leaves(mem, page, protection, steps);
@@ -273,7 +273,7 @@ impl Trees {
         requires { tree < tree_count (length self.now.bound) }
         ensures { result ≡ view_permits (sight_in self.now.bound tree) page protection Fetch }
     {
-        let approved = matches!(protection, Protection::Approved);
+        let approved = protection.is_approved();
         if tree == KERNEL_TREE {
             approved
         } else if tree == USER_TREE {
@@ -290,7 +290,7 @@ impl Trees {
         ensures { result ≡ leaf (sight_in self.now.bound tree) page protection (table_pages self.now.ram_pages (length self.now.bound) + page) }
     {
         let fetch = self.may_fetch(tree, page, protection);
-        mapping(self.table_pages() + page, is_free(protection), fetch)
+        mapping(self.table_pages() + page, protection.is_free(), fetch)
     }
 
     // The entry for page `p` of RAM in a tree, where all pages are free.
@@ -459,12 +459,6 @@ fn count_after(count: u16, before: bool, after: bool) -> u16
         (false, true) => count.saturating_sub(1),
         _ => count,
     }
-}
-
-fn is_free(protection: Protection) -> bool
-    ensures { result ≡ is_free protection }
-{
-    matches!(protection, Protection::Free)
 }
 
 fn none_taken() -> [u16; MOST_BLOCKS]

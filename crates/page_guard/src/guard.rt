@@ -170,7 +170,7 @@ impl Guard {
     {
         'tested: for i in 0..span.count {
             let page = span.first + i;
-            if !is_free(self.protections[page as usize]) {
+            if !self.protections[page as usize].is_free() {
                 return Err(Taken { page });
             }
         }
@@ -197,14 +197,7 @@ impl Guard {
         ensures theirs { StaysTheirs mem.old mem.new self.old self.new }
     {
         self.trees.set(mem, page, protection);
-        self.dma.set(page, is_free(protection));
+        self.dma.set(page, protection.is_free());
         self.protections[page as usize] = protection;
     }
-}
-
-// Whether a device may write a page of this protection.
-fn is_free(protection: Protection) -> bool
-    ensures { result ≡ is_free protection }
-{
-    matches!(protection, Protection::Free)
 }
