@@ -11,29 +11,27 @@ ghost use Rattle.call_answers.specs.Known.{StartsOneOf};
 
 use crate::places::{reply_at, start_at};
 use devices::{Devices, NEVER};
-use dma_guard::DiskPort;
 use hart_answers::{Seat, interrupt};
 use journal_records::Journal;
-use page_guard::Guard;
 use reference::{Answer, Beside};
 
 // What happens to other harts; the hart that called may be among those that are interrupted.
 #[tactic(auto, using(hart_answers::proofs::Hosts::hosts_length), unfolding(machine_model::specs::HostCalls::hosts_beside))]
-fn change_harts(seats: &mut [Seat], guard: &Guard, beside: Beside)
+fn change_harts(seats: &mut [Seat], beside: Beside)
     requires starts { StartsOneOf (length seats.old) beside }
     ensures hosts { hosts_of seats.new ≡ hosts_beside beside (hosts_of seats.old) }
     ensures number { length seats.new ≡ length seats.old }
 {
     match beside {
         Beside::SendsInterrupts { mask, base } => interrupt(seats, mask, base),
-        Beside::StartsHart { other, pc, opaque } => start_at(seats, guard, other, pc, opaque),
+        Beside::StartsHart { other, pc, opaque } => start_at(seats, other, pc, opaque),
         _ => {}
     }
 }
 
 // What happens to devices.
 #[tactic(auto, unfolding(reference::specs::Answers::devices_beside))]
-fn change_devices<D: DiskPort>(hart: u8, devices: &mut Devices<D>, beside: Beside)
+fn change_devices(hart: u8, devices: &mut Devices, beside: Beside)
     requires there { hart < most_harts }
     requires starts { StartsOneOf most_harts beside }
     ensures { devices.new ≡ devices_beside beside hart devices.old }
@@ -55,11 +53,10 @@ fn change_devices<D: DiskPort>(hart: u8, devices: &mut Devices<D>, beside: Besid
 /// Does what an answer says, but to pages and modules: what becomes of the hart that called, and what happens beside to other
 /// harts, to devices and in the journal.
 #[tactic(auto, using(crate::proofs::Starting::fewer))]
-pub fn give<D: DiskPort>(
+pub fn give(
     hart: u8,
     seats: &mut [Seat],
-    guard: &Guard,
-    devices: &mut Devices<D>,
+    devices: &mut Devices,
     journal: &mut Journal,
     answer: &Answer,
 )
@@ -74,8 +71,8 @@ pub fn give<D: DiskPort>(
     ensures number { length seats.new ≡ length seats.old }
 {
     let Answer { reply, beside } = *answer;
-    reply_at(seats, guard, hart, reply);
-    change_harts(seats, guard, beside);
+    reply_at(seats, hart, reply);
+    change_harts(seats, beside);
     change_devices(hart, devices, beside);
     journal.record(hart, beside);
 }

@@ -7,9 +7,11 @@ ghost use Rattle.reference.specs.Devices.{DeviceLoad, device_load, device_store,
 ghost use Rattle.reference.specs.Disk.{is_writable, disk_bytes, disk_beat};
 ghost use Rattle.dma_guard.specs.Transfers.{beat_of, after_move};
 ghost use Rattle.devices.specs.Bus.{devices_at_boot, devices_loaded, devices_stored, journal_stored};
+ghost use Rattle.devices.specs.Ports.{port_disk};
 
 use crate::clock::{Clock, HARTS};
 use crate::console::Console;
+use crate::disk_port::Port;
 use crate::ports::{Place, place_at};
 use dma_guard::{Beaten, DiskPort, DmaGuard};
 use host_mem::HostMem;
@@ -19,24 +21,26 @@ use std::marker::Model;
 
 /// The console, a block device and the clock. Contracts see them as the definitions' devices.
 #[derive(Drop)]
-pub struct Devices<D: DiskPort> {
+pub struct Devices {
     console: Console,
-    disk: D,
+    disk: Port,
     clock: Clock,
 }
 
-impl<D: DiskPort> Model for Devices<D> {
+impl Model for Devices {
     ghost use Rattle.reference.specs.States.{Devices as State};
 
     ghost Value = { State };
 
-    ghost view = { λ d. record { console = d.console; disk = D.state d.disk; clock = d.clock } };
+    ghost use Rattle.devices.specs.Ports.{port_disk};
+
+    ghost view = { λ d. record { console = d.console; disk = port_disk d.disk; clock = d.clock } };
 }
 
-impl<D: DiskPort> Devices<D> {
+impl Devices {
     /// The devices at boot, with a block device as it stands.
-    pub fn new(disk: D) -> Devices<D>
-        ensures { result ≡ devices_at_boot (D.state disk) }
+    pub fn new(disk: Port) -> Devices
+        ensures { result ≡ devices_at_boot (port_disk disk) }
     {
         Devices {
             console: Console::new(),
@@ -46,8 +50,8 @@ impl<D: DiskPort> Devices<D> {
     }
 
     /// The devices at a time with the timers of four harts, and a disk's device as it stands. No input waits.
-    pub fn from_values(disk: D, time: u64, timers: [u64; HARTS]) -> Devices<D>
-        ensures { result ≡ record (devices_at_boot (D.state disk)) { clock = record { time = time; timers = timers } } }
+    pub fn from_values(disk: Port, time: u64, timers: [u64; HARTS]) -> Devices
+        ensures { result ≡ record (devices_at_boot (port_disk disk)) { clock = record { time = time; timers = timers } } }
     {
         Devices {
             console: Console::new(),
@@ -160,8 +164,8 @@ impl<D: DiskPort> Devices<D> {
     }
 
     /// The block device.
-    pub fn port(&self) -> &D
-        ensures { D.state result.now ≡ self.now.disk }
+    pub fn port(&self) -> &Port
+        ensures { port_disk result.now ≡ self.now.disk }
     {
         &self.disk
     }

@@ -55,6 +55,18 @@ const USER_HGATP: u64 = KERNEL_HGATP + NEXT_TREE;
 
 const FIRST_ENTRY_HGATP: u64 = USER_HGATP + NEXT_TREE;
 
+/// The `hgatp` value of a view's root. Its VMID is 1 for the kernel view, 2 for the user view, and 3 + i for that of entry i.
+/// `Trees` draws such a root for each entry that is bound.
+pub fn view_hgatp(view: View) -> u64
+    ensures { result ≡ view_hgatp view }
+{
+    match view {
+        View::Kernel => KERNEL_HGATP,
+        View::User => USER_HGATP,
+        View::Entry(i) => FIRST_ENTRY_HGATP + NEXT_TREE * i as u64,
+    }
+}
+
 /// The trees in the table part of a region, and how many pages of each block aren't free. Contracts see the `Shape`.
 #[derive(Drop)]
 pub struct Trees {
@@ -168,24 +180,12 @@ impl Trees {
     {
         let block = self.block_of(page);
         let was_free = self.is_free(mem, page);
-        let count = count_after(self.counts[block as usize], was_free, is_free(protection));
+        let count = count_after(self.counts[block as usize], was_free, protection.is_free());
         let before = self.is_whole(block);
         let after = self.is_whole_with(block, count);
         self.set_leaves(mem, page, protection, steps);
         self.set_block(mem, block, before, after, steps);
         self.counts[block as usize] = count;
-    }
-
-    /// The `hgatp` value of a view's root. Its VMID is 1 for the kernel view, 2 for the user view, and 3 + i for that of entry i.
-    /// There is such a root for each entry that is bound.
-    pub fn root(&self, view: View) -> u64
-        ensures { result ≡ view_hgatp view }
-    {
-        match view {
-            View::Kernel => KERNEL_HGATP,
-            View::User => USER_HGATP,
-            View::Entry(i) => FIRST_ENTRY_HGATP + NEXT_TREE * i as u64,
-        }
     }
 
     // How many trees there are.
@@ -273,7 +273,7 @@ impl Trees {
         requires { tree < tree_count (length self.now.bound) }
         ensures { result ≡ view_permits (sight_in self.now.bound tree) page protection Fetch }
     {
-        let approved = matches!(protection, Protection::Approved);
+        let approved = protection.is_approved();
         if tree == KERNEL_TREE {
             approved
         } else if tree == USER_TREE {
@@ -290,7 +290,7 @@ impl Trees {
         ensures { result ≡ leaf (sight_in self.now.bound tree) page protection (table_pages self.now.ram_pages (length self.now.bound) + page) }
     {
         let fetch = self.may_fetch(tree, page, protection);
-        mapping(self.table_pages() + page, is_free(protection), fetch)
+        mapping(self.table_pages() + page, protection.is_free(), fetch)
     }
 
     // The entry for page `p` of RAM in a tree, where all pages are free.
@@ -459,12 +459,6 @@ fn count_after(count: u16, before: bool, after: bool) -> u16
         (false, true) => count.saturating_sub(1),
         _ => count,
     }
-}
-
-fn is_free(protection: Protection) -> bool
-    ensures { result ≡ is_free protection }
-{
-    matches!(protection, Protection::Free)
 }
 
 fn none_taken() -> [u16; MOST_BLOCKS]

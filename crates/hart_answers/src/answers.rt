@@ -16,7 +16,7 @@ ghost use Rattle.processor.specs.Bytes.{instruction_size};
 
 use csr_file::{Csrs, into_guest, return_to_guest, target};
 use hart::Hart;
-use page_guard::{Entries, Forbidden, Guard, Side};
+use page_guard::{Entries, Forbidden, Side};
 use processor::{A0, A1, ExitCause, INSTRUCTION_BYTES, Mode};
 use rv64_exec::Regs;
 
@@ -33,7 +33,6 @@ pub struct Trap {
 pub fn take_trap(
     hart: &mut Hart,
     side: &mut Side,
-    guard: &Guard,
     entries: &Entries,
     trap: Trap,
 ) -> Result<(), Forbidden>
@@ -46,7 +45,7 @@ pub fn take_trap(
 {
     let from = side.mode();
     let target = target(&hart.core.csrs, trap.cause);
-    side.enter(guard, entries, target)?;
+    side.enter(entries, target)?;
     enter_handler(hart, from, trap);
     Ok(())
 }
@@ -70,22 +69,22 @@ fn enter_handler(hart: &mut Hart, from: Mode, trap: Trap)
 /// The hart returns from its trap, as its own registers say: in kernel mode SecVisor carries SRET out. A return to user mode
 /// leaves the entry.
 #[tactic(auto, using(crate::proofs::Traps::at_return, crate::proofs::Traps::mode_after))]
-pub fn return_from_trap(hart: &mut Hart, side: &mut Side, guard: &Guard)
+pub fn return_from_trap(hart: &mut Hart, side: &mut Side)
     requires { mode_of side.old ≡ Kernel }
     ensures hart { host_of hart.new side.new ≡ host_at_return (host_of hart.old side.old) }
     ensures mode { mode_of side.new ≡ mode_at_return hart.old.core.csrs.vsstatus }
 {
     let to = leave_handler(hart);
-    return_side(side, guard, to);
+    return_side(side, to);
 }
 
 // The side of a hart that returns to a mode.
-fn return_side(side: &mut Side, guard: &Guard, to: Mode)
+fn return_side(side: &mut Side, to: Mode)
     ensures { side.new ≡ view_at_return to side.old }
 {
     match to {
         Mode::Kernel => {}
-        Mode::User => side.leave(guard),
+        Mode::User => side.leave(),
     }
 }
 
@@ -102,10 +101,10 @@ fn leave_handler(hart: &mut Hart) -> Mode
 
 /// The hart leaves kernel mode, and stays at its instruction.
 #[tactic(auto, unfolding(machine_model::specs::HostHarts::host_demoted))]
-pub fn demote(hart: &mut Hart, side: &mut Side, guard: &Guard)
+pub fn demote(hart: &mut Hart, side: &mut Side)
     ensures hart { host_of hart.new side.new ≡ host_demoted (host_of hart.old side.old) }
 {
-    side.leave(guard);
+    side.leave();
     hart.core.reservation = None;
 }
 
@@ -148,29 +147,29 @@ pub fn stay(hart: &mut Hart)
 
 /// The hart stops at its instruction, and leaves the entry that it is in.
 #[tactic(auto, using(crate::proofs::Traps::at_stop))]
-pub fn stop(hart: &mut Hart, side: &mut Side, guard: &Guard)
+pub fn stop(hart: &mut Hart, side: &mut Side)
     ensures hart { host_of hart.new side.new ≡ host_stopped (host_of hart.old side.old) }
 {
-    side.widen(guard);
+    side.widen();
     hart.core.reservation = None;
     hart.started = false;
 }
 
 /// The hart leaves its entry for all that kernel mode sees, and nothing else changes, so that it attempts the same turn again.
 #[tactic(auto, using(crate::proofs::Traps::left_entry))]
-pub fn send_again(side: &mut Side, guard: &Guard)
+pub fn send_again(side: &mut Side)
     ensures { (hart : Kept) → host_of hart side.new ≡ host_outside (host_of hart side.old) }
 {
-    side.widen(guard);
+    side.widen();
 }
 
 /// Whatever it was, the hart begins in kernel mode at an address, with its number in a0, a value in a1, and all other
 /// registers as at boot.
 #[tactic(auto, unfolding(machine_model::specs::HostHarts::host_started, reference::specs::Calls::hart_at))]
-pub fn start(hart: &mut Hart, side: &mut Side, guard: &Guard, hart_index: u8, pc: u64, opaque: u64)
+pub fn start(hart: &mut Hart, side: &mut Side, hart_index: u8, pc: u64, opaque: u64)
     ensures hart { host_of hart.new side.new ≡ host_started hart_index pc opaque (host_of hart.old side.old) }
 {
-    *side = Side::at_boot(guard);
+    *side = Side::at_boot();
     hart.core.regs = Regs::new();
     hart.core.regs.set(A0, u64::from(hart_index));
     hart.core.regs.set(A1, opaque);

@@ -1,7 +1,7 @@
 -- The events that a script draws, one after another.
-use Rattle.std.proofs.Common.{◌≡◌, ℕ, suc, ◌+◌, [], ◌∷◌, refl, ap, ◌∙◌, sym, arith, Some, Option, unwrap_or}
+use Rattle.std.proofs.Common.{◌≡◌, ℕ, zero, suc, ◌+◌, [], ◌∷◌, refl, ap, ◌∙◌, sym, arith, Some, Option, unwrap_or}
 use Rattle.sv_types.specs.declared.event.Event.{Event}
-use Rattle.sv_types.specs.Schedule.{Schedule, Listed, Rounds, Weave, Auto, random_at, next_random, after_event, next_event, auto_event}
+use Rattle.sv_types.specs.Schedule.{Schedule, Listed, Rounds, Weave, Auto, Bursts, random_at, next_random, after_event, next_event, auto_event}
 use Rattle.live_cli.specs.LiveRuns.{harts_of, HasDrawn}
 
 random_next : (n : ℕ) → next_random (random_at 0 n) ≡ random_at 0 (n + 1)
@@ -14,6 +14,8 @@ after_harts (Listed (event ∷ events)) = refl
 after_harts (Rounds harts hart) = refl
 after_harts (Weave place) = refl
 after_harts (Auto harts number) = refl
+after_harts (Bursts harts hart zero number) = refl
+after_harts (Bursts harts hart (suc left) number) = refl
 
 pub same_harts : (now new : Schedule) → new ≡ after_event now → harts_of new ≡ harts_of now
 same_harts now new is = ap harts_of is ∙ after_harts now

@@ -20,7 +20,7 @@ use Rattle.outside.specs.Outside.{FilesState, SinkState, after_taking, TookPrefi
 use Rattle.outside.proofs.SinkLemmas.{after_taking-nil, prefix_behind, prefix_of_front, prefix_same}
 use Rattle.script.specs.AutoScripts.{events_of_text, first_refused}
 use Rattle.script.proofs.FirstEvents.{first_drawn}
-use Rattle.machine.specs.Console.{HasRun}
+use Rattle.machine.specs.Console.{HasRun, is_due}
 use Rattle.machine.specs.Standing.{machine_output}
 use Rattle.machine.proofs.Standing.{stands_new, stands_printed, stands_verdict, cleared_none}
 use Rattle.live_keys.specs.Journal.{events_of}
@@ -28,7 +28,8 @@ use Rattle.live_keys.specs.Keys.{KeysState}
 use Rattle.live_keys.specs.Placed.{autos_between, events_between, keys_among, others_among}
 use Rattle.live_keys.specs.declared.live_key.LiveKey.{LiveKey}
 use Rattle.live_keys.proofs.Events.{numbers_join}
-use Rattle.live_cli.specs.Drives.{GoesOn, Breaks, HasBroken}
+use Rattle.live_cli.specs.Coming.{CameRunning}
+use Rattle.live_cli.specs.Drives.{GoesOn, Breaks, HasBroken, HasDriven}
 use Rattle.live_cli.specs.Inputs.{HasKeys}
 use Rattle.live_cli.specs.LiveRuns.{harts_of, events_made, IsUnderWay}
 use Rattle.live_cli.specs.declared.live_run.LiveRun.{LiveRun}
@@ -115,23 +116,28 @@ script_is : (l : LiveRun) → IsUnderWay l → l.journal.autos ≡ 0 → l.scrip
 unfolding random_at
 script_is l way autos = way.drawn ∙ ap (λ (n : ℕ). Schedule.Auto (harts_of l.script) (random_at 0 n)) autos
 
-ran_none : (m : Machine) (start : State) (sink : SinkState) (made : List Event) → made ≡ [] → IsNew m start → HasRun m start made m sink sink
-ran_none m start sink made none new =
-    subst (λ (es : List Event). HasRun m start es m sink sink) (sym none)
-    (record { cleared = []; stands = stands_new m start new; chain = cleared_none m; taken = sym (after_taking-nil sink) })
+ran_none : (m : Machine) (start : State) (sink : SinkState) (made : List Event) → made ≡ [] → IsNew m start → m.journal.printed ≡ [] → HasDriven m start made m sink sink
+ran_none m start sink made none new printed =
+    subst (λ (es : List Event). HasDriven m start es m sink sink) (sym none) (record {
+      run = record { cleared = []; stands = stands_new m start new; chain = cleared_none m; taken = sym (after_taking-nil sink) };
+      came = tt;
+      rest = ap is_due printed;
+    })
 
 -- how the sink and the machine stand at the end
 pub record EndsLive (start : State) (journal : List Event) (machine : Machine) (old new : SinkState) (written : Result Status Trouble) : Type 0 where
   pub writes : Writes (run_status (run start journal).journal.verdict) (output (run start journal)) old new written
   pub verdict : machine.journal.verdict ≡ (run start journal).journal.verdict
+  pub came : CameRunning start journal
   pub bench : StandsBehind start journal machine old new
 
-ran_ends : (first : Machine) (start : State) (events : List Event) (m : Machine) (old mid new : SinkState) (written : Result Status Trouble) → IsNew first start → HasRun first start events m old mid →
+ran_ends : (first : Machine) (start : State) (events : List Event) (m : Machine) (old mid new : SinkState) (written : Result Status Trouble) → IsNew first start → HasDriven first start events m old mid →
     Writes (run_status m.journal.verdict) (machine_output m) mid new written → EndsLive start events m old new written
 ran_ends first start events m old mid new written is_new ran writes = record {
-  writes = ran_writes first start m events old mid new written ran writes;
-  verdict = stands_verdict m (run start events) ran.cleared ran.stands;
-  bench = ran_stands first start events m old mid new is_new ran writes.prefix;
+  writes = ran_writes first start m events old mid new written ran.run writes;
+  verdict = stands_verdict m (run start events) ran.run.cleared ran.run.stands;
+  came = ran.came;
+  bench = ran_stands first start events m old mid new is_new ran.run writes.prefix;
 }
 
 broken_ends : (first : Machine) (start : State) (events : List Event) (m : Machine) (old new : SinkState) → IsNew first start → HasBroken first start events m old new →
@@ -139,6 +145,7 @@ broken_ends : (first : Machine) (start : State) (events : List Event) (m : Machi
 broken_ends first start events m old new is_new b = record {
   writes = broken_writes _ _ old new (broken_prefix first start events m old new b) b.broke.faults;
   verdict = stands_verdict m (run start events) b.cleared b.stands;
+  came = b.came;
   bench = broken_stands first start events m old new is_new b;
 }
 
@@ -148,16 +155,16 @@ pub record DroveLive (live last : LiveRun) (ended : LiveEnd) (old mid : SinkStat
   pub broke : ended.write_failed ≡ true → Breaks (events_made live) (events_made last) live.machine last.machine old mid
 
 ends_live : (live last : LiveRun) (ended : LiveEnd) (start : State) (name : List ℕ) (f0 f1 : FilesState) (old mid new : SinkState) (result : Result Status Trouble) →
-    events_made live ≡ [] → IsNew live.machine start → DroveLive live last ended old mid → (r : Reports last ended name f0 f1 mid new result) →
+    events_made live ≡ [] → IsNew live.machine start → live.machine.journal.printed ≡ [] → DroveLive live last ended old mid → (r : Reports last ended name f0 f1 mid new result) →
     (ended.write_failed ≡ true) ⊎ (ended.write_failed ≡ false) → EndsLive start (events_made last) last.machine old new r.written
-ends_live live last ended start name f0 f1 old mid new result none is_new drove r (inr done) =
+ends_live live last ended start name f0 f1 old mid new result none is_new printed drove r (inr done) =
     ran_ends live.machine start (events_made last) last.machine old mid new r.written is_new
-    ((drove.on done).ran live.machine start old (ran_none live.machine start old (events_made live) none is_new)) (r.writes done)
-ends_live live last ended start name f0 f1 old mid new result none is_new drove r (inl broke) =
+    ((drove.on done).ran live.machine start old (ran_none live.machine start old (events_made live) none is_new printed)) (r.writes done)
+ends_live live last ended start name f0 f1 old mid new result none is_new printed drove r (inl broke) =
     subst (λ (s : SinkState). EndsLive start (events_made last) last.machine old s r.written) (sym (r.broke broke).1)
     (subst (λ (w : Result Status Trouble). EndsLive start (events_made last) last.machine old mid w) (sym (r.broke broke).0)
     (broken_ends live.machine start (events_made last) last.machine old mid is_new
-    ((drove.broke broke).broke live.machine start old (ran_none live.machine start old (events_made live) none is_new))))
+    ((drove.broke broke).broke live.machine start old (ran_none live.machine start old (events_made live) none is_new printed))))
 
 pub runs_live : (ready : LiveReady) (last : LiveRun) (ended : LiveEnd) (start : State) (f0 f1 : FilesState) (old mid new : SinkState) (k0 k1 : KeysState) (b0 : Option Machine)
     (result : Result Status Trouble) → IsLiveFresh ready → IsNew ready.live.machine start → DroveLive ready.live last ended old mid → HasKeys k0 k1 (keys_among (events_made last)) ended →
@@ -169,7 +176,7 @@ runs_live ready last ended start f0 f1 old mid new k0 k1 b0 result fresh is_new 
     let live : LiveRun = ready.live in
     let harts : ℕ = harts_of live.script in
     let ends : EndsLive start (events_made last) last.machine old new r.written =
-    ends_live live last ended start ready.out.now f0 f1 old mid new result (none_made live fresh.keys fresh.autos) is_new drove r (cases_Bool ended.write_failed) in
+    ends_live live last ended start ready.out.now f0 f1 old mid new result (none_made live fresh.keys fresh.autos) is_new fresh.console drove r (cases_Bool ended.write_failed) in
     record {
       journal = events_made last;
       ended = ended;
@@ -180,6 +187,7 @@ runs_live ready last ended start f0 f1 old mid new k0 k1 b0 result fresh is_new 
           ∙ drawn_split harts last.journal.autos live.events most
           ∙ ap (λ (s : Schedule). first_events live.events s) (sym (script_is live fresh.way fresh.autos));
       all = λ done. enough harts last.journal.autos live.events last.machine.journal.verdict (run start (events_made last)).journal.verdict ends.verdict (all done);
+      came = ends.came;
       written = r.written;
       broke = λ broke. (r.broke broke).0;
       writes = ends.writes;

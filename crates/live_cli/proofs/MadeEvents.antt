@@ -1,14 +1,18 @@
 -- Events that are made one behind another, and what of the console is written.
-use Rattle.std.proofs.Common.{◌≡◌, ◌≤◌, ◌<◌, ◌+◌, ◌-◌, ◌^◌, ℕ, IsTrue, OnOk, OnErr, IsErr, Result, Ok, Err, true, false, List, [], ◌∷◌, ◌++◌, length, drop, refl, sym, ◌∙◌, ap, subst, arith, length-append}
+use Rattle.std.proofs.Common.{◌≡◌, ◌≤◌, ◌<◌, ◌+◌, ◌-◌, ◌^◌, ℕ, ◌⊎◌, inl, inr, IsFalse, IsTrue, OnOk, OnErr, IsErr, Result, Ok, Err, true, false, List, [], ◌∷◌, ◌++◌, length, drop, refl, sym, ◌∙◌, ap, subst, arith, length-append}
 use Rattle.std.proofs.lemmas.List.{length-drop}
 use Rattle.std.specs.Result.{is_err}
 use Rattle.sv_types.specs.Limits.{most_events, most_printed}
 use Rattle.sv_types.specs.declared.event.Event.{Event}
+use Rattle.sv_types.specs.declared.event.Event.TheVariants.{Turn, Beat, Key, Tick, Poke}
+use Rattle.sv_types.specs.declared.event.Verdict.{Verdict}
+use Rattle.sv_types.specs.declared.event.Verdict.TheVariants.{Running, Shutdown, Stopped}
 use Rattle.sv_types.specs.declared.event.Counts.{Counts}
 use Rattle.sv_types.specs.Schedule.{Schedule, after_event, auto_event}
 use Rattle.reference.specs.Counting.{CountsAtMost}
 use Rattle.reference.specs.Run.{run, step}
 use Rattle.reference.specs.States.{State}
+use Rattle.machine_model.specs.HardwareEvent.{Happens, HappensUnder, IsEvent}
 use Rattle.machine_model.specs.Machine.{Machine}
 use Rattle.machine_model.specs.Reaches.{Cleared, ReachesFrom, without_first_printed}
 use Rattle.answer_laws.proofs.RunsReach.{clear_law, dropped_twice}
@@ -16,15 +20,16 @@ use Rattle.outside.specs.Outside.{SinkState, after_taking, BreaksOff, MayWrite}
 use Rattle.outside.proofs.SinkLemmas.{after_taking-append, after_taking-nil}
 use Rattle.live_keys.specs.Journal.{events_of, key_bytes}
 use Rattle.live_keys.specs.declared.journal.Journal.{Journal}
-use Rattle.machine.specs.Standing.{HasState}
-use Rattle.machine.specs.Console.{Flushed}
-use Rattle.machine.proofs.Standing.{stands_away, cleared_none}
-use Rattle.machine.proofs.ConsoleLemmas.{reaches_more, stands_next}
+use Rattle.machine.specs.Standing.{HasState, Stands}
+use Rattle.machine.specs.Console.{Flushed, is_due}
+use Rattle.machine.proofs.Standing.{stands_away, stands_verdict, cleared_none}
+use Rattle.machine.proofs.ConsoleLemmas.{left_printed, reaches_more, stands_next}
 use Rattle.machine.proofs.Repeated.{counts_within}
 use Rattle.machine.specs.Limits.{most_counts}
 use Rattle.machine.specs.Repeats.{Makes}
 use Rattle.atomic_table.specs.Seated.{TableId}
 use Rattle.live_cli.specs.declared.live_run.LiveRun.{LiveRun}
+use Rattle.live_cli.specs.Coming.{CameRunning, IsKey, MayCome}
 use Rattle.live_cli.specs.LiveRuns.{harts_of, events_made, IsUnderWay, MayStep, count_of}
 use Rattle.live_cli.specs.Drives.{GoesOn, Breaks, BrokeOff, MayDrive, Driven, StaysUnderWay, Drives}
 use Rattle.live_cli.proofs.DrawnEvents.{same_harts}
@@ -66,45 +71,91 @@ cleared_verdict m after cleared = ap (λ (x : Machine). x.journal.verdict) clear
 taken_by : (sink before after : SinkState) (cleared more : List ℕ) → before ≡ after_taking sink cleared → after ≡ after_taking before more → after ≡ after_taking sink (cleared ++ more)
 taken_by sink before after cleared more first then = then ∙ ap (λ (s : SinkState). after_taking s more) first ∙ after_taking-append sink cleared more
 
-pub made_one : (m next flushed : Machine) (e : Event) (s t : SinkState) → Makes m e next → Flushed next flushed s t → (made : List Event) → GoesOn made (made ++ e ∷ []) m flushed s t
-made_one m next flushed e s t steps f made = record {
+-- a key may always be made, and a machine that has ended is given nothing else
+pub key_comes : (v : Verdict) (byte : ℕ) → MayCome v (Key byte)
+key_comes Running byte = tt
+key_comes Shutdown byte = tt
+key_comes (Stopped rule hart turn) byte = tt
+
+-- a key leaves a run running, or ended
+key_happens : (m : Machine) (e : Event) (after : Machine) → IsKey e → Happens m e after → after.journal.verdict ≡ m.journal.verdict
+key_happens m (Turn hart) after is it = absurd is
+key_happens m Beat after is it = absurd is
+key_happens m (Key byte) after is it = ap (λ (x : Machine). x.journal.verdict) it.same
+key_happens m (Tick ticks) after is it = absurd is
+key_happens m (Poke gpa value) after is it = absurd is
+
+key_under : (v : Verdict) (m : Machine) (e : Event) (after : Machine) → IsKey e → HappensUnder v m e after → after.journal.verdict ≡ m.journal.verdict
+key_under Running m e after is it = key_happens m e after is it
+key_under Shutdown m e after is it = ap (λ (x : Machine). x.journal.verdict) it
+key_under (Stopped rule hart turn) m e after is it = ap (λ (x : Machine). x.journal.verdict) it
+
+pub key_verdict : (m : Machine) (e : Event) (after : Machine) → IsKey e → IsEvent m e after → after.journal.verdict ≡ m.journal.verdict
+unfolding IsEvent
+key_verdict m e after is it = key_under m.journal.verdict m e after is it
+
+came_more : (r : State) (made : List Event) (e : Event) → CameRunning r made → MayCome (run r made).journal.verdict e → CameRunning r (made ++ e ∷ [])
+came_more r [] e came may = (may, tt)
+came_more r (d ∷ made) e came may = (came.0, came_more (step r d) made e came.1 may)
+
+came_next : (start : State) (made : List Event) (m : Machine) (cleared : List ℕ) (e : Event) → Stands m cleared (run start made) → CameRunning start made → MayCome m.journal.verdict e →
+    CameRunning start (made ++ e ∷ [])
+came_next start made m cleared e s came may =
+    came_more start made e came (subst (λ (v : Verdict). MayCome v e) (stands_verdict m (run start made) cleared s) may)
+
+pub made_one : (m next flushed : Machine) (e : Event) (s t : SinkState) → MayCome m.journal.verdict e → IsFalse (is_due flushed.journal.printed) → Makes m e next → Flushed next flushed s t →
+    (made : List Event) → GoesOn made (made ++ e ∷ []) m flushed s t
+made_one m next flushed e s t may rest steps f made = record {
   taken = record { bytes = f.cleared; taken = f.taken };
   ran = λ first start sink on. record {
-    cleared = on.cleared ++ f.cleared;
-    stands = stands_away next flushed (run start (made ++ e ∷ [])) on.cleared f.cleared (stands_next start m next made e on.cleared on.stands steps) f.away;
-    chain = reaches_more first start made m next flushed e on.chain steps.event (steps.stands (run start made) on.stands.stands) f.away.cleared;
-    taken = taken_by sink s t on.cleared f.cleared on.taken f.taken;
+    run = record {
+      cleared = on.run.cleared ++ f.cleared;
+      stands = stands_away next flushed (run start (made ++ e ∷ [])) on.run.cleared f.cleared (stands_next start m next made e on.run.cleared on.run.stands steps) f.away;
+      chain = reaches_more first start made m next flushed e on.run.chain steps.event (steps.stands (run start made) on.run.stands.stands) f.away.cleared;
+      taken = taken_by sink s t on.run.cleared f.cleared on.run.taken f.taken;
+    };
+    came = came_next start made m on.run.cleared e on.run.stands on.came may;
+    rest = rest;
   };
 }
 
-pub broken_one : (m next : Machine) (e : Event) (s t : SinkState) → Makes m e next → BreaksOff s t next.journal.printed → (made : List Event) → Breaks made (made ++ e ∷ []) m next s t
-broken_one m next e s t steps off made = record {
+pub broken_one : (m next : Machine) (e : Event) (s t : SinkState) → MayCome m.journal.verdict e → Makes m e next → BreaksOff s t next.journal.printed → (made : List Event) →
+    Breaks made (made ++ e ∷ []) m next s t
+broken_one m next e s t may steps off made = record {
   broke = λ first start sink on. record {
-    cleared = on.cleared;
-    stands = stands_next start m next made e on.cleared on.stands steps;
-    chain = reaches_more first start made m next next e on.chain steps.event (steps.stands (run start made) on.stands.stands) (cleared_none next);
-    broke = subst (λ (k : SinkState). BreaksOff k t next.journal.printed) on.taken off;
+    cleared = on.run.cleared;
+    stands = stands_next start m next made e on.run.cleared on.run.stands steps;
+    chain = reaches_more first start made m next next e on.run.chain steps.event (steps.stands (run start made) on.run.stands.stands) (cleared_none next);
+    came = came_next start made m on.run.cleared e on.run.stands on.came may;
+    late = inl (record { front = made; last = e; split = refl; rest = ap is_due (left_printed m (run start made) on.run.cleared on.run.stands) ∙ on.rest });
+    broke = subst (λ (k : SinkState). BreaksOff k t next.journal.printed) on.run.taken off;
   };
 }
 
-pub shown : (m after : Machine) (s t : SinkState) → Flushed m after s t → (made : List Event) → GoesOn made made m after s t
-shown m after s t f made = record {
+pub shown : (m after : Machine) (s t : SinkState) → after.journal.printed ≡ [] → Flushed m after s t → (made : List Event) → GoesOn made made m after s t
+shown m after s t none f made = record {
   taken = record { bytes = f.cleared; taken = f.taken };
   ran = λ first start sink on. record {
-    cleared = on.cleared ++ f.cleared;
-    stands = stands_away m after (run start made) on.cleared f.cleared on.stands f.away;
-    chain = reaches_cleared first start made m after on.chain f.away.cleared;
-    taken = taken_by sink s t on.cleared f.cleared on.taken f.taken;
+    run = record {
+      cleared = on.run.cleared ++ f.cleared;
+      stands = stands_away m after (run start made) on.run.cleared f.cleared on.run.stands f.away;
+      chain = reaches_cleared first start made m after on.run.chain f.away.cleared;
+      taken = taken_by sink s t on.run.cleared f.cleared on.run.taken f.taken;
+    };
+    came = on.came;
+    rest = ap is_due none;
   };
 }
 
 pub broken_show : (m : Machine) (s t : SinkState) → BreaksOff s t m.journal.printed → (made : List Event) → Breaks made made m m s t
 broken_show m s t off made = record {
   broke = λ first start sink on. record {
-    cleared = on.cleared;
-    stands = on.stands;
-    chain = on.chain;
-    broke = subst (λ (k : SinkState). BreaksOff k t m.journal.printed) on.taken off;
+    cleared = on.run.cleared;
+    stands = on.run.stands;
+    chain = on.run.chain;
+    came = on.came;
+    late = inr on.rest;
+    broke = subst (λ (k : SinkState). BreaksOff k t m.journal.printed) on.run.taken off;
   };
 }
 

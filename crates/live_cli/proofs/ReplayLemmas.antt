@@ -13,7 +13,7 @@ use Rattle.sv_types.specs.Policies.{Rules}
 use Rattle.sv_types.specs.Schedule.{Schedule, first_events}
 use Rattle.sv_types.specs.declared.event.Event.{Event}
 use Rattle.sv_types.specs.declared.image_fault.ImageFault.{ImageFault}
-use Rattle.sv_types.specs.declared.event.Event.TheVariants.{Turn, Beat, Key, Tick}
+use Rattle.sv_types.specs.declared.event.Event.TheVariants.{Turn, Beat, Key, Tick, Poke}
 use Rattle.sv_types.specs.Limits.{most_events, most_disk_bytes}
 use Rattle.policy.specs.Refusals.{Judged}
 use Rattle.policy.specs.Text.{rules_of_text}
@@ -379,6 +379,7 @@ events_among (Key byte ∷ events) = let rest = events_among events in omega ari
 events_among (Turn hart ∷ events) = let rest = events_among events in omega arith
 events_among (Beat ∷ events) = let rest = events_among events in omega arith
 events_among (Tick ticks ∷ events) = let rest = events_among events in omega arith
+events_among (Poke gpa value ∷ events) = let rest = events_among events in omega arith
 
 -- with every key the events of a live run are at most 2^32
 pub journal_few : (journal left asked : List Event) (bytes keys : List ℕ) (count : ℕ) (script : Schedule) → others_among journal ++ left ≡ asked → first_events count script ≡ asked → count ≤ most_live_events →

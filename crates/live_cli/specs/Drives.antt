@@ -1,5 +1,5 @@
 -- What becomes of a run while more events are made, and the console's bytes are written.
-use Rattle.std.specs.Prelude.{◌≡◌, ◌<◌, ℕ, List, length, Result, OnOk, OnErr}
+use Rattle.std.specs.Prelude.{◌≡◌, ◌⊎◌, ◌<◌, ℕ, List, length, IsFalse, Result, OnOk, OnErr}
 use Rattle.atomic_table.specs.Seated.{TableId}
 use Rattle.sv_types.specs.Limits.{most_printed}
 use Rattle.sv_types.specs.declared.event.Event.{Event}
@@ -9,25 +9,35 @@ use Rattle.machine_model.specs.Machine.{Machine}
 use Rattle.machine_model.specs.Reaches.{ReachesFrom}
 use Rattle.outside.specs.Outside.{SinkState, MayWrite, after_taking, BreaksOff}
 use Rattle.machine.specs.Standing.{Stands}
-use Rattle.machine.specs.Console.{HasTaken, HasRun}
+use Rattle.machine.specs.Console.{is_due, ComesDue, HasTaken, HasRun}
+use Rattle.live_cli.specs.Coming.{CameRunning}
 use Rattle.live_cli.specs.LiveRuns.{harts_of, events_made, IsUnderWay, MayGoOn}
 use Rattle.live_cli.specs.declared.live_run.LiveRun.{LiveRun}
+
+-- By these events the machine came from another to this one, each of them but keys while it ran, and nothing of its console is due.
+pub record HasDriven (first : Machine) (start : State) (done : List Event) (machine : Machine) (old new : SinkState) : Type 0 where
+  pub run : HasRun first start done machine old new
+  pub came : CameRunning start done
+  pub rest : IsFalse (is_due machine.journal.printed)
 
 -- Whichever run had made the events so far has made these; of its console the sink took what isn't left in the machine.
 pub record GoesOn (made more : List Event) (old new : Machine) (before after : SinkState) : Type 0 where
   pub taken : HasTaken before after
-  pub ran : (first : Machine) (start : State) (sink : SinkState) → HasRun first start made old sink before → HasRun first start more new sink after
+  pub ran : (first : Machine) (start : State) (sink : SinkState) → HasDriven first start made old sink before → HasDriven first start more new sink after
 
--- the events were made, and a write of console bytes failed
+-- The events were made, each of them but keys while the machine ran, and a write of console bytes failed: they came due with the
+-- last event, or aren't due yet, and were to be shown.
 pub record HasBroken (first : Machine) (start : State) (events : List Event) (machine : Machine) (old new : SinkState) : Type 0 where
   pub cleared : List ℕ
   pub stands : Stands machine cleared (run start events)
   pub chain : ReachesFrom first start events machine
+  pub came : CameRunning start events
+  pub late : ComesDue start events cleared ⊎ IsFalse (is_due machine.journal.printed)
   pub broke : BreaksOff (after_taking old cleared) new machine.journal.printed
 
 -- whichever run had made the events so far has made these, and then a write failed
 pub record Breaks (made more : List Event) (old new : Machine) (before after : SinkState) : Type 0 where
-  pub broke : (first : Machine) (start : State) (sink : SinkState) → HasRun first start made old sink before → HasBroken first start more new sink after
+  pub broke : (first : Machine) (start : State) (sink : SinkState) → HasDriven first start made old sink before → HasBroken first start more new sink after
 
 -- a live run has made the events up to another, and the sink took the console's bytes
 abbrev pub WentOn : (old new : LiveRun) (before after : SinkState) → Type 0
@@ -57,7 +67,7 @@ pub record StaysUnderWay (old new : LiveRun) : Type 0 where
   pub harts : harts_of new.script ≡ harts_of old.script
   pub events : new.events ≡ old.events
 
--- what driving it answers: it has made events, or did up to a write that failed, behind which nothing was made
+-- what driving it answers: it has made events, or did up to a write that failed
 pub record Drives {T E : Type 0} (answer : Result T E) (old new : LiveRun) (before after : SinkState) : Type 0 where
   pub on : OnOk answer (Driven old new before after)
   pub broke : OnErr answer (BrokeOff old new before after)

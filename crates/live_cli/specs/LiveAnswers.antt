@@ -16,6 +16,7 @@ use Rattle.live_keys.specs.Placed.{keys_among, others_among}
 use Rattle.machine.specs.Standing.{Stands, machine_output}
 use Rattle.live_cli.specs.declared.threads.LiveEnd.{LiveEnd}
 use Rattle.live_cli.specs.declared.live_run.LiveRun.{LiveRun}
+use Rattle.live_cli.specs.Coming.{CameRunning}
 use Rattle.live_cli.specs.Inputs.{HasKeys}
 use Rattle.live_cli.specs.LiveRuns.{harts_of, events_made}
 use Rattle.command_plans.specs.declared.refusal.Refusal.{Refusal}
@@ -95,6 +96,8 @@ pub record RunsLive (start : State) (asked : List Event) (name : List ℕ) (old 
   pub left : List Event
   pub others : others_among journal ++ left ≡ asked
   pub all : ended.write_failed ≡ false → (left ≡ []) ⊎ ((run start journal).journal.verdict ≢ Running)
+  -- once the machine has ended, keys alone are made
+  pub came : CameRunning start journal
   -- how writing ended
   pub written : Result Status Trouble
   pub broke : ended.write_failed ≡ true → written ≡ Err Write

@@ -2,7 +2,7 @@
 use Rattle.std.specs.Prelude.{◌≡◌, ◌<◌, ◌≤◌, ◌+◌, ◌-◌, ℕ, List, length}
 use Rattle.sv_types.specs.Limits.{most_printed, most_events}
 use Rattle.sv_types.specs.declared.event.Event.{Event}
-use Rattle.sv_types.specs.Schedule.{Schedule, Listed, Rounds, Weave, Auto, random_at}
+use Rattle.sv_types.specs.Schedule.{Schedule, Listed, Rounds, Weave, Auto, Bursts, random_at}
 use Rattle.reference.specs.Counting.{CountsAtMost}
 use Rattle.machine_model.specs.Machine.{Machine}
 use Rattle.machine.specs.Limits.{most_counts}
@@ -18,6 +18,7 @@ harts_of (Listed events) = 0
 harts_of (Rounds harts hart) = 0
 harts_of (Weave place) = 0
 harts_of (Auto harts number) = harts
+harts_of (Bursts harts hart left number) = 0
 
 -- the script has drawn so many events of `auto(0, harts)`
 abbrev pub HasDrawn : ℕ → Schedule → Type 0

@@ -42,6 +42,7 @@ fn make_round<R: Wait, O: Sink, P: Pace>(
 ) -> Result<(), Failed>
     requires may { MayDrive live.old line.now (O.state out.old) }
     requires autos { live.old.journal.autos < most_events }
+    requires running { live.old.machine.journal.verdict ≡ Running }
     ensures drives { Drives result live.old live.new (O.state out.old) (O.state out.new) }
     ensures autos { OnOk result (live.new.journal.autos ≡ live.old.journal.autos + 1) }
     ensures most { live.new.journal.autos ≤ live.old.journal.autos + 1 }

@@ -1,5 +1,5 @@
 // Events that are made at once, each with its place in the journal, and the console.
-ghost use Rattle.std.specs.Prelude.{◌≡◌, ◌≢◌, ◌<◌, ◌≤◌, ◌+◌, ◌-◌, ◌++◌, ◌∷◌, ℕ, List, [], length, vec_len, OnOk, OnErr};
+ghost use Rattle.std.specs.Prelude.{◌≡◌, ◌<◌, ◌≤◌, ◌+◌, ◌-◌, ◌++◌, ◌∷◌, ℕ, List, [], length, vec_len, OnOk, OnErr};
 ghost use Rattle.sv_types.specs.Limits.{most_printed, most_events};
 ghost use Rattle.sv_types.specs.declared.event.Event.{Event as Made};
 ghost use Rattle.sv_types.specs.declared.event.Verdict.TheVariants.{Running};
@@ -8,6 +8,7 @@ ghost use Rattle.machine_model.specs.Reaches.{Cleared};
 ghost use Rattle.live_keys.specs.Line.{most_keys, TookAllOf};
 ghost use Rattle.live_keys.specs.Journal.{events_of, key_bytes, HasRoom};
 ghost use Rattle.machine.specs.Standing.{HasState};
+ghost use Rattle.live_cli.specs.Coming.{IsKey, MayCome};
 ghost use Rattle.live_cli.specs.LiveRuns.{MayGoOn, MayStep};
 ghost use Rattle.live_cli.specs.Drives.{GoesOn, Breaks, Drives, MayDrive};
 ghost use Rattle.outside.specs.Outside.{MayWrite};
@@ -36,12 +37,13 @@ pub fn show_console<O: Sink>(machine: &mut Machine, out: &mut O) -> Result<(), F
 fn make<O: Sink>(machine: &mut Machine, out: &mut O, event: Event) -> Result<(), Failed>
     requires sink { MayWrite (O.state out.old) }
     requires may { MayStep machine.old }
+    requires came { MayCome machine.old.journal.verdict event }
     ensures on { OnOk result ((made : List Made) → GoesOn made (made ++ event ∷ []) machine.old machine.new (O.state out.old) (O.state out.new)) }
     ensures broke { OnErr result ((made : List Made) → Breaks made (made ++ event ∷ []) machine.old machine.new (O.state out.old) (O.state out.new)) }
     ensures room { OnOk result (length machine.new.journal.printed < most_printed) }
     ensures state { HasState machine.new }
     ensures counts { (n : ℕ) → CountsAtMost n machine.old.journal.counts → CountsAtMost (n + 1) machine.new.journal.counts }
-    ensures ended { machine.old.journal.verdict ≢ Running → machine.new.journal.verdict ≢ Running }
+    ensures key { IsKey event → machine.new.journal.verdict ≡ machine.old.journal.verdict }
 {
     machine.step(event);
     flush_due(machine, out)
@@ -66,7 +68,7 @@ fn make_key<O: Sink>(
     ensures room { OnOk result (length machine.new.journal.printed < most_printed) }
     ensures state { HasState machine.new }
     ensures counts { (n : ℕ) → CountsAtMost n machine.old.journal.counts → CountsAtMost (n + 1) machine.new.journal.counts }
-    ensures ended { machine.old.journal.verdict ≢ Running → machine.new.journal.verdict ≢ Running }
+    ensures verdict { machine.new.journal.verdict ≡ machine.old.journal.verdict }
 {
     journal.add_key(byte);
     make(machine, out, Event::Key(byte))
@@ -86,7 +88,7 @@ pub fn make_keys<R: Wait, O: Sink>(
     ensures whole { OnOk result (TookAllOf live.new.taker.all live.new.taker.bytes) }
     ensures script { live.new.script ≡ live.old.script }
     ensures autos { live.new.journal.autos ≡ live.old.journal.autos }
-    ensures ended { live.old.machine.journal.verdict ≢ Running → live.new.machine.journal.verdict ≢ Running }
+    ensures verdict { live.new.machine.journal.verdict ≡ live.old.machine.journal.verdict }
 {
     'keys: while let Some(byte) = line.take(rt, &mut live.taker) {
         make_key(&mut live.machine, &mut live.journal, out, byte)?;
@@ -99,6 +101,7 @@ pub fn make_auto<O: Sink>(live: &mut LiveRun, out: &mut O) -> Result<(), Failed>
     requires sink { MayWrite (O.state out.old) }
     requires on { MayGoOn live.old }
     requires autos { live.old.journal.autos < most_events }
+    requires running { live.old.machine.journal.verdict ≡ Running }
     ensures drives { Drives result live.old live.new (O.state out.old) (O.state out.new) }
     ensures taker { live.new.taker ≡ live.old.taker }
     ensures autos { live.new.journal.autos ≡ live.old.journal.autos + 1 }

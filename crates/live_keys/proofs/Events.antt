@@ -6,7 +6,7 @@ use Rattle.std.specs.Cmp.{first_so, second_so}
 use Rattle.sv_types.specs.ApprovedPages.{numbers_from}
 use Rattle.sv_types.specs.Schedule.{Schedule, auto_event, first_events}
 use Rattle.sv_types.specs.declared.event.Event.{Event}
-use Rattle.sv_types.specs.declared.event.Event.TheVariants.{Turn, Beat, Key, Tick}
+use Rattle.sv_types.specs.declared.event.Event.TheVariants.{Turn, Beat, Key, Tick, Poke}
 use Rattle.script.proofs.FirstEvents.{first_drawn}
 use Rattle.live_keys.specs.declared.live_key.LiveKey.{LiveKey}
 use Rattle.live_keys.specs.Placed.{is_placed, are_bytes, autos_between, events_between, bytes_of, keys_among, others_among}
@@ -125,6 +125,7 @@ keys_append (Key byte ∷ front) back = ap (λ (bytes : List ℕ). byte ∷ byte
 keys_append (Turn hart ∷ front) back = keys_append front back
 keys_append (Beat ∷ front) back = keys_append front back
 keys_append (Tick ticks ∷ front) back = keys_append front back
+keys_append (Poke gpa value ∷ front) back = keys_append front back
 
 others_append : (front back : List Event) → others_among (front ++ back) ≡ others_among front ++ others_among back
 others_append [] back = refl
@@ -132,6 +133,7 @@ others_append (Key byte ∷ front) back = others_append front back
 others_append (Turn hart ∷ front) back = ap (λ (es : List Event). Turn hart ∷ es) (others_append front back)
 others_append (Beat ∷ front) back = ap (λ (es : List Event). Beat ∷ es) (others_append front back)
 others_append (Tick ticks ∷ front) back = ap (λ (es : List Event). Tick ticks ∷ es) (others_append front back)
+others_append (Poke gpa value ∷ front) back = ap (λ (es : List Event). Poke gpa value ∷ es) (others_append front back)
 
 autos_no_keys : (harts : ℕ) (numbers : List ℕ) → keys_among (map (auto_event harts 0) numbers) ≡ []
 autos_no_keys harts [] = refl

@@ -4,7 +4,7 @@ use Rattle.std.specs.List.{list_all}
 use Rattle.sv_types.specs.ApprovedPages.{numbers_from}
 use Rattle.sv_types.specs.Schedule.{auto_event, highest_byte}
 use Rattle.sv_types.specs.declared.event.Event.{Event}
-use Rattle.sv_types.specs.declared.event.Event.TheVariants.{Turn, Beat, Key, Tick}
+use Rattle.sv_types.specs.declared.event.Event.TheVariants.{Turn, Beat, Key, Tick, Poke}
 use Rattle.live_keys.specs.declared.live_key.LiveKey.{LiveKey}
 
 -- the numbers never fall, from one on, and are at most the last
@@ -38,6 +38,7 @@ keys_among (Key byte ∷ events) = byte ∷ keys_among events
 keys_among (Turn hart ∷ events) = keys_among events
 keys_among (Beat ∷ events) = keys_among events
 keys_among (Tick ticks ∷ events) = keys_among events
+keys_among (Poke gpa value ∷ events) = keys_among events
 
 -- those that are no keys, in order
 abbrev pub others_among : List Event → List Event
@@ -46,3 +47,4 @@ others_among (Key byte ∷ events) = others_among events
 others_among (Turn hart ∷ events) = Turn hart ∷ others_among events
 others_among (Beat ∷ events) = Beat ∷ others_among events
 others_among (Tick ticks ∷ events) = Tick ticks ∷ others_among events
+others_among (Poke gpa value ∷ events) = Poke gpa value ∷ others_among events

@@ -14,7 +14,7 @@ use Rattle.processor.specs.declared.cause.Cause.{Cause}
 use Rattle.processor.specs.declared.csr.Csr.{Csr}
 use Rattle.processor.specs.declared.effect.Effect.{Effect}
 use Rattle.sv_types.specs.declared.event.Event.{Event}
-use Rattle.sv_types.specs.declared.event.Event.TheVariants.{Turn, Beat, Key, Tick}
+use Rattle.sv_types.specs.declared.event.Event.TheVariants.{Turn, Beat, Key, Tick, Poke}
 use Rattle.sv_types.specs.declared.event.Verdict.{Verdict}
 use Rattle.sv_types.specs.declared.event.Verdict.TheVariants.{Running, Shutdown, Stopped}
 use Rattle.processor.specs.declared.instruction.AmoOp.{AmoOp}
@@ -33,7 +33,8 @@ use Rattle.reference.specs.declared.answers.Beside.{Beside}
 use Rattle.reference.specs.declared.answers.Beside.TheVariants.{SendsInterrupts, StartsHart}
 use Rattle.reference.specs.declared.answers.Reply.{Reply}
 use Rattle.reference.specs.declared.answers.Reply.TheVariants.{Gives, Replies, Stays, Stops}
-use Rattle.reference.specs.Devices.{DeviceLoad, DeviceStore, hart_after_write, with_bytes, after_move, beat, key, tick, device_load, device_store, lines_at, with_disk}
+use Rattle.reference.specs.Devices.{DeviceLoad, DeviceStore, hart_after_write, with_bytes, after_move, may_move_to, beat, poke, key, tick, device_load, device_store, lines_at, with_disk}
+use Rattle.reference.specs.Attacker.{poke_move}
 use Rattle.reference.specs.Disk.{Beaten, disk_beat}
 use Rattle.reference.specs.Move.{Move, Idle, FromRam, IntoRam, DeniedAt, OutsideRam}
 use Rattle.reference.specs.Loads.{decide, load_step_of}
@@ -336,6 +337,10 @@ beat_keeps r k =
     let b : Beaten = disk_beat r.devices.disk r.ram (λ page. not (is_protected r page)) in
     move_keeps (with_disk r b.disk) b.move k
 
+poke_keeps : (r : State) (gpa value : ℕ) → Keeps r → Keeps (poke r gpa value)
+unfolding poke
+poke_keeps r gpa value k = move_keeps r (poke_move r.ram (λ page. may_move_to r page) gpa value) k
+
 key_keeps : (r : State) (byte : ℕ) → Keeps r → Keeps (key r byte)
 unfolding key
 key_keeps r byte k = k
@@ -352,6 +357,7 @@ happen_keeps r (Turn h) small k = turn_keeps (count r count_turn) h small k
 happen_keeps r Beat small k = beat_keeps (count r count_beat) k
 happen_keeps r (Key byte) small k = key_keeps (count r count_key) byte k
 happen_keeps r (Tick n) small k = tick_keeps (count r count_tick) n k
+happen_keeps r (Poke gpa value) small k = poke_keeps (count r count_beat) gpa value k
 
 under_keeps : (verdict : Verdict) (r : State) (e : Event) → IsSmall r.ram → Keeps r → Keeps (happen_under verdict r e)
 unfolding happen_under

@@ -13,7 +13,7 @@ use Rattle.processor.specs.declared.outcome.Outcome.{Outcome}
 use Rattle.sv_types.specs.declared.event.Event.TheVariants.{Turn}
 use Rattle.sv_types.specs.declared.event.Rule.TheVariants.{Entry}
 use Rattle.sv_types.specs.declared.event.Verdict.{Verdict}
-use Rattle.sv_types.specs.declared.event.Verdict.TheVariants.{Stopped}
+use Rattle.sv_types.specs.declared.event.Verdict.TheVariants.{Running, Stopped}
 use Rattle.reference.specs.Counting.{CountsAtMost, MayCount, count_trap, count_turn, with_count, machine_ended}
 use Rattle.reference.specs.Devices.{lines_at}
 use Rattle.reference.specs.States.{Binding, Journal, State}
@@ -26,7 +26,7 @@ use Rattle.machine_model.specs.Served.{Seen, answer_in, exit_answer, is_again, i
 use Rattle.machine_model.specs.StandsFor.{StandsFor}
 use Rattle.machine_model.specs.Steps.{AttemptsServed, IsStep, IsTurn, StepsUnder, WithTables}
 use Rattle.machine_model.specs.declared.exits.ExitAnswer.{ExitAnswer}
-use Rattle.quick_turns.specs.Ends.{with_leaving}
+use Rattle.quick_turns.specs.Ends.{is_left, with_leaving}
 use Rattle.quick_turns.specs.Rows.{Leaves, LeavesBy, call_exit, return_exit}
 use Rattle.quick_turns.specs.declared.leaving.Leaving.{Leaving}
 use Rattle.quick_turns.specs.declared.leaving.Leaving.TheVariants.{Stays, Calls, Returns}
@@ -38,7 +38,7 @@ use Rattle.machine_parts.proofs.Turns.{carried, exit_served, turn_served}
 use Rattle.machine_parts.specs.Attempts.{hart_in}
 use Rattle.machine.specs.Limits.{most_counts}
 use Rattle.machine.specs.Machines.{HaveAddresses}
-use Rattle.machine_parts.specs.Rows.{AnswersLeaving, EndsRow, MayRow, after_row, call_answer, counted_leaving, counted_row}
+use Rattle.machine_parts.specs.Rows.{AnswersLeaving, EndsRow, MayRow, after_attempts, after_row, call_answer, counted_leaving, counted_row}
 use Rattle.machine_parts.specs.Turns.{MayTrap, answered_exit}
 use Rattle.answer_laws.proofs.TurnsServed.{forgets_none}
 
@@ -95,9 +95,9 @@ return_quiet m h host mode = refl
 
 -- ---- the turn
 
-same_but : (m : Machine) (region other : Region) (harts others : List HostHart) (j : Journal) (n : ℕ) → region ≡ other → harts ≡ others
-    → record m { region = region; harts = harts; journal = j; attempts = n } ≡ record m { region = other; harts = others; journal = j; attempts = n }
-same_but m region other harts others j n e f = rw (e, f) refl
+same_but : (m : Machine) (region other : Region) (harts others : List HostHart) (j : Journal) (n k : ℕ) → region ≡ other → harts ≡ others → n ≡ k
+    → record m { region = region; harts = harts; journal = j; attempts = n } ≡ record m { region = other; harts = others; journal = j; attempts = k }
+same_but m region other harts others j n k e f g = rw (e, f, g) refl
 
 left_outcome : (core : Core) (exit : Exit) → (leave core exit).outcome ≡ Outcome.Exit exit
 unfolding leave
@@ -110,12 +110,13 @@ left_mode core exit = refl
 module _ (m : Machine) (h n : ℕ) (region : Region) (last core : Core) (exit : Exit) (answer : ExitAnswer) (after : Machine) (may : MayRow m h)
     (leaves : Leaves (attempt region last (lines_at m.devices h)) exit region last core)
     (asked : (seen : Seen) → seen.mode ≡ last.hregs.mode → exit_answer seen exit ≡ answer) (once : is_again answer ≡ false)
-    (done : WithTables (counted_leaving (after_row m h n region core)) (answered_exit (counted_leaving (after_row m h n region core)) h answer) after) where
+    (done : WithTables (counted_leaving (record (after_row m h n region core) { attempts = m.attempts + (n + 1) }))
+    (answered_exit (counted_leaving (record (after_row m h n region core) { attempts = m.attempts + (n + 1) })) h answer) after) where
   abbrev now : Machine
   now = after_row m h n region last
 
   abbrev behind : Machine
-  behind = counted_leaving (after_row m h n region core)
+  behind = counted_leaving (record (after_row m h n region core) { attempts = m.attempts + (n + 1) })
 
   abbrev host : HostHart
   host = hart_in now.harts h
@@ -146,8 +147,8 @@ module _ (m : Machine) (h n : ℕ) (region : Region) (last core : Core) (exit : 
   unfolding made
   left_is =
       same_but m made.region region (all_forget made.outcome (update now.harts h (with_core made.core))) (update m.harts h (with_core core))
-      (with_count count_turn (counted_row n m.journal)) (m.attempts + n + 1)
-      (ap (λ (a : Attempted). a.region) made_is) harts_are
+      (with_count count_turn (counted_row n m.journal)) (m.attempts + n + 1) (m.attempts + (n + 1))
+      (ap (λ (a : Attempted). a.region) made_is) harts_are (omega arith)
 
   -- the hart that it left is in the same mode
   mode_is : (hart_in behind.harts h).core.hregs.mode ≡ last.hregs.mode
@@ -187,22 +188,22 @@ module _ (m : Machine) (h n : ℕ) (region : Region) (last core : Core) (exit : 
   pub behind_rowed : Rowed n m h now → (answered_exit behind h answer).journal.printed ≡ behind.journal.printed → Rowed (n + 1) m h after
   behind_rowed row quiet =
       subst (λ (k : ℕ). Rowed k m h after) (sym (add-one n))
-      (one_step m now after h n row steps_behind
+      (one_step m now after h n row (λ is. row_verdict n m.journal ∙ is) steps_behind
       (ap (λ (x : Machine). length x.journal.printed) done.same ∙ ap (λ (xs : List ℕ). length xs) (quiet ∙ row_printed n m.journal)))
 
 -- ---- a row with its end
 
 ended : (left : Leaving) (n : ℕ) (m after : Machine) (h : ℕ) (region : Region) (last core : Core) → MayRow m h → Rowed n m h (after_row m h n region last)
-    → LeavesBy left (attempt region last (lines_at m.devices h)) region last core → AnswersLeaving left (after_row m h n region core) h after
+    → LeavesBy left (attempt region last (lines_at m.devices h)) region last core → AnswersLeaving left (after_attempts left m h n region core) h after
     → Rowed (with_leaving left n) m h after
 ended Stays n m after h region last core may row same answer =
     subst (λ (x : Machine). Rowed n m h x) (ap (λ (c : Core). after_row m h n region c) (sym same) ∙ sym answer) row
 ended Calls n m after h region last core may row (user, leaves) answer =
     behind_rowed m h n region last core (call_exit last.pc) call_answer after may leaves (λ seen same. call_asked seen last.pc) call_once answer row
-    (call_quiet (counted_leaving (after_row m h n region core)) h (hart_in (update m.harts h (with_core core)) h) (hart_in (update m.harts h (with_core core)) h).core.hregs.mode)
+    (call_quiet (counted_leaving (after_attempts Calls m h n region core)) h (hart_in (update m.harts h (with_core core)) h) (hart_in (update m.harts h (with_core core)) h).core.hregs.mode)
 ended Returns n m after h region last core may row (kernel, leaves) answer =
     behind_rowed m h n region last core (return_exit last.pc) ExitAnswer.Returns after may leaves (λ seen same. return_asked seen last.pc (same ∙ kernel)) return_once answer row
-    (return_quiet (counted_leaving (after_row m h n region core)) h (hart_in (update m.harts h (with_core core)) h) (hart_in (update m.harts h (with_core core)) h).core.hregs.mode)
+    (return_quiet (counted_leaving (after_attempts Returns m h n region core)) h (hart_in (update m.harts h (with_core core)) h) (hart_in (update m.harts h (with_core core)) h).core.hregs.mode)
 
 -- what is known of a machine that may make a row
 pub record Begins (m : Machine) (h : ℕ) : Type 0 where
@@ -221,6 +222,24 @@ pub ends_rowed : (left : Leaving) (n : ℕ) (m mid after : Machine) (h : ℕ) �
 ends_rowed left n m mid after h begins ends answer =
     ended left n m after h ends.region ends.last ends.core begins.may (first_rowed left n m mid h begins ends) ends.leaves
     (subst (λ (x : Machine). AnswersLeaving left x h after) ends.same answer)
+
+-- a row after which the hart stays in the guest ends no run
+ends_running_by : (left : Leaving) (n : ℕ) (m mid after : Machine) (h : ℕ) → mid.journal ≡ counted_row n m.journal → AnswersLeaving left mid h after → left ≡ Stays
+    → m.journal.verdict ≡ Running → after.journal.verdict ≡ Running
+ends_running_by Stays n m mid after h journal same stays is =
+    ap (λ (x : Machine). x.journal.verdict) same ∙ ap (λ (j : Journal). j.verdict) journal ∙ row_verdict n m.journal ∙ is
+ends_running_by Calls n m mid after h journal answers stays is = absurd (cc)
+ends_running_by Returns n m mid after h journal answers stays is = absurd (cc)
+
+pub ends_running : (left : Leaving) (n : ℕ) (m mid after : Machine) (h : ℕ) → EndsRow left n m h mid → AnswersLeaving left mid h after → left ≡ Stays
+    → m.journal.verdict ≡ Running → after.journal.verdict ≡ Running
+ends_running left n m mid after h ends answers stays is =
+    ends_running_by left n m mid after h (ap (λ (x : Machine). x.journal) ends.same) answers stays is
+
+pub stays_there : (left : Leaving) → is_left left ≡ false → left ≡ Stays
+stays_there Stays is = refl
+stays_there Calls is = absurd (cc)
+stays_there Returns is = absurd (cc)
 
 -- ---- what the answer asks for
 
@@ -269,8 +288,3 @@ may_count m counts = record {
   refused = omega (arith, counts.refused);
   notes = omega (arith, counts.notes);
 }
-
-pub behind_bounded : (left : Leaving) (n : ℕ) (m mid : Machine) (h : ℕ) → Begins m h → EndsRow left n m h mid → Bounded mid
-behind_bounded left n m mid h begins ends =
-    let row = first_rowed left n m mid h begins ends in
-    subst Bounded (sym ends.same) (record { attempts = row.bounded.attempts; printed = row.bounded.printed })

@@ -1,7 +1,8 @@
 -- A run, its console and the sink.
-use Rattle.std.proofs.Common.{◌≡◌, ◌≢◌, ℕ, zero, suc, ◌≤◌, ◌<◌, List, [], ◌∷◌, ◌++◌, length, replicate, refl, sym, ◌∙◌, ap, subst, append_assoc, arith, IsTrue}
+use Rattle.std.proofs.Common.{◌≡◌, ◌≢◌, ℕ, zero, suc, ◌≤◌, ◌<◌, List, [], ◌∷◌, ◌++◌, length, drop, replicate, refl, sym, ◌∙◌, ap, subst, append_assoc, arith, IsFalse, IsTrue, length-append}
 use Rattle.sv_types.specs.Limits.{most_printed}
-use Rattle.std.proofs.lemmas.List.{append-nil}
+use Rattle.std.proofs.lemmas.List.{append-nil, append_cancel_left}
+use Rattle.std.proofs.Math.Seq.{drop-append_seam}
 use Rattle.sv_types.specs.declared.event.Event.{Event}
 use Rattle.sv_types.specs.declared.event.Counts.{Counts}
 use Rattle.sv_types.specs.declared.event.Verdict.{Verdict}
@@ -21,7 +22,7 @@ use Rattle.outside.specs.Outside.{SinkState, after_taking, BreaksOff}
 use Rattle.outside.proofs.SinkLemmas.{after_taking-append, after_taking-nil}
 use Rattle.machine.specs.Standing.{Stands, HasState}
 use Rattle.machine.specs.Console.{is_due, HasTaken, Flushed, HasRun, RunBroke}
-use Rattle.machine.proofs.Standing.{stands_new, stands_step, stands_away, stands_verdict, away_counts, cleared_none, event_ended, flushed_none, step_room, verdict_is}
+use Rattle.machine.proofs.Standing.{stands_new, stands_step, stands_away, stands_verdict, away_counts, cleared_none, event_ended, flushed_none, prints_behind, stands_printed, step_room, verdict_is}
 
 -- ---- the machines on the way
 
@@ -91,7 +92,7 @@ ran_again : (n : ℕ) (first : Machine) (start : State) (done : List Event) (m n
     HasRun first start done m old now → Repeats n m event next → HasRun first start (done ++ replicate n event) next old now
 ran_again zero first start done m next event old now ran same =
     subst (λ (events : List Event). HasRun first start events next old now) (sym (append-nil done)) (subst (λ (x : Machine). HasRun first start done x old now) (sym same) ran)
-ran_again (suc n) first start done m next event old now ran (before, (those, (quiet, makes))) =
+ran_again (suc n) first start done m next event old now ran (before, (those, (on, makes))) =
     subst (λ (events : List Event). HasRun first start events next old now) (in_row done n event)
     (ran_more first start (done ++ replicate n event) before next next event old now now (ran_again n first start done m before event old now ran those) makes (flushed_none next now))
 
@@ -99,7 +100,7 @@ ran_again (suc n) first start done m next event old now ran (before, (those, (qu
 ran_flushed : (n : ℕ) (first : Machine) (start : State) (done : List Event) (m next flushed : Machine) (event : Event) (old now new : SinkState) → 0 < n →
     HasRun first start done m old now → Repeats n m event next → Flushed next flushed now new → HasRun first start (done ++ replicate n event) flushed old new
 ran_flushed zero first start done m next flushed event old now new some ran repeats f = absurd (omega arith)
-ran_flushed (suc n) first start done m next flushed event old now new some ran (before, (those, (quiet, makes))) f =
+ran_flushed (suc n) first start done m next flushed event old now new some ran (before, (those, (on, makes))) f =
     subst (λ (events : List Event). HasRun first start events flushed old new) (in_row done n event)
     (ran_more first start (done ++ replicate n event) before next flushed event old now new (ran_again n first start done m before event old now ran those) makes f)
 
@@ -115,29 +116,80 @@ runs_more n first start all left rest m next flushed event old now new some on p
   ran = ran_flushed n first start on.done m next flushed event old now new some on.ran repeats f;
 }
 
-broke_next : (n : ℕ) (first : Machine) (start : State) (all left rest : List Event) (m next : Machine) (event : Event) (old now new : SinkState) →
-    RunsOn first start all left m old now → left ≡ replicate n event ++ rest → Repeats n m event next →
+-- what a run prints stands behind what was printed before
+run_prints : (r : State) (events : List Event) → (more : List ℕ) × ((run r events).journal.printed ≡ r.journal.printed ++ more)
+run_prints r [] = ([], sym (append-nil r.journal.printed))
+run_prints r (e ∷ events) =
+    let one = prints_behind r e in
+    let those = run_prints (step r e) events in (
+      one.0 ++ those.0,
+      those.1 ∙ ap (λ (p : List ℕ). p ++ those.0) one.1 ∙ append_assoc r.journal.printed one.0 those.0,
+    )
+
+-- an event several times, with nothing taken away
+repeats_stands : (k : ℕ) (m before : Machine) (event : Event) (r : State) (cleared : List ℕ) → Stands m cleared r → Repeats k m event before →
+    Stands before cleared (run r (replicate k event))
+repeats_stands zero m before event r cleared s same = subst (λ (x : Machine). Stands x cleared r) (sym same) s
+repeats_stands (suc k) m before event r cleared s (mid, (those, (on, makes))) =
+    let here : Stands mid cleared (run r (replicate k event)) = repeats_stands k m mid event r cleared s those in
+    subst (λ (x : State). Stands before cleared x)
+    (sym (run_on r (replicate k event) (event ∷ [])) ∙ ap (λ (events : List Event). run r events) (one_more k event))
+    (stands_step mid before (run r (replicate k event)) cleared event here (makes.stands (run r (replicate k event)) here.stands) makes.event)
+
+none_more : (bytes more : List ℕ) → length (bytes ++ more) ≡ length bytes → bytes ++ more ≡ bytes
+none_more bytes [] same = append-nil bytes
+none_more bytes (b ∷ more) same = let all = length-append bytes (b ∷ more) in absurd (omega (arith, all, same))
+
+-- where nothing more was printed, the same bytes stand
+still_printed : (m before : Machine) (r after : State) (cleared : List ℕ) → Stands m cleared r → Stands before cleared after →
+    (more : List ℕ) × (after.journal.printed ≡ r.journal.printed ++ more) → length before.journal.printed ≡ length m.journal.printed → before.journal.printed ≡ m.journal.printed
+still_printed m before r after cleared s t (more, prints) quiet =
+    let grown : m.journal.printed ++ more ≡ before.journal.printed =
+    append_cancel_left cleared (m.journal.printed ++ more) before.journal.printed
+    (sym (append_assoc cleared m.journal.printed more) ∙ ap (λ (p : List ℕ). p ++ more) (stands_printed m r cleared s) ∙ sym prints
+    ∙ sym (stands_printed before after cleared t)) in
+    sym grown ∙ none_more m.journal.printed more (ap (λ (p : List ℕ). length p) grown ∙ quiet)
+
+pub left_printed : (m : Machine) (r : State) (cleared : List ℕ) → Stands m cleared r → drop (length cleared) r.journal.printed ≡ m.journal.printed
+left_printed m r cleared s =
+    ap (λ (p : List ℕ). drop (length cleared) p) (sym (stands_printed m r cleared s)) ∙ drop-append_seam cleared m.journal.printed
+
+broke_next : (n : ℕ) (first : Machine) (start : State) (all left rest : List Event) (m next : Machine) (event : Event) (old now new : SinkState) → 0 < n →
+    IsFalse (is_due m.journal.printed) → RunsOn first start all left m old now → left ≡ replicate n event ++ rest → Repeats n m event next →
     length next.journal.printed ≤ most_printed → IsTrue (is_due next.journal.printed) → BreaksOff now new next.journal.printed → RunBroke first start all next old new
-broke_next n first start all left rest m next event old now new on parts repeats room due broke =
-    let ran : HasRun first start (on.done ++ replicate n event) next old now = ran_again n first start on.done m next event old now on.ran repeats in
+broke_next zero first start all left rest m next event old now new some undue on parts repeats room due broke = absurd (omega arith)
+broke_next (suc k) first start all left rest m next event old now new some undue on parts (before, (those, (still, makes))) room due broke =
+    let front : List Event = on.done ++ replicate k event in
+    let ran : HasRun first start front before old now = ran_again k first start on.done m before event old now on.ran those in
+    let joined : run start front ≡ run (run start on.done) (replicate k event) = run_on start on.done (replicate k event) in
+    let s : Stands before on.ran.cleared (run (run start on.done) (replicate k event)) = repeats_stands k m before event (run start on.done) on.ran.cleared on.ran.stands those in
+    let here : Stands before on.ran.cleared (run start front) = subst (λ (x : State). Stands before on.ran.cleared x) (sym joined) s in
+    let same : before.journal.printed ≡ m.journal.printed =
+    still_printed m before (run start on.done) (run (run start on.done) (replicate k event)) on.ran.cleared on.ran.stands s (run_prints (run start on.done) (replicate k event)) still.quiet in
     record {
-      done = on.done ++ replicate n event;
+      done = front ++ event ∷ [];
       left = rest;
-      split = split_by all on.done left rest (replicate n event) parts on.split;
-      cleared = ran.cleared;
-      stands = ran.stands;
-      chain = ran.chain;
+      split = ap (λ (events : List Event). events ++ rest) (in_row on.done k event) ∙ split_by all on.done left rest (replicate (suc k) event) parts on.split;
+      cleared = on.ran.cleared;
+      stands = stands_next start before next front event on.ran.cleared here makes;
+      chain = reaches_more first start front before next next event ran.chain makes.event (makes.stands (run start front) here.stands) (cleared_none next);
       room = room;
+      late = record {
+        front = front;
+        last = event;
+        split = refl;
+        rest = ap is_due (left_printed before (run start front) on.ran.cleared here ∙ same) ∙ undue;
+      };
       due = due;
-      broke = subst (λ (k : SinkState). BreaksOff k new next.journal.printed) ran.taken broke;
+      broke = subst (λ (k : SinkState). BreaksOff k new next.journal.printed) on.ran.taken broke;
     }
 
-pub runs_broke : (n : ℕ) (first : Machine) (start : State) (all left rest : List Event) (m next stays : Machine) (event : Event) (old now new : SinkState) →
-    RunsOn first start all left m old now → left ≡ replicate n event ++ rest → Repeats n m event next →
+pub runs_broke : (n : ℕ) (first : Machine) (start : State) (all left rest : List Event) (m next stays : Machine) (event : Event) (old now new : SinkState) → 0 < n →
+    IsFalse (is_due m.journal.printed) → RunsOn first start all left m old now → left ≡ replicate n event ++ rest → Repeats n m event next →
     stays ≡ next → length next.journal.printed ≤ most_printed → IsTrue (is_due next.journal.printed) → BreaksOff now new next.journal.printed → RunBroke first start all stays old new
-runs_broke n first start all left rest m next stays event old now new on parts repeats same room due broke =
+runs_broke n first start all left rest m next stays event old now new some undue on parts repeats same room due broke =
     subst (λ (x : Machine). RunBroke first start all x old new) (sym same)
-    (broke_next n first start all left rest m next event old now new on parts repeats room due broke)
+    (broke_next n first start all left rest m next event old now new some undue on parts repeats room due broke)
 
 -- ---- the end
 
@@ -190,5 +242,5 @@ room_after m next e has makes room =
 -- the last event alone may print
 pub room_again : (n : ℕ) (m next : Machine) (e : Event) → HasState m → Repeats n m e next → length m.journal.printed < most_printed → length next.journal.printed ≤ most_printed
 room_again zero m next e has same room = let none : length next.journal.printed ≡ length m.journal.printed = ap (λ (x : Machine). length x.journal.printed) same in omega (arith, none)
-room_again (suc n) m next e has (before, (those, (quiet, makes))) room =
-    room_after before next e (record { state = run has.state (replicate n e); stands = repeats_stand n m before e those has.state has.stands }) makes (omega (arith, quiet, room))
+room_again (suc n) m next e has (before, (those, (on, makes))) room =
+    room_after before next e (record { state = run has.state (replicate n e); stands = repeats_stand n m before e those has.state has.stands }) makes (let quiet = on.quiet in omega (arith, quiet, room))

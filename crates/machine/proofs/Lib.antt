@@ -6,6 +6,7 @@ pub mod Ready
 pub mod Stepped
 pub mod Repeated
 pub mod Kept
+pub mod Texts
 pub mod Addressed
 pub mod Rows
 pub mod Resuming

@@ -12,7 +12,7 @@ use Rattle.run_laws.specs.GrowthLaws.{RiseByOne}
 use Rattle.run_laws.proofs.StepsGrow.{grows_law}
 use Rattle.machine_model.specs.Machine.{Machine}
 use Rattle.machine_model.specs.StandsFor.{StandsFor, machine_of}
-use Rattle.machine.specs.Repeats.{IsQuiet, Makes, Repeats}
+use Rattle.machine.specs.Repeats.{GoesOn, Makes, Repeats}
 
 -- ---- counts
 
@@ -99,12 +99,12 @@ one_more n e = replicate-append-replicate n 1 e ∙ ap (λ (k : ℕ). replicate 
 -- the machine stands for the state after all of them
 pub repeats_stand : (n : ℕ) (m after : Machine) (e : Event) → Repeats n m e after → (r : State) → StandsFor m r → StandsFor after (run r (replicate n e))
 repeats_stand zero m after e same r stands = subst (λ (x : Machine). StandsFor x r) (sym same) stands
-repeats_stand (suc n) m after e (before, (those, (quiet, makes))) r stands =
+repeats_stand (suc n) m after e (before, (those, (on, makes))) r stands =
     subst (λ (s : State). StandsFor after s) (sym (run_on r (replicate n e) (e ∷ [])) ∙ ap (λ (events : List Event). run r events) (one_more n e))
     (makes.stands (run r (replicate n e)) (repeats_stand n m before e those r stands))
 
-pub repeats_more : (n : ℕ) (m before after : Machine) (e : Event) → Repeats n m e before → IsQuiet m before → Makes before e after → Repeats (n + 1) m e after
-repeats_more n m before after e those quiet makes = subst (λ (k : ℕ). Repeats k m e after) (sym (add-one n)) (before, (those, (quiet, makes)))
+pub repeats_more : (n : ℕ) (m before after : Machine) (e : Event) → Repeats n m e before → GoesOn m before → Makes before e after → Repeats (n + 1) m e after
+repeats_more n m before after e those on makes = subst (λ (k : ℕ). Repeats k m e after) (sym (add-one n)) (before, (those, (on, makes)))
 
 -- once
 pub repeats_once : (n : ℕ) (m after : Machine) (e : Event) → n ≡ 1 → Repeats n m e after → Makes m e after
@@ -112,13 +112,16 @@ repeats_once n m after e one repeats =
     let those : Repeats (suc zero) m e after = subst (λ (k : ℕ). Repeats k m e after) one repeats in
     subst (λ (x : Machine). Makes x e after) those.1.0 those.1.1.1
 
--- behind some that printed nothing, more of them
-pub repeats_on : (n k : ℕ) (m mid after : Machine) (e : Event) → Repeats n m e mid → IsQuiet m mid → Repeats k mid e after → Repeats (n + k) m e after
-repeats_on n zero m mid after e those quiet same =
+goes_then : (m mid after : Machine) → GoesOn m mid → GoesOn mid after → GoesOn m after
+goes_then m mid after first second = record { quiet = second.quiet ∙ first.quiet; running = λ is. second.running (first.running is) }
+
+-- after some that printed nothing and didn't end the run, more of them
+pub repeats_on : (n k : ℕ) (m mid after : Machine) (e : Event) → Repeats n m e mid → GoesOn m mid → Repeats k mid e after → Repeats (n + k) m e after
+repeats_on n zero m mid after e those on same =
     let sum : n ≡ n + 0 = omega arith in
     subst (λ (i : ℕ). Repeats i m e after) sum (subst (λ (x : Machine). Repeats n m e x) (sym same) those)
-repeats_on n (suc k) m mid after e those quiet (before, (more, (still, makes))) =
-    let rest : Repeats (suc (n + k)) m e after = (before, (repeats_on n k m mid before e those quiet more, (still ∙ quiet, makes))) in
+repeats_on n (suc k) m mid after e those on (before, (more, (still, makes))) =
+    let rest : Repeats (suc (n + k)) m e after = (before, (repeats_on n k m mid before e those on more, (goes_then m mid before on still, makes))) in
     let sum : suc (n + k) ≡ n + suc k = omega arith in
     subst (λ (i : ℕ). Repeats i m e after) sum rest
 

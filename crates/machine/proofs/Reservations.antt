@@ -5,13 +5,14 @@ use Rattle.processor.specs.Bytes.{ram_place}
 use Rattle.processor.specs.Traps.{trap_target}
 use Rattle.processor.specs.declared.mode.Mode.{Mode}
 use Rattle.sv_types.specs.declared.event.Event.{Event}
-use Rattle.sv_types.specs.declared.event.Event.TheVariants.{Turn, Beat, Key, Tick}
+use Rattle.sv_types.specs.declared.event.Event.TheVariants.{Turn, Beat, Key, Tick, Poke}
 use Rattle.sv_types.specs.declared.event.Rule.TheVariants.{Entry}
 use Rattle.sv_types.specs.declared.event.Verdict.{Verdict}
 use Rattle.sv_types.specs.declared.event.Verdict.TheVariants.{Running, Shutdown, Stopped}
+use Rattle.reference.specs.Attacker.{poke_move}
 use Rattle.reference.specs.Disk.{disk_beat, is_writable}
 use Rattle.reference.specs.Move.{Move, Idle, FromRam, IntoRam, DeniedAt, OutsideRam}
-use Rattle.machine_model.specs.HostEvents.{after_host_move, beat_served, event_served, key_served, tick_served, with_host_disk}
+use Rattle.machine_model.specs.HostEvents.{after_host_move, beat_served, event_served, poke_served, key_served, tick_served, with_host_disk}
 use Rattle.sv_types.specs.Policies.{Rules}
 use Rattle.reference.specs.Counting.{count_beat, count_trap, with_count, machine_ended}
 use Rattle.reference.specs.Trapping.{may_enter}
@@ -41,6 +42,10 @@ beaten_free m free =
     let b = disk_beat m.devices.disk m.region.ram (is_writable m.dma) in
     moved_free (with_host_disk m b.disk) b.move free
 
+poked_free : (m : Machine) (gpa value : ℕ) → AreFree m.harts → AreFree (poke_served m gpa value).harts
+unfolding poke_served
+poked_free m gpa value free = moved_free m (poke_move m.region.ram (is_writable m.dma) gpa value) free
+
 event_free : (known : Bool) (m after : Machine) (e : Event) → AreFreeWhere known m.harts → Steps m e after → AreFreeWhere (known && reserves_nothing e) after.harts
 unfolding event_served key_served tick_served
 event_free false m after e free steps = tt
@@ -48,6 +53,7 @@ event_free true m after (Turn h) free steps = tt
 event_free true m after Beat free steps = subst (λ (x : Machine). AreFree x.harts) (sym steps) (beaten_free (with_count_raised m count_beat) free)
 event_free true m after (Key byte) free steps = subst (λ (x : Machine). AreFree x.harts) (sym steps) free
 event_free true m after (Tick n) free steps = subst (λ (x : Machine). AreFree x.harts) (sym steps) free
+event_free true m after (Poke gpa value) free steps = subst (λ (x : Machine). AreFree x.harts) (sym steps) (poked_free (with_count_raised m count_beat) gpa value free)
 
 -- a machine that stays as it is
 stays_free : (known : Bool) (m after : Machine) (e : Event) → AreFreeWhere known m.harts → after ≡ m → AreFreeWhere (known && reserves_nothing e) after.harts
@@ -56,6 +62,7 @@ stays_free true m after (Turn h) free same = tt
 stays_free true m after Beat free same = subst (λ (x : Machine). AreFree x.harts) (sym same) free
 stays_free true m after (Key byte) free same = subst (λ (x : Machine). AreFree x.harts) (sym same) free
 stays_free true m after (Tick n) free same = subst (λ (x : Machine). AreFree x.harts) (sym same) free
+stays_free true m after (Poke gpa value) free same = subst (λ (x : Machine). AreFree x.harts) (sym same) free
 
 under_free : (verdict : Verdict) (known : Bool) (m after : Machine) (e : Event) → AreFreeWhere known m.harts → StepsUnder verdict m e after
     → AreFreeWhere (known && reserves_nothing e) after.harts

@@ -6,6 +6,7 @@ use Rattle.processor.specs.Regions.{Region}
 use Rattle.processor.specs.declared.outcome.Outcome.{Outcome}
 use Rattle.sv_types.specs.declared.event.Event.TheVariants.{Turn}
 use Rattle.sv_types.specs.declared.event.Verdict.{Verdict}
+use Rattle.sv_types.specs.declared.event.Verdict.TheVariants.{Running}
 use Rattle.reference.specs.Counting.{with_count, count_turn, count_retired, CountsAtMost}
 use Rattle.reference.specs.Devices.{lines_at}
 use Rattle.reference.specs.Run.{step}
@@ -119,11 +120,12 @@ no_turn m h r region core e f stands addresses bounded =
       counts = λ k counts. subst (λ (i : ℕ). CountsAtMost i m.journal.counts) (omega arith) counts;
     })
 
-pub one_step : (m now after : Machine) (h n : ℕ) → Rowed n m h now → IsStep now (Turn h) after → IsQuiet m after → Rowed (suc n) m h after
-one_step m now after h n row is quiet =
+pub one_step : (m now after : Machine) (h n : ℕ) → Rowed n m h now → (m.journal.verdict ≡ Running → now.journal.verdict ≡ Running) → IsStep now (Turn h) after → IsQuiet m after
+    → Rowed (suc n) m h after
+one_step m now after h n row on is quiet =
     let behind : StandsFor after (step row.state (Turn h)) = step_stands now after (Turn h) is row.state row.stands in
     record {
-      chain = (now, (row.chain, (row.quiet, record { stands = step_stands now after (Turn h) is; event = step_happens now after row.state (Turn h) row.stands is })));
+      chain = (now, (row.chain, (record { quiet = row.quiet; running = on }, record { stands = step_stands now after (Turn h) is; event = step_happens now after row.state (Turn h) row.stands is })));
       quiet = quiet;
       state = step row.state (Turn h);
       stands = behind;
@@ -137,7 +139,7 @@ one_step m now after h n row is quiet =
 one_turn : (m : Machine) (h n : ℕ) (mid : Region) (before : Core) (region : Region) (core : Core) → MayRow m h
     → Carries (attempt mid before (lines_at m.devices h)) region core → Rowed n m h (after_row m h n mid before) → Rowed (suc n) m h (after_row m h (suc n) region core)
 one_turn m h n mid before region core may carries row =
-    one_step m (after_row m h n mid before) (after_row m h (suc n) region core) h n row (steps m h n mid before region core may carries)
+    one_step m (after_row m h n mid before) (after_row m h (suc n) region core) h n row (λ is. row_verdict n m.journal ∙ is) (steps m h n mid before region core may carries)
     (ap (λ (xs : List ℕ). length xs) (row_printed (suc n) m.journal))
 
 pub rowed : (n : ℕ) (m : Machine) (h : ℕ) (r : State) (region : Region) (core : Core) → MayRow m h → StandsFor m r → HaveAddresses r.harts → Bounded m

@@ -5,7 +5,7 @@ use Rattle.std.proofs.lemmas.List.{take-append-le, take-append-drop, length-drop
 use Rattle.std.proofs.Math.Seq.{take-add}
 use Rattle.processor.specs.Hardware.{Attempted}
 use Rattle.sv_types.specs.declared.event.Event.{Event}
-use Rattle.sv_types.specs.declared.event.Event.TheVariants.{Turn, Beat, Key, Tick}
+use Rattle.sv_types.specs.declared.event.Event.TheVariants.{Turn, Beat, Key, Tick, Poke}
 use Rattle.sv_types.specs.declared.event.Verdict.{Verdict}
 use Rattle.sv_types.specs.declared.event.Verdict.TheVariants.{Running, Shutdown, Stopped}
 use Rattle.processor.specs.declared.outcome.Outcome.{Outcome}
@@ -78,15 +78,16 @@ turn_keeps : (m : Machine) (h : ℕ) (hart : Option HostHart) (after : Machine) 
 turn_keeps m h None after it = ap (λ (x : Machine). x.cleared) it.same
 turn_keeps m h (Some hart) after it = hart_keeps hart.started m h hart after it
 
-beat_keeps_by : (before : Machine) (bytes : Option Written) → (with_bytes_at before bytes).cleared ≡ before.cleared
-beat_keeps_by before None = refl
-beat_keeps_by before (Some w) = refl
+bytes_keep_by : (before : Machine) (bytes : Option Written) → (with_bytes_at before bytes).cleared ≡ before.cleared
+bytes_keep_by before None = refl
+bytes_keep_by before (Some w) = refl
 
 happens_keeps : (m : Machine) (e : Event) (after : Machine) → Happens m e after → after.cleared ≡ m.cleared
 happens_keeps m (Turn h) after it = turn_keeps m h (slice_get m.harts h) after it
-happens_keeps m Beat after it = ap (λ (x : Machine). x.cleared) it.same ∙ beat_keeps_by m it.bytes
+happens_keeps m Beat after it = ap (λ (x : Machine). x.cleared) it.same ∙ bytes_keep_by m it.bytes
 happens_keeps m (Key byte) after it = ap (λ (x : Machine). x.cleared) it.same
 happens_keeps m (Tick n) after it = ap (λ (x : Machine). x.cleared) it.same
+happens_keeps m (Poke gpa value) after it = ap (λ (x : Machine). x.cleared) it.same ∙ bytes_keep_by m it.bytes
 
 under_keeps : (v : Verdict) (m : Machine) (e : Event) (after : Machine) → HappensUnder v m e after → after.cleared ≡ m.cleared
 under_keeps Running m e after it = happens_keeps m e after it

@@ -4,11 +4,12 @@ use Rattle.std.specs.Prelude.{Option, Some, None, slice_get, if◌then◌else◌
 use Rattle.std.proofs.lemmas.List.{length-drop}
 use Rattle.sv_types.specs.Console.{has_room}
 use Rattle.sv_types.specs.declared.event.Event.{Event}
-use Rattle.sv_types.specs.declared.event.Event.TheVariants.{Turn, Beat, Key, Tick}
+use Rattle.sv_types.specs.declared.event.Event.TheVariants.{Turn, Beat, Key, Tick, Poke}
 use Rattle.sv_types.specs.declared.event.Verdict.{Verdict}
 use Rattle.sv_types.specs.declared.event.Verdict.TheVariants.{Running, Shutdown, Stopped}
 use Rattle.processor.specs.declared.outcome.Outcome.{Outcome}
 use Rattle.reference.specs.Counting.{count, with_count, count_turn, count_beat, count_key, count_tick, count_dropped}
+use Rattle.reference.specs.Attacker.{poke_move}
 use Rattle.reference.specs.Disk.{disk_beat, is_writable, Beaten}
 use Rattle.reference.specs.Move.{Move, Idle, FromRam, IntoRam, DeniedAt, OutsideRam}
 use Rattle.reference.specs.Run.{step}
@@ -17,7 +18,7 @@ use Rattle.reference.specs.Turn.{turn}
 use Rattle.run_laws.proofs.Growth.{Gains}
 use Rattle.machine_model.specs.HardwareEvent.{IsEvent, HappensUnder, TurnOf, HartTurn, StartedTurn, OneOrTwo, AfterOutcome, attempt_of, hart_again, is_loading, sent_again}
 use Rattle.machine_model.specs.HostHarts.{asks_again}
-use Rattle.machine_model.specs.HostEvents.{event_served, beat_served, key_served, tick_served, after_host_move, with_host_disk}
+use Rattle.machine_model.specs.HostEvents.{event_served, beat_served, poke_served, key_served, tick_served, after_host_move, with_host_disk}
 use Rattle.machine_model.specs.Machine.{Machine, HostHart, with_count_raised}
 use Rattle.machine_model.specs.StandsFor.{StandsFor, Unseen, IsRightFor, machine_of}
 use Rattle.machine_model.specs.Steps.{IsStep, StepsUnder}
@@ -67,7 +68,7 @@ pub record Bounded (m : Machine) : Type 0 where
   pub attempts : m.attempts ≤ 2 * m.journal.counts.turns
   pub printed : m.cleared + length m.journal.printed ≤ m.journal.counts.turns
 
--- beats, keys and time leave these as they are
+-- beats, pokes, keys and time leave these as they are
 pub record LeavesCounts (before after : Machine) : Type 0 where
   pub attempts : after.attempts ≡ before.attempts
   pub turns : after.journal.counts.turns ≡ before.journal.counts.turns
@@ -88,6 +89,10 @@ beat_leaves m =
     let b : Beaten = disk_beat m.devices.disk m.region.ram (is_writable m.dma) in
     let k = move_leaves (with_host_disk m b.disk) b.move in
     record { attempts = k.attempts; turns = k.turns; cleared = k.cleared; printed = k.printed }
+
+poke_leaves : (m : Machine) (gpa value : ℕ) → LeavesCounts m (poke_served m gpa value)
+unfolding poke_served
+poke_leaves m gpa value = move_leaves m (poke_move m.region.ram (is_writable m.dma) gpa value)
 
 abbrev pub JournalLeft : Journal → Journal → Type 0
 JournalLeft old new = (new.counts.turns ≡ old.counts.turns) × (new.printed ≡ old.printed)
@@ -154,6 +159,8 @@ bounded_by m after r (Key byte) Running on stands behind event steps b =
     subst Bounded (sym steps) (left_bounded (with_count_raised m count_key) (key_served (with_count_raised m count_key) byte) (key_leaves (with_count_raised m count_key) byte) (record { attempts = b.attempts; printed = b.printed }))
 bounded_by m after r (Tick n) Running on stands behind event steps b =
     subst Bounded (sym steps) (left_bounded (with_count_raised m count_tick) (tick_served (with_count_raised m count_tick) n) (tick_leaves (with_count_raised m count_tick) n) (record { attempts = b.attempts; printed = b.printed }))
+bounded_by m after r (Poke gpa value) Running on stands behind event steps b =
+    subst Bounded (sym steps) (left_bounded (with_count_raised m count_beat) (poke_served (with_count_raised m count_beat) gpa value) (poke_leaves (with_count_raised m count_beat) gpa value) (record { attempts = b.attempts; printed = b.printed }))
 bounded_by m after r e Shutdown on stands behind event steps b = subst Bounded (sym steps) b
 bounded_by m after r e (Stopped rule hart at) on stands behind event steps b = subst Bounded (sym steps) b
 

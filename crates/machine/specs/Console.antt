@@ -1,5 +1,5 @@
 -- A run and its console, while it goes on.
-use Rattle.std.specs.Prelude.{◌≡◌, ◌<◌, ◌≤◌, ℕ, List, [], ◌++◌, length, Bool, false, ◌||◌, ◌==◌, ◌-◌, IsFalse, IsTrue, Option, Some, None, slice_get}
+use Rattle.std.specs.Prelude.{◌≡◌, ◌<◌, ◌≤◌, ℕ, List, [], ◌∷◌, ◌++◌, length, drop, Bool, false, ◌||◌, ◌==◌, ◌-◌, IsFalse, IsTrue, Option, Some, None, slice_get}
 use Rattle.sv_types.specs.Schedule.{line_feed}
 use Rattle.sv_types.specs.Limits.{most_events, most_printed}
 use Rattle.sv_types.specs.declared.event.Event.{Event}
@@ -42,7 +42,15 @@ pub record HasRun (first : Machine) (start : State) (done : List Event) (machine
   pub chain : ReachesFrom first start done machine
   pub taken : new ≡ after_taking old cleared
 
--- the machine stands where the run is after some of these events, and a write failed of console bytes that were due
+-- of the console's bytes that the sink hadn't taken, none were due before the last of these events
+pub record ComesDue (start : State) (events : List Event) (cleared : List ℕ) : Type 0 where
+  pub front : List Event
+  pub last : Event
+  pub split : front ++ last ∷ [] ≡ events
+  pub rest : IsFalse (is_due (drop (length cleared) (run start front).journal.printed))
+
+-- the machine stands where the run is after some of these events, and a write failed of console bytes that came due with the last
+-- of them
 pub record RunBroke (first : Machine) (start : State) (events : List Event) (machine : Machine) (old new : SinkState) : Type 0 where
   pub done : List Event
   pub left : List Event
@@ -51,6 +59,7 @@ pub record RunBroke (first : Machine) (start : State) (events : List Event) (mac
   pub stands : Stands machine cleared (run start done)
   pub chain : ReachesFrom first start done machine
   pub room : length machine.journal.printed ≤ most_printed
+  pub late : ComesDue start done cleared
   pub due : IsTrue (is_due machine.journal.printed)
   pub broke : BreaksOff (after_taking old cleared) new machine.journal.printed
 

@@ -2,12 +2,15 @@
 use Rattle.std.specs.Prelude.{◌≡◌, ℕ, zero, suc, ◌+◌, ◌-◌, ◌<◌, ◌≤◌, length}
 use Rattle.sv_types.specs.Limits.{most_printed}
 use Rattle.sv_types.specs.declared.event.Event.{Event}
+use Rattle.sv_types.specs.declared.event.Verdict.TheVariants.{Running}
 use Rattle.reference.specs.Counting.{CountsAtMost}
 use Rattle.reference.specs.States.{State}
 use Rattle.reference.specs.Run.{step}
 use Rattle.machine_model.specs.HardwareEvent.{IsEvent}
 use Rattle.machine_model.specs.Machine.{Machine}
 use Rattle.machine_model.specs.StandsFor.{StandsFor}
+use Rattle.quick_turns.specs.declared.leaving.Leaving.{Leaving}
+use Rattle.quick_turns.specs.declared.leaving.Leaving.TheVariants.{Stays}
 use Rattle.machine.specs.Limits.{most_counts}
 
 -- one event: the machine stands for the state after it, and changed no more than the event may
@@ -19,10 +22,15 @@ pub record Makes (m : Machine) (e : Event) (after : Machine) : Type 0 where
 abbrev pub IsQuiet : Machine → Machine → Type 0
 IsQuiet before after = length after.journal.printed ≡ length before.journal.printed
 
--- so many in a row, of which the last one alone may print
+-- nothing more is printed, and a run that goes on hasn't ended
+pub record GoesOn (before after : Machine) : Type 0 where
+  pub quiet : IsQuiet before after
+  pub running : before.journal.verdict ≡ Running → after.journal.verdict ≡ Running
+
+-- so many in a row, of which the last one alone may print or end the run
 abbrev pub Repeats : ℕ → Machine → Event → Machine → Type 0
 Repeats zero m e after = after ≡ m
-Repeats (suc n) m e after = (before : Machine) × (Repeats n m e before × (IsQuiet m before × Makes before e after))
+Repeats (suc n) m e after = (before : Machine) × (Repeats n m e before × (GoesOn m before × Makes before e after))
 
 -- so many events may be made: one of them may print, and each is counted
 pub record MayMake (m : Machine) (n : ℕ) : Type 0 where
@@ -38,9 +46,10 @@ pub record Made (n asked : ℕ) (m : Machine) (e : Event) (after : Machine) : Ty
   pub some : 0 < n
   pub most : n ≤ asked
 
--- turns of a row: so many at most, none of which prints
-pub record MadeInRow (n asked : ℕ) (m : Machine) (e : Event) (after : Machine) : Type 0 where
+-- turns of a row: so many at most, none of which prints. Where the hart stays in the guest, none ends the run
+pub record MadeInRow (left : Leaving) (n asked : ℕ) (m : Machine) (e : Event) (after : Machine) : Type 0 where
   pub chain : Repeats n m e after
   pub quiet : IsQuiet m after
+  pub running : left ≡ Stays → m.journal.verdict ≡ Running → after.journal.verdict ≡ Running
   pub counts : (k : ℕ) → CountsAtMost k m.journal.counts → CountsAtMost (k + n) after.journal.counts
   pub most : n ≤ asked

@@ -11,6 +11,7 @@ mod resume;
 mod running;
 mod saved;
 mod start;
+mod text;
 
 pub use boot::BootRefusal;
 pub use devices::SECTOR_BYTES;

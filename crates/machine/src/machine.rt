@@ -53,7 +53,7 @@ impl Machine {
         let _once = self.repeat(event, 1);
     }
 
-    /// One event up to `count` times in a row, no more of it behind one that printed or that ended the run. Answers how
+    /// One event up to `count` times in a row, no more of it after one that printed or that ended the run. Answers how
     /// often it was made.
     #[inline(always)]
     pub fn repeat(&mut self, event: Event, count: u64) -> u64
@@ -74,7 +74,9 @@ impl Machine {
         // The loop of each kind of event asks for it no more.
         match event {
             Event::Turn(hart) => self.rounds(Event::Turn(hart), count),
-            Event::Beat | Event::Key(_) | Event::Tick(_) => self.rounds(event, count),
+            Event::Beat | Event::Key(_) | Event::Tick(_) | Event::Poke { gpa: _, value: _ } => {
+                self.rounds(event, count)
+            }
         }
     }
 
@@ -130,7 +132,7 @@ impl Machine {
     fn row(&mut self, hart: u8, most: u64) -> Row
         requires few { most ≤ most_counts }
         requires counts { CountsAtMost (most_counts - most) self.old.journal.counts }
-        ensures { MadeInRow (turns_of result) most self.old (Turn hart) self.new }
+        ensures { MadeInRow result.left (turns_of result) most self.old (Turn hart) self.new }
     {
         if self.may_row(hart) {
             self.one_row(hart, most)
@@ -166,7 +168,7 @@ impl Machine {
         requires may { MayRow self.old hart }
         requires few { most ≤ most_counts }
         requires counts { CountsAtMost (most_counts - most) self.old.journal.counts }
-        ensures { MadeInRow (turns_of result) most self.old (Turn hart) self.new }
+        ensures { MadeInRow result.left (turns_of result) most self.old (Turn hart) self.new }
     {
         let row = self.parts.row(hart, most);
         self.parts.answer_leaving(hart, row.left);
@@ -233,7 +235,7 @@ impl Machine {
     pub fn attempts(&self) -> u64
         ensures { result ≡ self.now.attempts }
     {
-        self.parts.row_attempts + self.parts.cpu.count()
+        self.parts.words.turns() + self.parts.cpu.count()
     }
 }
 
@@ -244,7 +246,7 @@ fn stays_unreserved(known: bool, event: Event) -> bool
 {
     match event {
         Event::Turn(_) => false,
-        Event::Beat | Event::Key(_) | Event::Tick(_) => known,
+        Event::Beat | Event::Key(_) | Event::Tick(_) | Event::Poke { gpa: _, value: _ } => known,
     }
 }
 

@@ -110,7 +110,7 @@ impl Beside {
     fn new(alloc: Global, policy: &Policy) -> Result<Beside, AllocError>
         requires { IsTrue (rules_within (rules_of policy.now)) }
         ensures caches { IfOk result (λ beside. beside.caches.items ≡ replicate policy.now.harts nothing_kept) }
-        ensures attempts { IfOk result (λ beside. beside.cpu ≡ 0) }
+        ensures attempts { IfOk result (λ beside. beside.words + beside.cpu ≡ 0) }
         ensures bound { IfOk result (λ beside. beside.bound.items ≡ bound_pages (rules_of policy.now)) }
     {
         let bound = bound_pages(alloc, policy)?;
@@ -160,7 +160,6 @@ fn resume(alloc: Global, snapshot: Snapshot, policy: Policy) -> Result<Parts, Al
         journal,
         cpu,
         words,
-        row_attempts: 0,
         cleared: 0,
     })
 }

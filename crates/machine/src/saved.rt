@@ -11,7 +11,7 @@ ghost use Rattle.machine.specs.Keeping.{gpa_behind, AreKeepable, IsKeepable, kep
 
 use crate::machine::Machine;
 use csr_file::at_guest_places;
-use devices::{Devices, Port};
+use devices::Devices;
 use hart_answers::Seat;
 use machine_parts::Parts;
 use module_answers::Modules;
@@ -74,7 +74,7 @@ fn saved_loading(modules: &Modules) -> Option<SavedLoad>
 fn saved_harts(
     alloc: Global,
     seats: &[Seat],
-    devices: &Devices<Port>,
+    devices: &Devices,
     tables: usize,
 ) -> Result<Vec<SavedHart>, AllocError>
     requires few { length seats.now ≤ most_harts }

@@ -66,7 +66,7 @@ pub(crate) fn at_boot(
         journal,
         cpu,
         words,
-    } = Begun::new(alloc, &policy, &guard, entry)?;
+    } = Begun::new(alloc, &policy, entry)?;
     Ok(Parts {
         policy,
         entries,
@@ -79,7 +79,6 @@ pub(crate) fn at_boot(
         journal,
         cpu,
         words,
-        row_attempts: 0,
         cleared: 0,
     })
 }
@@ -124,7 +123,6 @@ impl Begun {
     pub(crate) fn new(
         alloc: Global,
         policy: &Policy,
-        guard: &Guard,
         entry: u64,
     ) -> Result<Begun, AllocError>
         requires along { length policy.now.bound.items ≤ length policy.now.entries.items }
@@ -137,10 +135,10 @@ impl Begun {
         ensures gate { IfOk result (λ b. b.modules.gate ≡ no_modules) }
         ensures loading { IfOk result (λ b. b.modules.loading ≡ None) }
         ensures journal { IfOk result (λ b. b.journal ≡ journal_at_boot) }
-        ensures attempts { IfOk result (λ b. b.cpu ≡ 0) }
+        ensures attempts { IfOk result (λ b. b.words + b.cpu ≡ 0) }
     {
         let entries = Entries::new(alloc, &policy.entries, &policy.bound)?;
-        let seats = seats_at_boot(alloc, guard, policy.harts, entry)?;
+        let seats = seats_at_boot(alloc, policy.harts, entry)?;
         let journal = Journal::new(alloc)?;
         let Idle { caches, cpu, words } = Idle::new(alloc, policy.harts)?;
         let modules = Modules::new(alloc)?;
@@ -167,7 +165,7 @@ impl Idle {
     /// Nothing is kept for any hart, and no attempt is counted.
     pub(crate) fn new(alloc: Global, harts: u8) -> Result<Idle, AllocError>
         ensures caches { IfOk result (λ idle. idle.caches.items ≡ replicate harts nothing_kept) }
-        ensures attempts { IfOk result (λ idle. idle.cpu ≡ 0) }
+        ensures attempts { IfOk result (λ idle. idle.words + idle.cpu ≡ 0) }
     {
         let caches = empty_caches(alloc, harts)?;
         let cpu = Cpu::new(alloc)?;
@@ -178,19 +176,19 @@ impl Idle {
 
 // ---- harts
 
-fn seat_at_boot(guard: &Guard) -> Seat
+fn seat_at_boot() -> Seat
     ensures { host_at result ≡ host_at_boot 0 false }
 {
     Seat {
         hart: Hart::at_boot(),
-        side: Side::at_boot(guard),
+        side: Side::at_boot(),
     }
 }
 
-fn first_seat(guard: &Guard, entry: u64) -> Seat
+fn first_seat(entry: u64) -> Seat
     ensures { host_at result ≡ host_at_boot entry true }
 {
-    let mut seat = seat_at_boot(guard);
+    let mut seat = seat_at_boot();
     seat.hart.core.pc = entry;
     seat.hart.started = true;
     seat
@@ -198,7 +196,6 @@ fn first_seat(guard: &Guard, entry: u64) -> Seat
 
 fn seats_at_boot(
     alloc: Global,
-    guard: &Guard,
     harts: u8,
     entry: u64,
 ) -> Result<Vec<Seat>, AllocError>
@@ -207,9 +204,9 @@ fn seats_at_boot(
     ensures number { IfOk result (λ seats. length seats.items ≡ harts) }
 {
     let mut seats = Vec::new(alloc);
-    seats.push(first_seat(guard, entry))?;
+    seats.push(first_seat(entry))?;
     'seated: for _ in 1..harts {
-        seats.push(seat_at_boot(guard))?;
+        seats.push(seat_at_boot())?;
     }
     Ok(seats)
 }

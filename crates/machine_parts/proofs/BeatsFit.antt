@@ -1,10 +1,11 @@
--- A beat of the disk's device keeps to RAM.
+-- A beat of the disk's device keeps to RAM, and so does a write of an attacker's; what follows either.
 use Rattle.std.proofs.Common.{◌≡◌, ℕ, ◌+◌, ◌≤◌, List, [], ◌∷◌, length, refl, arith, Bool, true, false}
-use Rattle.std.specs.Prelude.{Option, Some, None, not, ◌==◌, nat_lt, if◌then◌else◌}
+use Rattle.std.specs.Prelude.{Option, Some, None, not, ◌&&◌, ◌==◌, nat_lt, if◌then◌else◌}
 use Rattle.std.proofs.lemmas.Bool.Decides.{nat_tests}
 use Rattle.processor.specs.Bytes.{in_ram, low_bytes, ram_base, ram_place, page_of, part}
 use Rattle.processor.specs.Regions.{Region}
 use Rattle.processor_laws.proofs.ByteLemmas.{length_overwrite}
+use Rattle.sv_types.specs.Schedule.{is_poke_address, poke_size}
 use Rattle.sv_types.specs.declared.block.BlockStatus.{BlockStatus}
 use Rattle.sv_types.specs.declared.virtio.VirtioMove.{VirtioMove}
 use Rattle.sv_types.specs.declared.virtio.VirtioPart.{VirtioPart}
@@ -14,11 +15,14 @@ use Rattle.reference.specs.VirtioQueue.{rings_in_ram, available_index, next_head
 use Rattle.reference.specs.VirtioChain.{chain, most_parts, is_good}
 use Rattle.reference.specs.VirtioBeats.{VirtioBeat, nothing, broken_beat, with_request, last_moves_alone, with_written, to_memory, to_disk, put_last, finish_request, make, make_first, accept_request, accept, look, go_on, is_live, virtio_beat}
 use Rattle.reference.specs.BlockDisk.{block_beat, is_busy, block_to_disk, transfer_ended, block_after_beat, beat_gpa, beat_place, beat_size, is_to_memory}
+use Rattle.reference.specs.Attacker.{poke_move}
 use Rattle.reference.specs.Disk.{disk_beat}
 use Rattle.reference.specs.Move.{Move, Idle, FromRam, IntoRam, DeniedAt, OutsideRam}
 use Rattle.dma_guard.specs.Transfers.{beat_of, after_move}
+use Rattle.machine_model.specs.HostEvents.{after_host_move}
+use Rattle.machine_model.specs.Machine.{Machine}
 use Rattle.run_laws.proofs.Lookups.{part_short}
-use Rattle.machine_parts.specs.Beats.{LiesInRam, ToldInRam}
+use Rattle.machine_parts.specs.Beats.{LiesInRam, ToldInRam, told_served}
 use Rattle.run_laws.proofs.BeatsSound.{room_of}
 use Rattle.sv_types.specs.VirtioResults.{result_number}
 
@@ -117,6 +121,32 @@ unfolding disk_beat
 beat_fits (BlockDisk d) ram may_write = block_fits d ram may_write
 beat_fits (VirtioDisk d) ram may_write = virtio_fits d ram may_write
 
+-- ---- an attacker's device
+
+poke_fits_by : (ram : List ℕ) (gpa value : ℕ) (aligned inside free : Bool) → in_ram ram gpa poke_size ≡ inside
+    → ToldInRam ram (beat_of (if not (aligned && inside) then OutsideRam
+    else if free then IntoRam gpa (low_bytes poke_size value)
+    else DeniedAt gpa))
+poke_fits_by ram gpa value false inside free e = tt
+poke_fits_by ram gpa value true false free e = tt
+poke_fits_by ram gpa value true true false e = tt
+poke_fits_by ram gpa value true true true e = lies_there ram gpa poke_size (low_bytes poke_size value) (omega arith) e
+
+pub poke_fits : (ram : List ℕ) (may_write : ℕ → Bool) (gpa value : ℕ) → ToldInRam ram (beat_of (poke_move ram may_write gpa value))
+unfolding poke_move
+poke_fits ram may_write gpa value = poke_fits_by ram gpa value (is_poke_address gpa) (in_ram ram gpa poke_size) (may_write (page_of gpa)) refl
+
+-- ---- after a move
+
+-- a move, and what follows it
+pub told_after : (m : Machine) (x : Move) → told_served (record m { region = after_move m.region x }) (beat_of x) ≡ after_host_move m x
+unfolding told_served after_host_move
+told_after m Idle = refl
+told_after m (FromRam gpa) = refl
+told_after m (IntoRam gpa bytes) = refl
+told_after m (DeniedAt gpa) = refl
+told_after m OutsideRam = refl
+
 pub move_keeps_tables : (r : Region) (x : Move) → (after_move r x).tables ≡ r.tables
 move_keeps_tables r Idle = refl
 move_keeps_tables r (FromRam gpa) = refl
@@ -130,3 +160,7 @@ move_keeps_size r (FromRam gpa) fits = refl
 move_keeps_size r (IntoRam gpa bytes) fits = length_overwrite r.ram bytes (ram_place gpa) fits.last
 move_keeps_size r (DeniedAt gpa) fits = refl
 move_keeps_size r OutsideRam fits = refl
+
+-- what follows a move of a machine whose bytes are written
+pub told_follows : (m mid : Machine) (x : Move) (told : Beaten) → told ≡ beat_of x → mid ≡ record m { region = after_move m.region x } → told_served mid told ≡ after_host_move m x
+told_follows m mid x told is same = rw (is, same) told_after m x

@@ -25,7 +25,7 @@ machine_of_parts p = record {
   devices = p.devices;
   journal = p.journal;
   cleared = p.cleared;
-  attempts = p.row_attempts + p.cpu;
+  attempts = p.words + p.cpu;
 }
 
 -- the parts go with one another

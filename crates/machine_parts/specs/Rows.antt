@@ -13,12 +13,13 @@ use Rattle.machine_model.specs.Steps.{WithTables}
 use Rattle.machine_model.specs.declared.exits.ExitAnswer.{ExitAnswer}
 use Rattle.machine_model.specs.declared.exits.ExitAnswer.TheVariants.{Traps}
 use Rattle.sv_types.specs.declared.event.Event.{Event}
-use Rattle.sv_types.specs.declared.event.Event.TheVariants.{Turn, Beat, Key, Tick}
+use Rattle.sv_types.specs.declared.event.Event.TheVariants.{Turn, Beat, Key, Tick, Poke}
 use Rattle.sv_types.specs.declared.event.Verdict.TheVariants.{Running}
 use Rattle.reference.specs.Counting.{with_count, count_turn, count_retired}
 use Rattle.reference.specs.Devices.{lines_at}
 use Rattle.reference.specs.States.{Journal}
 use Rattle.machine_model.specs.Machine.{Machine, HostHart, update, with_core}
+use Rattle.quick_turns.specs.Ends.{with_leaving}
 use Rattle.quick_turns.specs.Rows.{LeavesBy, RetiresThrough}
 use Rattle.quick_turns.specs.declared.leaving.Leaving.{Leaving}
 use Rattle.quick_turns.specs.declared.leaving.Leaving.TheVariants.{Stays, Calls, Returns}
@@ -41,6 +42,7 @@ reserves_nothing (Turn h) = false
 reserves_nothing Beat = true
 reserves_nothing (Key byte) = true
 reserves_nothing (Tick n) = true
+reserves_nothing (Poke gpa value) = true
 
 -- a hart stands at an instruction, and its walks lead to RAM
 pub record WalksUnderRoot (region : Region) (host : HostHart) : Type 0 where
@@ -62,6 +64,10 @@ after_row m h n region core = record m {
   journal = counted_row n m.journal;
   attempts = m.attempts + n;
 }
+
+-- the same, the attempt behind these turns counted too where it was made
+abbrev pub after_attempts : Leaving → Machine → ℕ → ℕ → Region → Core → Machine
+after_attempts left m h n region core = record (after_row m h n region core) { attempts = m.attempts + with_leaving left n }
 
 -- hart h makes attempts in its turns, and takes no interrupt
 pub record IsQuietAt (m : Machine) (h : ℕ) : Type 0 where
@@ -85,11 +91,11 @@ pub record EndsRow (left : Leaving) (n : ℕ) (m : Machine) (h : ℕ) (after : M
   pub core : Core
   pub retires : RetiresThrough n m.region (hart_in m.harts h).core (lines_at m.devices h) region last
   pub leaves : LeavesBy left (attempt region last (lines_at m.devices h)) region last core
-  pub same : after ≡ after_row m h n region core
+  pub same : after ≡ after_attempts left m h n region core
 
--- a turn and its attempt, counted
+-- the turn behind a row, counted; its attempt was counted as it was made
 abbrev pub counted_leaving : Machine → Machine
-counted_leaving m = record m { journal = with_count count_turn m.journal; attempts = m.attempts + 1 }
+counted_leaving m = record m { journal = with_count count_turn m.journal }
 
 -- what SecVisor answers ECALL of user mode
 abbrev pub call_answer : ExitAnswer

@@ -63,7 +63,6 @@ impl Parts {
         guest_trap(
             hart,
             seat,
-            &self.guard,
             &self.entries,
             &mut self.journal,
             trap,
@@ -80,7 +79,7 @@ impl Parts {
         ensures { WithTables self.old (answered_exit self.old hart Returns) self.new }
     {
         let seat = &mut self.seats[hart as usize];
-        guest_return(seat, &self.guard, &mut self.journal);
+        guest_return(seat, &mut self.journal);
     }
 
     // It leaves kernel mode.
@@ -91,7 +90,7 @@ impl Parts {
         ensures { WithTables self.old (answered_exit self.old hart (Demotes gpa)) self.new }
     {
         let seat = &mut self.seats[hart as usize];
-        guest_demotion(hart, seat, &self.guard, &mut self.journal, gpa);
+        guest_demotion(hart, seat, &mut self.journal, gpa);
     }
 
     // It leaves its entry.
@@ -103,7 +102,7 @@ impl Parts {
         ensures answer { WithTables self.old (answered_exit self.old hart LeavesEntry) self.new }
     {
         let seat = &mut self.seats[hart as usize];
-        leave_entry(seat, &self.guard);
+        leave_entry(seat);
     }
 
     // It stops the machine by a store into a protected page.
@@ -127,7 +126,6 @@ impl Parts {
         device_load(
             hart,
             seat,
-            &self.guard,
             &self.entries,
             &mut self.devices,
             &mut self.journal,
@@ -147,7 +145,6 @@ impl Parts {
         device_store(
             hart,
             seat,
-            &self.guard,
             &self.entries,
             &mut self.devices,
             &mut self.journal,
@@ -183,7 +180,6 @@ impl Parts {
         call_answers::give(
             hart,
             &mut self.seats,
-            &self.guard,
             &mut self.devices,
             &mut self.journal,
             answer,

@@ -10,21 +10,22 @@ ghost use Rattle.machine_model.specs.Served.{is_again};
 ghost use Rattle.machine_model.specs.HostEvents.{event_served};
 ghost use Rattle.machine_model.specs.HostExits.{served_load_turn};
 ghost use Rattle.reference.specs.Counting.{CountsAtMost, MayCount};
-ghost use Rattle.sv_types.specs.declared.event.Event.TheVariants.{Beat, Key, Tick};
+ghost use Rattle.sv_types.specs.declared.event.Event.TheVariants.{Beat, Key, Poke, Tick};
 ghost use Rattle.sv_types.specs.declared.event.Verdict.TheVariants.{Running};
 ghost use Rattle.machine_model.specs.Reaches.{without_first_printed};
 ghost use Rattle.machine_model.specs.Steps.{AttemptServed, IsStep, IsTurn, TurnServed, WithTables};
 ghost use Rattle.machine_parts.specs.Attempts.{hart_in, IsReady};
+ghost use Rattle.machine_parts.specs.Beats.{ToldInRam, told_served};
 ghost use Rattle.machine_parts.specs.Limits.{most_counts};
 ghost use Rattle.machine_parts.specs.Turns.{Attempts, Concluded, ExitServed, Finished, IsGuarded, IsReadyAt, IsReadyTwice, MayAttemptAgain, MayServe, MayTrap, MayTurn, asked_of, left_entry};
 ghost use Rattle.processor.specs.Bytes.{instruction_size};
 
 use crate::attempts::attempt;
-use crate::beats::beat_disk;
+use crate::beats::{beat_disk, write_poke};
 use crate::exits::is_again;
 use crate::wires::HartWires;
 use call_answers::law_starts;
-use devices::{Devices, Port};
+use devices::Devices;
 use dma_guard::Beaten;
 use hart::Cpu;
 use hart_answers::{Seat, forget};
@@ -47,12 +48,10 @@ pub struct Parts {
     pub caches: Vec<HartCaches>,
     pub guard: Guard,
     pub modules: Modules,
-    pub devices: Devices<Port>,
+    pub devices: Devices,
     pub journal: Journal,
     pub cpu: Cpu,
     pub words: Words,
-    /// The attempts of turns that were made in rows.
-    pub row_attempts: u64,
     /// How many printed bytes were taken away.
     pub cleared: u64,
 }
@@ -231,15 +230,15 @@ impl Parts {
         self.serve_turn(hart);
     }
 
-    /// One beat of the disk's device.
-    #[tactic(auto, unfolding(machine_model::specs::HostEvents::event_served, machine_model::specs::HostEvents::beat_served, machine_model::specs::HostEvents::after_host_move))]
-    pub(crate) fn beat(&mut self)
-        requires beats { CanCount self.old.journal.counts.beats }
+    // What follows a device's move: each reservation that it touches is cleared, and a refused one is noted.
+    #[tactic(auto, unfolding(crate::specs::Beats::told_served))]
+    #[inline(always)]
+    fn follow(&mut self, told: Beaten)
         requires counts { MayCount self.old.journal.counts }
-        ensures { self.new ≡ event_served self.old Beat }
+        requires inside { ToldInRam self.old.region.ram told }
+        ensures { self.new ≡ told_served self.old told }
     {
-        self.journal.count_beat();
-        match beat_disk(&mut self.devices, self.guard.dma(), &mut self.mem) {
+        match told {
             Beaten::Wrote { gpa, len } => {
                 let hpa = self.mem.table_bytes() as u64 + ram_place(gpa);
                 forget(&mut self.seats, hpa, u64::from(len));
@@ -247,6 +246,30 @@ impl Parts {
             Beaten::Denied { gpa } => self.journal.deny(gpa),
             Beaten::Idle | Beaten::Read { gpa: _ } | Beaten::Range => {}
         }
+    }
+
+    /// One beat of the disk's device.
+    #[tactic(auto, unfolding(machine_model::specs::HostEvents::event_served, machine_model::specs::HostEvents::beat_served), using(crate::proofs::BeatsFit::told_after))]
+    pub(crate) fn beat(&mut self)
+        requires beats { CanCount self.old.journal.counts.beats }
+        requires counts { MayCount self.old.journal.counts }
+        ensures { self.new ≡ event_served self.old Beat }
+    {
+        self.journal.count_beat();
+        let told = beat_disk(&mut self.devices, self.guard.dma(), &mut self.mem);
+        self.follow(told);
+    }
+
+    /// One write of an attacker's device.
+    #[tactic(auto, unfolding(machine_model::specs::HostEvents::event_served, machine_model::specs::HostEvents::poke_served), using(crate::proofs::BeatsFit::told_after))]
+    pub(crate) fn poke(&mut self, gpa: u64, value: u64)
+        requires beats { CanCount self.old.journal.counts.beats }
+        requires counts { MayCount self.old.journal.counts }
+        ensures { self.new ≡ event_served self.old (Poke gpa value) }
+    {
+        self.journal.count_beat();
+        let told = write_poke(self.guard.dma(), &mut self.mem, gpa, value);
+        self.follow(told);
     }
 
     /// A byte of input, which is dropped where there is no room.
@@ -291,6 +314,7 @@ impl Parts {
             Event::Beat => self.beat(),
             Event::Key(byte) => self.key(byte),
             Event::Tick(n) => self.tick(n),
+            Event::Poke { gpa, value } => self.poke(gpa, value),
         }
     }
 
@@ -334,7 +358,6 @@ impl Parts {
             journal: _,
             cpu: _,
             words: _,
-            row_attempts: _,
             cleared: _,
         } = self;
         modules.end(&mut guard, &mut mem);

@@ -15,7 +15,7 @@ ghost use Rattle.quick_turns.specs.declared.leaving.Leaving.TheVariants.{Returns
 ghost use Rattle.machine_parts.specs.Attempts.{hart_in, IsReady, KeepsTurns, MayTakeTurns};
 ghost use Rattle.reach.specs.Usable.{IsUsable};
 ghost use Rattle.machine_parts.specs.Limits.{most_counts};
-ghost use Rattle.machine_parts.specs.Rows.{AnswersLeaving, AreFree, EndsRow, WalksUnderRoot, IsQuietAt, counted_leaving, counted_row, MayRow};
+ghost use Rattle.machine_parts.specs.Rows.{AnswersLeaving, AreFree, EndsRow, WalksUnderRoot, IsQuietAt, counted_row, MayRow};
 ghost use Rattle.machine_parts.specs.Turns.{MayTrap};
 ghost use Rattle.processor.specs.Bytes.{instruction_size};
 
@@ -41,6 +41,7 @@ fn row_in_seat(
     requires walks { WalksUnderRoot mem.old (host_at seat.old) }
     requires free { (host_at seat.old).core.reservation ≡ None }
     requires usable { IsUsable mem.old.tables own.old }
+    requires count { words.old + most < 2 ^ 64 }
     ensures ends { (lines : Lines) → pending (host_at seat.old).core.hregs (host_at seat.old).core.csrs lines ≡ None → EndsBy result.left result.made mem.old (host_at seat.old).core lines mem.new (host_at seat.new).core }
     ensures host { host_at seat.new ≡ with_core (host_at seat.new).core (host_at seat.old) }
     ensures aligned { (host_at seat.new).core.pc % instruction_size ≡ 0 }
@@ -49,6 +50,7 @@ fn row_in_seat(
     ensures tables { mem.new.tables ≡ mem.old.tables }
     ensures ram { length mem.new.ram ≡ length mem.old.ram }
     ensures usable { IsUsable mem.new.tables own.new }
+    ensures count { words.new ≡ words.old + turns_of result }
 {
     let regs = seat.side.registers();
     quick_turns(
@@ -75,12 +77,14 @@ fn row(
     requires may { MayTakeTurns mem.old.tables seats.old caches.old hart }
     requires walks { WalksUnderRoot mem.old (hart_in (hosts_of seats.old) hart) }
     requires free { AreFree (hosts_of seats.old) }
+    requires count { words.old + most < 2 ^ 64 }
     ensures ends { (lines : Lines) → pending (hart_in (hosts_of seats.old) hart).core.hregs (hart_in (hosts_of seats.old) hart).core.csrs lines ≡ None → EndsBy result.left result.made mem.old (hart_in (hosts_of seats.old) hart).core lines mem.new (hart_in (hosts_of seats.new) hart).core }
     ensures harts { hosts_of seats.new ≡ update (hosts_of seats.old) hart (with_core (hart_in (hosts_of seats.new) hart).core) }
     ensures aligned { (hart_in (hosts_of seats.new) hart).core.pc % instruction_size ≡ 0 }
     ensures free { AreFree (hosts_of seats.new) }
     ensures most { turns_of result ≤ most }
     ensures kept { KeepsTurns mem.old mem.new seats.old seats.new caches.old caches.new }
+    ensures count { words.new ≡ words.old + turns_of result }
 {
     let seat = &mut seats[hart as usize];
     let own = &mut caches[hart as usize];
@@ -159,7 +163,7 @@ impl Parts {
     }
 
     /// Up to so many turns of a hart, each of which carries out an instruction, and one behind them in which it leaves the
-    /// guest. Those that carry out instructions are counted.
+    /// guest. The attempts of all are counted, and the turns of those that carry out instructions.
     #[inline(always)]
     pub fn row(&mut self, hart: u8, most: u64) -> Row
         requires may { MayRow self.old hart }
@@ -181,42 +185,29 @@ impl Parts {
             most,
         );
         count_row(&mut self.journal, row.made);
-        self.row_attempts += row.made;
         row
     }
 
-    /// What SecVisor answers where a hart left the guest behind a row, in a turn that is counted here.
+    /// What SecVisor answers where a hart left the guest after a row, in a turn that is counted here.
     #[inline(always)]
     pub fn answer_leaving(&mut self, hart: u8, left: Leaving)
         requires hart { MayTrap self.old.harts hart }
         requires mode { left ≡ Returns → (hart_in self.old.harts hart).core.hregs.mode ≡ Kernel }
         requires counts { MayCount self.old.journal.counts }
         requires turns { CanCount self.old.journal.counts.turns }
-        requires attempts { CanCount self.old.attempts }
         ensures { AnswersLeaving left self.old hart self.new }
     {
         match left {
             Leaving::Stays => {}
             Leaving::Calls => {
-                self.count_leaving();
+                self.journal.count_turn();
                 let cause = ExitCause::Exception(Cause::UserCall);
                 self.guest_trap(hart, Trap { cause, tval: 0 });
             }
             Leaving::Returns => {
-                self.count_leaving();
+                self.journal.count_turn();
                 self.guest_return(hart);
             }
         }
-    }
-
-    // A turn and its attempt, counted.
-    #[inline(always)]
-    fn count_leaving(&mut self)
-        requires turns { CanCount self.old.journal.counts.turns }
-        requires attempts { CanCount self.old.attempts }
-        ensures { self.new ≡ counted_leaving self.old }
-    {
-        self.journal.count_turn();
-        self.row_attempts += 1;
     }
 }

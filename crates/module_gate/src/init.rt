@@ -5,7 +5,6 @@ ghost use Rattle.sv_types.specs.Policies.{rules_of};
 ghost use Rattle.sv_types.specs.declared.protection.Protection.TheVariants.{Free};
 ghost use Rattle.reference.specs.Protections.{protection_at, freed_one, with_each};
 ghost use Rattle.reference.specs.States.{has_number, module_pages};
-ghost use Rattle.sv_types.specs.Protections.{is_approved};
 ghost use Rattle.page_guard.specs.Guarded.{IsTheirs, StaysTheirs, IsInRam};
 ghost use Rattle.module_gate.specs.Retiring.{is_modules, is_kernels, kernel_pages};
 
@@ -13,7 +12,7 @@ use host_mem::HostMem;
 use page_guard::Guard;
 use processor::page_of;
 use reference::pages_of;
-use sv_types::{Policy, Protection, SavedModule, Span};
+use sv_types::{Policy, SavedModule, Span};
 
 // Whether a page is one of so many from the first one on.
 fn is_between(first: u64, count: u32, page: u32) -> bool
@@ -41,13 +40,7 @@ fn is_kernels(guard: &Guard, policy: &Policy, loaded: &[SavedModule], page: u32)
     requires { page < length guard.now.pages }
     ensures { result ≡ is_kernels (rules_of policy.now) loaded.now page (protection_at guard.now.pages page) }
 {
-    is_approved(guard.protection(page)) && !is_modules(policy, loaded, page)
-}
-
-fn is_approved(protection: Protection) -> bool
-    ensures { result ≡ is_approved protection }
-{
-    matches!(protection, Protection::Approved)
+    guard.protection(page).is_approved() && !is_modules(policy, loaded, page)
 }
 
 // Frees a page if it is approved and no module's.

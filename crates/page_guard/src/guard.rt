@@ -2,7 +2,6 @@
 
 ghost use Rattle.std.specs.Prelude.{◌≡◌, ◌+◌, ◌/◌, ◌<◌, ◌≤◌, length, map, replicate, slice_set, slice_get, Some, None, IfOk, OnOk, IfErr, OnErr};
 ghost use Rattle.processor.specs.Bytes.{page_size};
-ghost use Rattle.sv_types.specs.Views.{view_hgatp};
 ghost use Rattle.sv_types.specs.declared.protection.Protection.TheVariants.{Free, Held, Approved};
 ghost use Rattle.gstage_tables.specs.Layout.{most_bound, table_size};
 ghost use Rattle.sv_types.specs.Protections.{is_free};
@@ -13,7 +12,7 @@ use gstage_tables::Trees;
 use host_mem::HostMem;
 use std::alloc::{AllocError, Global};
 use std::marker::Model;
-use sv_types::{Protection, Span, View};
+use sv_types::{Protection, Span};
 
 /// The protection of each page of RAM, with the trees and the bits for devices that follow it. Contracts see the list of
 /// protections, by the number of the page, and the page that each entry is bound to.
@@ -102,13 +101,6 @@ impl Guard {
         &self.dma
     }
 
-    /// The `hgatp` value of a view's root.
-    pub fn root(&self, view: View) -> u64
-        ensures { result ≡ view_hgatp view }
-    {
-        self.trees.root(view)
-    }
-
     /// Holds the pages of a span, all of them or, where one is not free, none.
     pub fn hold(&mut self, mem: &mut HostMem, span: Span) -> Result<Hold, Taken>
         requires inside { IsInRam self.old.pages span }
@@ -170,7 +162,7 @@ impl Guard {
     {
         'tested: for i in 0..span.count {
             let page = span.first + i;
-            if !is_free(self.protections[page as usize]) {
+            if !self.protections[page as usize].is_free() {
                 return Err(Taken { page });
             }
         }
@@ -197,14 +189,7 @@ impl Guard {
         ensures theirs { StaysTheirs mem.old mem.new self.old self.new }
     {
         self.trees.set(mem, page, protection);
-        self.dma.set(page, is_free(protection));
+        self.dma.set(page, protection.is_free());
         self.protections[page as usize] = protection;
     }
-}
-
-// Whether a device may write a page of this protection.
-fn is_free(protection: Protection) -> bool
-    ensures { result ≡ is_free protection }
-{
-    matches!(protection, Protection::Free)
 }

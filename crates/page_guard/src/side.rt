@@ -10,7 +10,7 @@ ghost use Rattle.machine_model.specs.StandsFor.{hregs_in, kernel_view};
 ghost use Rattle.page_guard.specs.Sides.{mode_of, entry_of, registers_of, view_at_trap, view_outside};
 
 use crate::entries::Entries;
-use crate::guard::Guard;
+use gstage_tables::view_hgatp;
 use processor::{HRegs, Mode};
 use std::marker::Model;
 use sv_types::View;
@@ -56,19 +56,19 @@ pub struct Forbidden {
 
 impl Side {
     /// The side of a hart at boot and at its start: the kernel's.
-    pub fn at_boot(guard: &Guard) -> Side
+    pub fn at_boot() -> Side
         ensures { result ≡ Root.Kernel }
     {
-        Side::through(guard, View::Kernel)
+        Side::through(View::Kernel)
     }
 
     // The side of a hart that looks through a view.
-    fn through(guard: &Guard, view: View) -> Side
+    fn through(view: View) -> Side
         ensures { result ≡ view }
     {
         Side {
             view,
-            regs: registers(guard, view),
+            regs: registers(view),
         }
     }
 
@@ -102,7 +102,7 @@ impl Side {
     /// Enters the kernel: from kernel mode at any target, from user mode at a permitted one alone. From user mode the hart comes to
     /// the target's entry, where that is bound, and in kernel mode it stays in its own.
     #[inline(always)]
-    pub fn enter(&mut self, guard: &Guard, entries: &Entries, target: u64) -> Result<(), Forbidden>
+    pub fn enter(&mut self, entries: &Entries, target: u64) -> Result<(), Forbidden>
         ensures permitted { (rules : Rules) → rules.entries ≡ entries.now.entries → OnOk result (may_enter rules (mode_of self.old) target ≡ true) }
         ensures forbidden { (rules : Rules) → rules.entries ≡ entries.now.entries → OnErr result (may_enter rules (mode_of self.old) target ≡ false) }
         ensures entered { (rules : Rules) → rules.entries ≡ entries.now.entries → rules.bound ≡ entries.now.bound → OnOk result (self.new ≡ view_at_trap rules self.old target) }
@@ -113,7 +113,7 @@ impl Side {
             View::Kernel | View::Entry(_) => Ok(()),
             View::User => {
                 if entries.permits(target) {
-                    *self = Side::through(guard, view_at_target(entries, target));
+                    *self = Side::through(view_at_target(entries, target));
                     Ok(())
                 } else {
                     Err(Forbidden { target })
@@ -123,20 +123,20 @@ impl Side {
     }
 
     /// Leaves the entry, for all that kernel mode sees.
-    pub fn widen(&mut self, guard: &Guard)
+    pub fn widen(&mut self)
         ensures { self.new ≡ view_outside self.old }
     {
         match self.view {
             View::Kernel | View::User => {}
-            View::Entry(_) => *self = Side::at_boot(guard),
+            View::Entry(_) => *self = Side::at_boot(),
         }
     }
 
     /// Leaves kernel mode, by a return from a trap, or since it fetched from a page that isn't approved.
-    pub fn leave(&mut self, guard: &Guard)
+    pub fn leave(&mut self)
         ensures { self.new ≡ Root.User }
     {
-        *self = Side::through(guard, View::User);
+        *self = Side::through(View::User);
     }
 }
 
@@ -150,23 +150,23 @@ fn view_at_target(entries: &Entries, target: u64) -> View
     }
 }
 
-fn registers(guard: &Guard, view: View) -> HRegs
+fn registers(view: View) -> HRegs
     ensures { result ≡ registers_of view }
 {
     match view {
-        View::Kernel => in_kernel(guard),
-        View::User => in_user(guard),
-        View::Entry(place) => in_entry(guard, place),
+        View::Kernel => in_kernel(),
+        View::User => in_user(),
+        View::Entry(place) => in_entry(place),
     }
 }
 
 // Kernel mode runs under the kernel's view, and takes itself what is delegated to it.
-fn in_kernel(guard: &Guard) -> HRegs
+fn in_kernel() -> HRegs
     ensures { result ≡ hregs_in Kernel None }
 {
     HRegs {
         mode: Mode::Kernel,
-        hgatp: guard.root(View::Kernel),
+        hgatp: view_hgatp(View::Kernel),
         hedeleg: DELEGATED_EXCEPTIONS,
         hideleg: DELEGATED_INTERRUPTS,
         vtsr: true,
@@ -174,12 +174,12 @@ fn in_kernel(guard: &Guard) -> HRegs
 }
 
 // In an entry it runs under the entry's view, and the hypervisor sees its fetch page faults.
-fn in_entry(guard: &Guard, place: u8) -> HRegs
+fn in_entry(place: u8) -> HRegs
     ensures { result ≡ hregs_in Kernel (Some place) }
 {
     HRegs {
         mode: Mode::Kernel,
-        hgatp: guard.root(View::Entry(place)),
+        hgatp: view_hgatp(View::Entry(place)),
         hedeleg: ENTRY_EXCEPTIONS,
         hideleg: DELEGATED_INTERRUPTS,
         vtsr: true,
@@ -187,12 +187,12 @@ fn in_entry(guard: &Guard, place: u8) -> HRegs
 }
 
 // User mode runs under the user's view, and nothing is delegated to it.
-fn in_user(guard: &Guard) -> HRegs
+fn in_user() -> HRegs
     ensures { result ≡ hregs_in User None }
 {
     HRegs {
         mode: Mode::User,
-        hgatp: guard.root(View::User),
+        hgatp: view_hgatp(View::User),
         hedeleg: 0,
         hideleg: 0,
         vtsr: true,

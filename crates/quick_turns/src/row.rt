@@ -1,6 +1,6 @@
 // Turns in a row.
 
-ghost use Rattle.std.specs.Prelude.{◌≡◌, ◌≤◌, None};
+ghost use Rattle.std.specs.Prelude.{◌≡◌, ◌+◌, ◌<◌, ◌≤◌, ◌^◌, None};
 ghost use Rattle.processor.specs.Counters.{CanCount};
 ghost use Rattle.processor.specs.HardwareAttempt.{attempt};
 ghost use Rattle.processor.specs.HypervisorRegisters.{pending};
@@ -16,7 +16,7 @@ use crate::leaving::{Leaving, leave};
 use crate::requests::carry_out;
 use crate::tried::Tried;
 use crate::window::{Window, at_pc};
-use crate::words::Words;
+use crate::words::{FlatWords, Words};
 use gstage_cache::Cache;
 use hart::Core;
 use host_mem::HostMem;
@@ -26,7 +26,7 @@ use reach::Reach;
 // A turn, with the window behind it.
 #[inline(always)]
 fn turn(
-    words: &mut Words,
+    words: &mut FlatWords,
     core: &mut Core,
     regs: &HRegs,
     cache: &mut Cache,
@@ -96,19 +96,11 @@ impl Row {
     }
 }
 
-/// Up to `most` turns of a hart in a row, each of whose attempts carries out its instruction, and one behind them that leaves
-/// the guest. Answers how many were made: what isn't a computation, a load, a store, an atomic operation, or an access to a
-/// register whose value doesn't go by the wires, or is refused, or misaligned, stops the row before its turn. Where the row
-/// stops at ECALL in user mode or SRET in kernel mode before it has `most` turns, that turn is made too, and isn't counted
-/// among them; its exit is the caller's to answer. Behind a write of `sstatus`, `sie` or `satp` the row ends, since an
-/// interrupt may be due then.
-///
-/// The hart has no reservation. No other hart's is looked at. That no interrupt is taken at the start is what the
-/// clause on turns asks; none comes up on the way, since no register changes that decides it. All that the turns read and
-/// change is handed over by itself, so that the loop keeps it in registers.
+// The turns themselves. All that they read and change is handed over by itself, so that the loop keeps it in registers; it
+// stands out of line, since the count that follows it would take one of them.
 #[inline(never)]
-pub fn quick_turns(
-    words: &mut Words,
+fn row_of_turns(
+    words: &mut FlatWords,
     core: &mut Core,
     regs: &HRegs,
     cache: &mut Cache,
@@ -142,4 +134,37 @@ pub fn quick_turns(
         made,
         left: Leaving::Stays,
     }
+}
+
+/// Up to `most` turns of a hart in a row, each of whose attempts carries out its instruction, and one behind them that leaves
+/// the guest. Answers how many were made: what isn't a computation, a load, a store, an atomic operation, or an access to a
+/// register whose value doesn't go by the wires, or is refused, or misaligned, stops the row before its turn. Where the row
+/// stops at ECALL in user mode or SRET in kernel mode before it has `most` turns, that turn is made too, and isn't among
+/// `made`; its exit is the caller's to answer. Behind a write of `sstatus`, `sie` or `satp` the row ends, since an
+/// interrupt may be due then.
+///
+/// The hart has no reservation. No other hart's is looked at. That no interrupt is taken at the start is what the
+/// clause on turns asks; none comes up on the way, since no register changes that decides it. Each turn is an attempt, and
+/// counted.
+#[inline(always)]
+pub fn quick_turns(
+    words: &mut Words,
+    core: &mut Core,
+    regs: &HRegs,
+    cache: &mut Cache,
+    reach: &mut Reach,
+    mem: &mut HostMem,
+    most: u64,
+) -> Row
+    requires may { MayTurn mem.old core.old regs.now cache.old reach.old }
+    requires count { words.old + most < 2 ^ 64 }
+    ensures ends { (lines : Lines) → pending regs.now core.old.csrs lines ≡ None → EndsBy result.left result.made mem.old (core_of core.old regs.now) lines mem.new (core_of core.new regs.now) }
+    ensures most { turns_of result ≤ most }
+    ensures on { GoesOn mem.old mem.new core.old core.new regs.now cache.old cache.new }
+    ensures reach { ReachAgrees mem.new.tables reach.new }
+    ensures count { words.new ≡ words.old + turns_of result }
+{
+    let row = row_of_turns(&mut words.flat, core, regs, cache, reach, mem, most);
+    words.count(row);
+    row
 }

@@ -1,26 +1,75 @@
-// The words that were met, in their flat form.
+// The words that were met, in their flat form, and the count of the turns that were made by them.
 
-ghost use Rattle.std.specs.Prelude.{◌≡◌, IfOk, length};
+ghost use Rattle.std.specs.Prelude.{◌≡◌, ◌+◌, ◌<◌, ◌^◌, IfOk, length};
 ghost use Rattle.hart.specs.Cores.{word_places};
+ghost use Rattle.quick_turns.specs.Ends.{turns_of};
 
 use crate::flat::Flat;
 use crate::flatten::flatten;
+use crate::leaving::Leaving;
+use crate::row::Row;
 use hart::WORD_PLACES;
 use processor::INSTRUCTION_BYTES;
 use std::alloc::{AllocError, Global};
+use std::marker::Model;
+
+/// Words in their flat form, and the count of the turns that were made by them, each of which is an attempt. Contracts see
+/// the count.
+#[derive(Drop)]
+pub struct Words {
+    pub(crate) flat: FlatWords,
+    turns: u64,
+}
+
+impl Model for Words {
+    ghost use Rattle.std.specs.Prelude.{ℕ};
+
+    ghost Value = { ℕ };
+
+    ghost view = { λ w. w.turns };
+}
+
+impl Words {
+    /// No word was met, and no turn was made. Out of memory is the one refusal.
+    pub fn new(alloc: Global) -> Result<Words, AllocError>
+        ensures { IfOk result (λ turns. turns ≡ 0) }
+    {
+        let flat = FlatWords::new(alloc)?;
+        Ok(Words { flat, turns: 0 })
+    }
+
+    /// The turns that were made.
+    pub fn turns(&self) -> u64
+        ensures { result ≡ self.now }
+    {
+        self.turns
+    }
+
+    /// Counts the turns of a row.
+    #[inline(always)]
+    pub(crate) fn count(&mut self, row: Row)
+        requires { self.old + turns_of row < 2 ^ 64 }
+        ensures { self.new ≡ self.old + turns_of row }
+    {
+        self.turns += match row.left {
+            Leaving::Stays => row.made,
+            Leaving::Calls | Leaving::Returns => row.made + 1,
+        };
+    }
+}
 
 /// Words in their flat form, each kept where its place leads until another one comes there. Contracts see nothing of it.
 #[derive(Drop)]
-pub struct Words {
+pub(crate) struct FlatWords {
     places: Vec<Flat>,
     ghost size: { length places.items ≡ word_places },
 }
 
-impl Words {
-    /// No word was met. Want of memory is the one refusal.
-    pub fn new(alloc: Global) -> Result<Words, AllocError> {
+impl FlatWords {
+    // No word was met.
+    fn new(alloc: Global) -> Result<FlatWords, AllocError> {
         let places = zero_words(alloc, WORD_PLACES)?;
-        Ok(Words { places })
+        Ok(FlatWords { places })
     }
 
     /// A word in its flat form, by where it was fetched.

@@ -1,17 +1,17 @@
 -- The levels of a walk whose entries are kept.
 use Rattle.std.proofs.Common.{◌≡◌, ℕ, zero, suc, ◌+◌, ◌*◌, ◌/◌, ◌<◌, refl, ◌∙◌, sym, ap, subst, arith, Bool, true, false, List}
 use Rattle.processor.specs.Bytes.{page_size}
-use Rattle.std.specs.Prelude.{Some}
+use Rattle.std.specs.Prelude.{Some, None}
 use Rattle.processor.specs.Instructions.{bits}
 use Rattle.processor.specs.Regions.{Region, IsRegion, IsHostPlace}
 use Rattle.processor.specs.Translation.{walk, is_pointer, entry_page}
-use Rattle.processor.specs.SecondStage.{walk_guest, entry_through, WalksApart}
+use Rattle.processor.specs.SecondStage.{address_at, walk_guest, entry_through, WalksApart}
 use Rattle.processor.specs.declared.access.Access.TheVariants.{Load}
 use Rattle.sv39_walk.specs.Levels.{indices_of}
-use Rattle.sv39_walk.proofs.Steps.{first_at, walk_pointer, walk_ends, entry_found, entry_place}
+use Rattle.sv39_walk.proofs.Steps.{first_at, walk_pointer, walk_ends, walk_unreadable, walk_over, entry_found, entry_missing, entry_place}
 use Rattle.reach.specs.declared.entries.Entry.{Entry}
 use Rattle.reach.specs.declared.entries.Entries.{Entries}
-use Rattle.reach.specs.Kept.{with_entry, Above, IsThere, IsPlace, EndsAt}
+use Rattle.reach.specs.Kept.{with_entry, Above, IsThere, IsPlace, EndsAt, LeadsNowhere}
 use Rattle.processor_laws.proofs.Walks.{apart_inside}
 
 -- ---- where entries are read
@@ -83,10 +83,8 @@ goes_on tables hgatp root va left below table index next entries seen more few i
 
 pub ends_there : (tables : List ℕ) (hgatp root va left below table index : ℕ) (entries : Entries) (seen : Entry) → left ≡ suc below → below < 3
     → index ≡ bits va (12 + 9 * below) (21 + 9 * below) → LeadsTo tables hgatp (table + 8 * index) seen → is_pointer seen.word ≡ false
-    → GoOn tables hgatp root va left table entries → EndsAt tables hgatp root va (with_entry below entries seen)
+    → GoOn tables hgatp root va left table entries → EndsAt tables hgatp root va (with_entry below entries seen) below seen.word
 ends_there tables hgatp root va left below table index entries seen more few is leads pointer before = record {
-  below = below;
-  entry = seen.word;
   few = few;
   ends = λ r same there grants other page.
       let parts = with_less (IsThere r) left below entries seen more few (with_few (IsThere r) below entries seen few there) in
@@ -95,3 +93,24 @@ ends_there tables hgatp root va left below table index entries seen more few is 
       (first_at left below table other index more (is ∙ same_index va other below few (sym page)))
       (reads r hgatp (table + 8 * index) seen (leads r same) parts.1) pointer;
 }
+
+-- ---- where the walk leads nowhere
+
+-- what stands above was read where it stands now
+here : (r : Region) (hgatp root va left table : ℕ) (entries : Entries) → Above left (IsThere r) entries → GoOn r.tables hgatp root va left table entries
+    → (grants : ℕ → Bool) → walk (entry_through r hgatp) grants (indices_of 3 va) root va ≡ walk (entry_through r hgatp) grants (indices_of left va) table va
+here r hgatp root va left table entries there before grants = before r refl there grants va refl
+
+-- an entry can't be read
+pub nowhere_unread : (r : Region) (hgatp root va left below table index : ℕ) (entries : Entries) → left ≡ suc below → index ≡ bits va (12 + 9 * below) (21 + 9 * below)
+    → walk_guest r hgatp (table + 8 * index) Load ≡ None → Above left (IsThere r) entries → GoOn r.tables hgatp root va left table entries → LeadsNowhere r hgatp root va
+nowhere_unread r hgatp root va left below table index entries more is missing there before grants =
+    ap address_at (here r hgatp root va left table entries there before grants
+    ∙ walk_unreadable (entry_through r hgatp) grants left below table va (table + 8 * index) (first_at left below table va index more is)
+    (entry_missing r hgatp (table + 8 * index) missing))
+
+-- no level is left
+pub nowhere_over : (r : Region) (hgatp root va left table : ℕ) (entries : Entries) → left ≡ 0 → Above left (IsThere r) entries → GoOn r.tables hgatp root va left table entries
+    → LeadsNowhere r hgatp root va
+nowhere_over r hgatp root va left table entries none there before grants =
+    ap address_at (here r hgatp root va left table entries there before grants ∙ walk_over (entry_through r hgatp) grants left table va none)

@@ -10,13 +10,13 @@ use Rattle.processor.specs.declared.access.Access.{Access}
 use Rattle.processor.specs.declared.mode.Mode.{Mode}
 use Rattle.processor_laws.proofs.Walks.{walk_guest_fits}
 use Rattle.sv39_walk.specs.Levels.{indices_of}
-use Rattle.sv39_walk.specs.Regimes.{settings_of}
+use Rattle.sv39_walk.specs.Regimes.{leaf_gpa, settings_of}
 use Rattle.sv39_walk.specs.declared.first_stage.Regime.{Regime}
 use Rattle.gstage_cache.proofs.Walks.{IsReadable, destination_at, leads_in_region, region_readable, page_moves, answer_near, answer_is}
 use Rattle.reach.specs.declared.entries.Entries.{Entries}
 use Rattle.reach.specs.declared.line.Line.{Line}
-use Rattle.reach.specs.Kept.{AreThere, ArePlaces, EndsAt, LineAgrees, host_of, leads_under}
-use Rattle.sv39_walk.proofs.Steps.{mapped_test}
+use Rattle.reach.specs.Kept.{AreThere, ArePlaces, EndsAt, LeadsNowhere, LineAgrees, host_of, leads_under}
+use Rattle.sv39_walk.proofs.Steps.{bare, mapped, mapped_test, not_canonical}
 
 -- ---- the second stage
 
@@ -102,33 +102,33 @@ unfolding two_stages
 two_of r hgatp s mode va access d e = ap (λ (x : Destination). host_of (after_first_stage r hgatp access x)) e
 
 -- another address of the page, in another region of the same tables
-pub page_led : (r other : Region) (regime : Regime) (access : Access) (va b hpa : ℕ) (entries : Entries) → WalksApart r regime.hgatp → (IsBare regime.vsatp → ⊥)
-    → leads_under r regime access va ≡ Some hpa → EndsAt r.tables regime.hgatp (root_of regime.vsatp) va entries → AreThere r entries → other.tables ≡ r.tables
+pub page_led : (r other : Region) (regime : Regime) (access : Access) (va b hpa below entry : ℕ) (entries : Entries) → WalksApart r regime.hgatp → (IsBare regime.vsatp → ⊥)
+    → leads_under r regime access va ≡ Some hpa → EndsAt r.tables regime.hgatp (root_of regime.vsatp) va entries below entry → AreThere r entries → other.tables ≡ r.tables
     → AreThere other entries → b / page_size ≡ va / page_size → leads_under other regime access b ≡ Some (hpa - hpa % page_size + b % page_size)
-page_led r other regime access va b hpa entries apart paged leads ends there tables there_too page =
+page_led r other regime access va b hpa below entry entries apart paged leads ends there tables there_too page =
     let s : Settings = settings_of regime in
     let grants : ℕ → Bool = permits_access s regime.mode access in
-    let first = first_ends (entry_through r regime.hgatp) s regime.mode va ends.below ends.entry access paged (ends.ends r refl there grants va refl) in
-    let second = first_ends (entry_through other regime.hgatp) s regime.mode b ends.below ends.entry access paged (ends.ends other tables there_too grants b page) in
-    let was = led (is_canonical va) (is_leaf ends.below ends.entry && grants ends.entry) r regime.hgatp (leaf_address ends.below ends.entry va) hpa access
+    let first = first_ends (entry_through r regime.hgatp) s regime.mode va below entry access paged (ends.ends r refl there grants va refl) in
+    let second = first_ends (entry_through other regime.hgatp) s regime.mode b below entry access paged (ends.ends other tables there_too grants b page) in
+    let was = led (is_canonical va) (is_leaf below entry && grants entry) r regime.hgatp (leaf_address below entry va) hpa access
     (sym (two_of r regime.hgatp s regime.mode va access _ first) ∙ leads) in
     let canonical : is_canonical b ≡ true = same_canonical b va page ∙ was.0 in
     two_of other regime.hgatp s regime.mode b access _ second
-    ∙ leads_there other regime.hgatp (leaf_address ends.below ends.entry b) (hpa - hpa % page_size + b % page_size) access _ (rw (canonical, was.1.0) refl)
-    (second_moves r other regime.hgatp (leaf_address ends.below ends.entry va) (leaf_address ends.below ends.entry b) hpa access tables apart was.1.1
-    (leaf_page ends.below ends.entry b va ends.few page)
-    ∙ ap (λ (n : ℕ). Some (hpa - hpa % page_size + n)) (leaf_place ends.below ends.entry b ends.few))
+    ∙ leads_there other regime.hgatp (leaf_address below entry b) (hpa - hpa % page_size + b % page_size) access _ (rw (canonical, was.1.0) refl)
+    (second_moves r other regime.hgatp (leaf_address below entry va) (leaf_address below entry b) hpa access tables apart was.1.1
+    (leaf_page below entry b va ends.few page)
+    ∙ ap (λ (n : ℕ). Some (hpa - hpa % page_size + n)) (leaf_place below entry b ends.few))
 
-pub line_agrees : (r : Region) (line : Line) (va hpa : ℕ) → WalksApart r line.regime.hgatp → (IsBare line.regime.vsatp → ⊥)
-    → leads_under r line.regime line.access va ≡ Some hpa → EndsAt r.tables line.regime.hgatp (root_of line.regime.vsatp) va line.entries → AreThere r line.entries
+pub line_agrees : (r : Region) (line : Line) (va hpa below entry : ℕ) → WalksApart r line.regime.hgatp → (IsBare line.regime.vsatp → ⊥)
+    → leads_under r line.regime line.access va ≡ Some hpa → EndsAt r.tables line.regime.hgatp (root_of line.regime.vsatp) va line.entries below entry → AreThere r line.entries
     → ArePlaces r.tables line.regime.hgatp line.entries → line.page ≡ va / page_size → line.host ≡ hpa - hpa % page_size → LineAgrees r.tables line
-line_agrees r line va hpa apart paged leads ends there places number host = record {
+line_agrees r line va hpa below entry apart paged leads ends there places number host = record {
   places = places;
   leads = λ other tables there_too place small.
       let b : ℕ = page_size * line.page + place in
       let page : b / page_size ≡ va / page_size = omega arith in
       let inside : b % page_size ≡ place = omega arith in
-      page_led r other line.regime line.access va b hpa line.entries apart paged leads ends there tables there_too page
+      page_led r other line.regime line.access va b hpa below entry line.entries apart paged leads ends there tables there_too page
       ∙ ap (λ (n : ℕ). Some (hpa - hpa % page_size + n)) inside
       ∙ ap (λ (n : ℕ). Some (n + place)) (sym host);
 }
@@ -144,3 +144,66 @@ pub led_fits : (r : Region) (regime : Regime) (access : Access) (va hpa : ℕ) �
 unfolding two_stages
 led_fits r regime access va hpa leads =
     after_fits r regime.hgatp hpa access (first_stage (entry_through r regime.hgatp) (settings_of regime) regime.mode va access) leads
+
+-- ---- what a walk answers
+
+host_answer : (gpa : ℕ) (walked : Option ℕ) → host_of (place_through gpa walked) ≡ walked
+host_answer gpa None = refl
+host_answer gpa (Some hpa) = refl
+
+after_at : (r : Region) (hgatp gpa : ℕ) (access : Access) → host_of (after_first_stage r hgatp access (At gpa)) ≡ walk_guest r hgatp gpa access
+unfolding after_first_stage
+after_at r hgatp gpa access = host_answer gpa (walk_guest r hgatp gpa access)
+
+-- without a first stage the second leads
+pub bare_led : (r : Region) (regime : Regime) (access : Access) (va : ℕ) → IsBare regime.vsatp → leads_under r regime access va ≡ walk_guest r regime.hgatp va access
+bare_led r regime access va none =
+    two_of r regime.hgatp (settings_of regime) regime.mode va access (At va) (bare (entry_through r regime.hgatp) (settings_of regime) regime.mode va access none)
+    ∙ after_at r regime.hgatp va access
+
+after_none : (r : Region) (hgatp : ℕ) (access : Access) (d : Destination) → address_at d ≡ None → host_of (after_first_stage r hgatp access d) ≡ None
+unfolding after_first_stage
+after_none r hgatp access (At gpa) e = absurd (cc)
+after_none r hgatp access PageFault e = refl
+after_none r hgatp access (Unreadable entry) e = refl
+
+first_none : (read : ℕ → Option ℕ) (s : Settings) (mode : Mode) (va : ℕ) (access : Access) (canonical : Bool) → is_canonical va ≡ canonical → (IsBare s.satp → ⊥)
+    → address_at (walk read (permits_access s mode access) (indices_of 3 va) (root_of s.satp) va) ≡ None → address_at (first_stage read s mode va access) ≡ None
+first_none read s mode va access true is paged none = ap address_at (mapped read s mode va (root_of s.satp) access paged is refl) ∙ none
+first_none read s mode va access false is paged none = ap address_at (not_canonical read s mode va access paged is)
+
+-- the first stage leads nowhere
+pub nowhere_led : (r : Region) (regime : Regime) (access : Access) (va : ℕ) → (IsBare regime.vsatp → ⊥) → LeadsNowhere r regime.hgatp (root_of regime.vsatp) va
+    → leads_under r regime access va ≡ None
+nowhere_led r regime access va paged nowhere =
+    let s : Settings = settings_of regime in
+    let d : Destination = first_stage (entry_through r regime.hgatp) s regime.mode va access in
+    two_of r regime.hgatp s regime.mode va access d refl
+    ∙ after_none r regime.hgatp access d
+    (first_none (entry_through r regime.hgatp) s regime.mode va access (is_canonical va) refl paged (nowhere (permits_access s regime.mode access)))
+
+-- where the second stage leads a guest-physical address, if there is one
+abbrev pub led_on : Region → (hgatp : ℕ) → Access → Option ℕ → Option ℕ
+led_on r hgatp access None = None
+led_on r hgatp access (Some gpa) = walk_guest r hgatp gpa access
+
+after_leaf : (canonical leaf permits : Bool) (r : Region) (hgatp gpa : ℕ) (access : Access)
+    → host_of (after_first_stage r hgatp access (if canonical then (if leaf && permits then At gpa else PageFault) else PageFault))
+    ≡ led_on r hgatp access (if canonical && leaf && permits then Some gpa else None)
+after_leaf true true true r hgatp gpa access = after_at r hgatp gpa access
+after_leaf true true false r hgatp gpa access = after_none r hgatp access PageFault refl
+after_leaf true false permits r hgatp gpa access = after_none r hgatp access PageFault refl
+after_leaf false leaf permits r hgatp gpa access = after_none r hgatp access PageFault refl
+
+-- the entry where the first stage ends leads on
+pub leaf_led : (r : Region) (regime : Regime) (access : Access) (va below entry : ℕ) (entries : Entries) (gpa : Option ℕ) → (IsBare regime.vsatp → ⊥)
+    → EndsAt r.tables regime.hgatp (root_of regime.vsatp) va entries below entry → AreThere r entries
+    → gpa ≡ leaf_gpa regime access below entry va
+    → leads_under r regime access va ≡ led_on r regime.hgatp access gpa
+leaf_led r regime access va below entry entries gpa paged ends there is =
+    let s : Settings = settings_of regime in
+    let grants : ℕ → Bool = permits_access s regime.mode access in
+    two_of r regime.hgatp s regime.mode va access _
+    (first_ends (entry_through r regime.hgatp) s regime.mode va below entry access paged (ends.ends r refl there grants va refl))
+    ∙ after_leaf (is_canonical va) (is_leaf below entry) (grants entry) r regime.hgatp (leaf_address below entry va) access
+    ∙ ap (led_on r regime.hgatp access) (sym is)

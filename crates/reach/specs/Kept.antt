@@ -3,7 +3,7 @@ use Rattle.std.specs.Prelude.{◌≡◌, ℕ, zero, suc, ◌+◌, ◌*◌, ◌/�
 use Rattle.processor.specs.Bytes.{page_size}
 use Rattle.processor.specs.Regions.{Region, host_word}
 use Rattle.processor.specs.Translation.{walk, at_leaf, entry_size, table_levels}
-use Rattle.processor.specs.SecondStage.{walk_guest, entry_through, two_stages}
+use Rattle.processor.specs.SecondStage.{address_at, walk_guest, entry_through, two_stages}
 use Rattle.processor.specs.declared.access.Access.{Access}
 use Rattle.processor.specs.declared.access.Access.TheVariants.{Fetch, Load, Store}
 use Rattle.processor.specs.declared.translation.Place.{Place}
@@ -44,13 +44,16 @@ IsPlace tables hgatp seen = (gpa : ℕ) × ((gpa % entry_size ≡ 0) × ((r : Re
 abbrev pub ArePlaces : List ℕ → (hgatp : ℕ) → Entries → Type 0
 ArePlaces tables hgatp entries = Above 0 (IsPlace tables hgatp) entries
 
--- in every region of these tables where these words stand, the walks of all addresses of a page end at one entry
-pub record EndsAt (tables : List ℕ) (hgatp root va : ℕ) (entries : Entries) : Type 0 where
-  pub below : ℕ
-  pub entry : ℕ
+-- in every region of these tables where these words stand, the walks of all addresses of a page end at one entry, which has so
+-- many levels below it
+pub record EndsAt (tables : List ℕ) (hgatp root va : ℕ) (entries : Entries) (below entry : ℕ) : Type 0 where
   pub few : below < table_levels
   pub ends : (r : Region) → r.tables ≡ tables → AreThere r entries → (grants : ℕ → Bool) (other : ℕ) → other / page_size ≡ va / page_size
       → walk (entry_through r hgatp) grants (indices_of table_levels other) root other ≡ at_leaf grants below entry other
+
+-- whatever its leaves grant, the walk of an address gives no guest-physical address
+abbrev pub LeadsNowhere : Region → (hgatp root va : ℕ) → Type 0
+LeadsNowhere r hgatp root va = (grants : ℕ → Bool) → address_at (walk (entry_through r hgatp) grants (indices_of table_levels va) root va) ≡ None
 
 -- ---- one line
 

@@ -4,7 +4,7 @@ ghost use Rattle.std.specs.Prelude.{◌≡◌, ◌+◌, ◌/◌, ◌%◌, ◌<�
 ghost use Rattle.processor.specs.Translation.{address_pages};
 ghost use Rattle.processor.specs.Bytes.{page_size};
 ghost use Rattle.processor.specs.SecondStage.{WalksApart};
-ghost use Rattle.processor.specs.Roots.{IsFirstStageRoot};
+ghost use Rattle.processor.specs.Roots.{IsBare, IsFirstStageRoot};
 ghost use Rattle.gstage_cache.specs.CacheWalks.{MayWalk, Walked};
 ghost use Rattle.reach.specs.declared.line.Line.{Line as Kept};
 ghost use Rattle.reach.specs.Kept.{lines_of_reach, no_lines, line_at, line_place, leads_under, IsFor, IsKept, AreThere, LineAgrees, ReachAgrees};
@@ -16,7 +16,7 @@ use gstage_cache::Cache;
 use host_mem::HostMem;
 use processor::{Access, BARE, PAGE_BYTES, ROOT_MODE_PLACE};
 use std::marker::Model;
-use sv39_walk::{Regime, root_table, translate_through};
+use sv39_walk::{Regime, SecondStage, leaf_gpa, root_table};
 
 /// The lines for each kind of access. Kernels have wide texts.
 const FETCH_LINES: u64 = 256;
@@ -153,47 +153,42 @@ impl Reach {
         ensures agrees { ReachAgrees mem.now.tables self.new }
         ensures walked { Walked mem.now.tables regime.now.hgatp cache.old cache.new }
     {
-        match translate_through(cache, mem, regime, va, access) {
-            Ok(place) => {
-                self.keep_walk(cache, mem, regime, va, access, place.hpa);
-                Some(place.hpa)
-            }
-            Err(_fault) => None,
+        if regime.vsatp >> ROOT_MODE_PLACE == BARE {
+            return cache.lead(mem, regime.hgatp, va, access);
         }
+        self.walk_tables(cache, mem, regime, va, access)
     }
 
-    // Keeps where an address was led, with the entries that its first stage reads, if it has one. It takes what the walk took,
-    // and where that led.
-    fn keep_walk(
+    // `walk`, where there is a first stage: its entries are read once, for the place and for the line.
+    fn walk_tables(
         &mut self,
         cache: &mut Cache,
         mem: &HostMem,
         regime: &Regime,
         va: u64,
         access: Access,
-        hpa: u64,
-    )
+    ) -> Option<u64>
         requires may { MayWalk mem.now regime.now.hgatp cache.old }
-        requires leads { leads_under mem.now regime.now access va ≡ Some hpa }
+        requires paged { IsBare regime.now.vsatp → ⊥ }
         requires agrees { ReachAgrees mem.now.tables self.old }
+        ensures value { result ≡ leads_under mem.now regime.now access va }
         ensures agrees { ReachAgrees mem.now.tables self.new }
         ensures walked { Walked mem.now.tables regime.now.hgatp cache.old cache.new }
     {
-        if regime.vsatp >> ROOT_MODE_PLACE == BARE {
-            return;
-        }
         let root = root_table(regime.vsatp);
-        if let Some(entries) = read_entries(cache, mem, regime.hgatp, root, va) {
-            let page = va / PAGE_BYTES;
-            self.keep(Line {
-                tag: tag(regime, access, page),
-                regime: *regime,
-                access,
-                page,
-                host: hpa - hpa % PAGE_BYTES,
-                entries,
-            });
-        }
+        let read = read_entries(cache, mem, regime.hgatp, root, va)?;
+        let gpa = leaf_gpa(read.last, read.below, regime, va, access)?;
+        let hpa = cache.lead(mem, regime.hgatp, gpa, access)?;
+        let page = va / PAGE_BYTES;
+        self.keep(Line {
+            tag: tag(regime, access, page),
+            regime: *regime,
+            access,
+            page,
+            host: hpa - hpa % PAGE_BYTES,
+            entries: read.entries,
+        });
+        Some(hpa)
     }
 
     // Keeps a line at its place.

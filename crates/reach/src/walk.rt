@@ -1,12 +1,12 @@
 // The entries that a walk of the first stage reads.
 
-ghost use Rattle.std.specs.Prelude.{◌≡◌, ◌%◌, IfSome, Some};
+ghost use Rattle.std.specs.Prelude.{◌≡◌, ◌%◌, IfSome, Some, None};
 ghost use Rattle.processor.specs.Regions.{Region};
 ghost use Rattle.processor.specs.SecondStage.{walk_guest};
 ghost use Rattle.processor.specs.declared.access.Access.TheVariants as Access;
 ghost use Rattle.sv39_walk.specs.Levels.{IsTable};
 ghost use Rattle.gstage_cache.specs.CacheWalks.{MayWalk, Walked};
-ghost use Rattle.reach.specs.Kept.{IsThere, AreThere, ArePlaces, EndsAt};
+ghost use Rattle.reach.specs.Kept.{IsThere, AreThere, ArePlaces, EndsAt, LeadsNowhere};
 ghost use Rattle.processor.specs.Translation.{entry_size};
 
 use crate::entries::{Entries, Entry};
@@ -21,6 +21,7 @@ fn read_entry(cache: &mut Cache, mem: &HostMem, hgatp: u64, gpa: u64) -> Option<
     requires aligned { gpa % entry_size ≡ 0 }
     ensures there { IfSome result (λ seen. IsThere mem.now seen) }
     ensures leads { IfSome result (λ seen. (r : Region) → r.tables ≡ mem.now.tables → walk_guest r hgatp gpa Access.Load ≡ Some seen.at) }
+    ensures missing { result ≡ None → walk_guest mem.now hgatp gpa Access.Load ≡ None }
     ensures walked { Walked mem.now.tables hgatp cache.old cache.new }
 {
     let Some(at) = cache.lead(mem, hgatp, gpa, Access::Load) else {
@@ -33,20 +34,29 @@ fn read_entry(cache: &mut Cache, mem: &HostMem, hgatp: u64, gpa: u64) -> Option<
     })
 }
 
+/// What a walk of the first stage read: its entries, and of the last one its word and how many levels stand below it.
+#[derive(Drop)]
+pub(crate) struct FirstWalk {
+    pub(crate) entries: Entries,
+    pub(crate) last: PteBits,
+    pub(crate) below: u32,
+}
+
 /// The entries that the walk of an address from a table with three levels, its own counted, reads. None where one of them
-/// can't be read, or the last one names a table.
+/// can't be read, or the last one names a table; then the walk leads nowhere.
 pub(crate) fn read_entries(
     cache: &mut Cache,
     mem: &HostMem,
     hgatp: u64,
     root: u64,
     va: u64,
-) -> Option<Entries>
+) -> Option<FirstWalk>
     requires may { MayWalk mem.now hgatp cache.old }
     requires table { IsTable root }
-    ensures ends { IfSome result (λ entries. EndsAt mem.now.tables hgatp root va entries) }
-    ensures there { IfSome result (λ entries. AreThere mem.now entries) }
-    ensures places { IfSome result (λ entries. ArePlaces mem.now.tables hgatp entries) }
+    ensures ends { IfSome result (λ read. EndsAt mem.now.tables hgatp root va read.entries read.below read.last.0) }
+    ensures there { IfSome result (λ read. AreThere mem.now read.entries) }
+    ensures places { IfSome result (λ read. ArePlaces mem.now.tables hgatp read.entries) }
+    ensures nowhere { result ≡ None → LeadsNowhere mem.now hgatp root va }
     ensures walked { Walked mem.now.tables hgatp cache.old cache.new }
 {
     let mut table = root;
@@ -59,7 +69,11 @@ pub(crate) fn read_entries(
         entries = entries.with_entry(below, seen);
         let pte = PteBits(seen.word);
         if !is_pointer(pte) {
-            return Some(entries);
+            return Some(FirstWalk {
+                entries,
+                last: pte,
+                below,
+            });
         }
         table = entry_page(pte);
     }

@@ -31,6 +31,7 @@ device_rows = record {
   no_sectors = refl;
   past_the_disk = refl;
   crooked_address = refl;
+  address_of_one_beat = refl;
   command_after_a_denial = refl;
   line_of_input = refl;
   line_of_an_end = refl;

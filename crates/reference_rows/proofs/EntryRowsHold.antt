@@ -16,6 +16,7 @@ entry_rows = record {
   elsewhere_leaves = refl;
   bound_to_a_free_page = refl;
   page_fault = refl;
+  mapping_outside_ram = refl;
   same_page = refl;
   same_page_stays = refl;
   other_page = refl;
@@ -24,6 +25,7 @@ entry_rows = record {
   outside_ram = refl;
   other_page_fault = refl;
   other_page_fault_leaves = refl;
+  other_mapping_outside_ram = refl;
   returns_to_the_user = refl;
   returns_to_the_kernel = refl;
 }

@@ -8,3 +8,6 @@ pub mod ModuleRowsHold
 pub mod GuestRowsHold
 pub mod EntryRowsHold
 pub mod VirtioRowsHold
+pub mod AttackerRowsHold
+pub mod ScheduleRowsHold
+pub mod FieldRowsHold

@@ -24,6 +24,8 @@ pub request_rows : RequestRows
 unfolding computing
 request_rows = record {
   accepted = refl;
+  indirect = refl;
+  indirect_is_not_accepted = refl;
   first_bytes = refl;
   data_read = refl;
   no_result_yet = refl;

@@ -67,6 +67,7 @@ pub record CallRows : Type 0 where
   pub interrupt_of_none : answer (after_call 0x735049 0 0 9 0 0) ≡ value_answer 0
   pub interrupt_of_a_third : answer (after_call 0x735049 0 5 0 0 0) ≡ error_answer 3
   pub interrupt_of_a_third_does_nothing : (hart_of (after_call 0x735049 0 5 0 0 0) 0).supervisor.software ≡ false
+  pub interrupt_of_the_last_bit : answer (after_call 0x735049 0 (2 ^ 63) 0 0 0) ≡ error_answer 3
   pub interrupts_have_no_more : answer (after_call 0x735049 1 3 0 0 0) ≡ error_answer 2
   pub remote_fence : answer (after_call 0x52464E43 0 3 0 0 0) ≡ value_answer 0
   pub remote_fence_of_pages : answer (after_call 0x52464E43 1 3 0 0 0) ≡ value_answer 0
@@ -91,6 +92,7 @@ pub record CallRows : Type 0 where
   pub reset : (after_call 0x53525354 0 0 0 0 0).journal.verdict ≡ Shutdown
   pub cold_reboot : answer (after_call 0x53525354 0 1 0 0 0) ≡ error_answer 2
   pub warm_reboot : answer (after_call 0x53525354 0 2 0 0 0) ≡ error_answer 2
+  pub reset_of_the_next_type : answer (after_call 0x53525354 0 3 0 0 0) ≡ error_answer 3
   pub unknown_reset : answer (after_call 0x53525354 0 (2 ^ 32) 0 0 0) ≡ error_answer 3
   pub reset_has_no_more : answer (after_call 0x53525354 1 0 0 0 0) ≡ error_answer 2
   -- ---- no such extension

@@ -98,6 +98,7 @@ pub record DeviceRows : Type 0 where
   pub no_sectors : status_after (set_up 0 0x80001000 0) 1 ≡ 4
   pub past_the_disk : status_after (set_up 1 0x80001000 2) 1 ≡ 4
   pub crooked_address : status_after (set_up 0 0x80001020 1) 1 ≡ 4
+  pub address_of_one_beat : status_after (set_up 0 0x80001040 1) 1 ≡ 1
   pub command_after_a_denial : status_after (with_denied (set_up 0 0x80001000 1)) 1 ≡ 1
   -- ---- the lines
   pub line_of_input : external_line (devices_with input block_at_boot) 0 ≡ true

@@ -8,3 +8,6 @@ pub mod ModuleRows
 pub mod GuestRows
 pub mod EntryRows
 pub mod VirtioRows
+pub mod AttackerRows
+pub mod ScheduleRows
+pub mod FieldRows

@@ -1,9 +1,10 @@
 -- One turn, a row for each case: interrupts, fetches, and each kind of effect. This project's own.
-use Rattle.std.specs.Prelude.{◌≡◌, ℕ, List, [], ◌∷◌, length, replicate, slice_get, Some, None, true}
+use Rattle.std.specs.Prelude.{◌≡◌, ℕ, List, [], ◌∷◌, length, replicate, slice_get, Option, Some, None, true}
 use Rattle.processor.specs.Bytes.{word}
 use Rattle.sv_types.specs.declared.event.Note.TheVariants.{Demote, Denied}
 use Rattle.sv_types.specs.declared.event.Rule.TheVariants.{Write}
 use Rattle.sv_types.specs.declared.event.Verdict.TheVariants.{Stopped}
+use Rattle.processor.specs.declared.mode.Mode.{Mode}
 use Rattle.processor.specs.declared.mode.Mode.TheVariants.{Kernel, User}
 use Rattle.reference.specs.Calls.{registers_at_boot}
 use Rattle.sv_types.specs.declared.event.Event.TheVariants.{Turn}
@@ -25,6 +26,13 @@ interrupted_hart = record (hart_in Kernel 0x80000000 plain) { supervisor = recor
 -- x5 names these bytes, which are reserved
 abbrev pub reserving_hart : ℕ → Hart
 reserving_hart place = record (hart_in Kernel 0x80000000 (with_two 0x80002000 7)) { reservation = Some place }
+
+abbrev pub reservation_of : State → Option ℕ
+reservation_of r = (hart_of r 0).reservation
+
+-- a reservation elsewhere, and x5 names this address
+abbrev pub keeping_hart : Mode → (pc x5 : ℕ) → Hart
+keeping_hart mode pc x5 = record (hart_in mode pc (with_two x5 7)) { reservation = Some 0x2000 }
 
 abbrev pub sc : ℕ
 sc = 0x1862B3AF
@@ -94,6 +102,16 @@ pub record TurnRows : Type 0 where
   pub fence_of_translation_of_the_kernel : at_pc (as_kernel 0x12000073 plain) ≡ 0x80000004 ∷ 1 ∷ []
   pub fence : at_pc (as_user 0x0FF0000F plain) ≡ 0x80001004 ∷ 1 ∷ []
   pub instruction_of_a_hypervisor : trap_facts (as_kernel 0x6002C373 plain) ≡ trap_of 2 0x6002C373
+  -- ---- what takes a reservation: traps, returns, a demotion and device registers
+  pub trap_takes_it : reservation_of (turn_of_hart (small 0x00100073 0) (keeping_hart Kernel 0x80000000 0)) ≡ None
+  pub return_takes_it : reservation_of (turn_of_hart (small 0x10200073 0) (keeping_hart Kernel 0x80000000 0)) ≡ None
+  pub demotion_takes_it : reservation_of (turn_of_hart (small 0x13 0x13) (keeping_hart Kernel 0x80001000 0)) ≡ None
+  pub device_load_takes_it : reservation_of (turn_of_hart (small 0x0002C303 0) (keeping_hart Kernel 0x80000000 0x10000005)) ≡ None
+  pub device_load : register_of (turn_of_hart (small 0x0002C303 0) (keeping_hart Kernel 0x80000000 0x10000005)) 6 ≡ 0x60
+  pub device_store_takes_it : reservation_of (turn_of_hart (small 0x00628023 0) (keeping_hart Kernel 0x80000000 0x10000000)) ≡ None
+  pub device_store : (turn_of_hart (small 0x00628023 0) (keeping_hart Kernel 0x80000000 0x10000000)).journal.printed ≡ 7 ∷ []
+  pub load_leaves_it : reservation_of (turn_of_hart (small 0x0002C303 0) (keeping_hart Kernel 0x80000000 0x80001000)) ≡ Some 0x2000
+  pub store_elsewhere_leaves_it : reservation_of (turn_of_hart (small 0x00628023 0) (keeping_hart Kernel 0x80000000 0x80001000)) ≡ Some 0x2000
   -- ---- the mode that a trap came from, in SPP
   pub previous_mode_of_the_kernel : status_of (turn_of_hart (small 0x13 0) interrupted_hart) ≡ 0x120
   pub previous_mode_of_the_user : status_of (turn_of_hart (small 0 0x73) (record (hart_in User 0x80001000 plain) { supervisor = record with_vector { sstatus = 0x102 } })) ≡ 0x20

@@ -114,6 +114,8 @@ pub record VirtioRows : Type 0 where
 
 pub record RequestRows : Type 0 where
   pub accepted : moves_left (after_read_beats 1).devices.disk ≡ 12
+  pub indirect : value_at (after_beats (machine_with 0 0x80002000 7) 1).devices.disk 0x070 ≡ Some 79
+  pub indirect_is_not_accepted : moves_left (after_beats (machine_with 0 0x80002000 7) 1).devices.disk ≡ 0
   pub first_bytes : part (after_read_beats 2).ram 0x2000 65 ≡ replicate 64 8 ++ (5 ∷ [])
   pub data_read : part (after_read_beats 9).ram 0x2000 513 ≡ replicate 512 8 ++ (5 ∷ [])
   pub no_result_yet : word (after_read_beats 9).ram 0x1200 1 ≡ 170

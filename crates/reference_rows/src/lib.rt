@@ -10,6 +10,9 @@ ghost use Rattle.reference_rows.specs.DeviceRows.{DeviceRows};
 ghost use Rattle.reference_rows.specs.ExitRows.{ExitRows};
 ghost use Rattle.reference_rows.specs.ModuleRows.{ModuleRows};
 ghost use Rattle.reference_rows.specs.GuestRows.{GuestRows};
+ghost use Rattle.reference_rows.specs.AttackerRows.{AttackerRows};
+ghost use Rattle.reference_rows.specs.ScheduleRows.{ScheduleRows};
+ghost use Rattle.reference_rows.specs.FieldRows.{FieldRows};
 ghost use Rattle.reference_rows.specs.VirtioRows.{VirtioRows, RequestRows, LastRows, AttackRows};
 
 /// Whole runs of one page.
@@ -58,4 +61,19 @@ pub fn rows_of_requests()
     ensures requests { RequestRows }
     ensures last { LastRows }
     ensures attacks { AttackRows }
+{}
+
+/// Writes of an attacker's device: what moves, which reservations go, what is denied, and where nothing happens.
+pub fn rows_of_attackers()
+    ensures { AttackerRows }
+{}
+
+/// A script's line for an attacker's device, and the first events of schedules that are drawn.
+pub fn rows_of_schedules()
+    ensures { ScheduleRows }
+{}
+
+/// Relocated fields of each kind, with the ends of what fits.
+pub fn rows_of_fields()
+    ensures { FieldRows }
 {}

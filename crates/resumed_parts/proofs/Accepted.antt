@@ -1,5 +1,5 @@
 -- What a snapshot that isn't refused gives its parts.
-use Rattle.std.proofs.Common.{◌≡◌, ℕ, ◌+◌, ◌*◌, ◌<◌, ◌≤◌, List, [], ◌∷◌, length, min, ◌∙◌, ap, subst, true, not, ◌&&◌, arith, slice_get}
+use Rattle.std.proofs.Common.{◌≡◌, ℕ, ◌+◌, ◌*◌, ◌^◌, ◌<◌, ◌≤◌, List, [], ◌∷◌, length, min, ◌∙◌, ap, subst, sym, true, not, ◌&&◌, arith, slice_get}
 use Rattle.std.specs.Prelude.{Option, Some, None, IfSome, IsTrue, nat_le}
 use Rattle.std.specs.List.{list_all}
 use Rattle.std.proofs.lemmas.Bool.Decides.{nat_tests}
@@ -76,7 +76,7 @@ pub record Known (rules : Rules) (s : Contents) : Type 0 where
   pub ram : length s.ram ≡ page_size * rules.ram_pages
   pub fitting : list_all (fits rules) s.modules ≡ true
   pub right : is_guarded_right rules s ≡ true
-  pub sits : CanAllSit rules.ram_pages (record { entries = rules.entries; bound = rules.bound }) s.harts
+  pub sits : (tables : ℕ) → tables + page_size * rules.ram_pages < 2 ^ 63 → CanAllSit tables (record { entries = rules.entries; bound = rules.bound }) s.harts
   pub ascends : AscendsFrom 0 s.modules
   pub load : IfSome s.loading (IsWithin rules)
   pub devices : devices.has (s.console, (s.port, s.disk)) ≡ true
@@ -98,8 +98,8 @@ known rules s within has none =
       ram = parts.ram ∙ ap (λ (n : ℕ). page_size * n) policy.pages;
       fitting = policy.modules;
       right = a.guarded;
-      sits = subst (λ (n : ℕ). CanAllSit n (record { entries = rules.entries; bound = rules.bound }) s.harts) policy.pages
-          (all_sit rules (length s.protection) s.harts within parts.harts policy.bound);
+      sits = λ tables room. all_sit rules tables (length s.protection) s.harts within
+          (subst (λ (n : ℕ). tables + page_size * n < 2 ^ 63) (sym policy.pages) room) parts.harts policy.bound;
       ascends = ascends_by rules 0 s.modules (few_modules rules within) policy.modules (modules_parts s.modules parts.modules).ascends (from_none s.modules) (omega arith);
       load = load_within rules s.harts s.modules s.loading policy.load parts.loading;
       devices = parts.devices;

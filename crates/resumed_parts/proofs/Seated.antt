@@ -101,10 +101,10 @@ hart_ranges pages h has =
 
 -- ---- all harts
 
-pub sits_at : (pages : ℕ) (entries : Permitted) (hs : List SavedHart) (i : ℕ) (d : SavedHart) → CanAllSit pages entries hs → i < length hs → CanSit pages entries (get_or hs i d)
-sits_at pages entries [] i d all within = absurd (omega (arith, within))
-sits_at pages entries (h ∷ hs) zero d all within = all.0
-sits_at pages entries (h ∷ hs) (suc i) d all within = sits_at pages entries hs i d all.1 (omega (arith, within))
+pub sits_at : (tables : ℕ) (entries : Permitted) (hs : List SavedHart) (i : ℕ) (d : SavedHart) → CanAllSit tables entries hs → i < length hs → CanSit tables entries (get_or hs i d)
+sits_at tables entries [] i d all within = absurd (omega (arith, within))
+sits_at tables entries (h ∷ hs) zero d all within = all.0
+sits_at tables entries (h ∷ hs) (suc i) d all within = sits_at tables entries hs i d all.1 (omega (arith, within))
 
 -- ---- sides
 
@@ -205,24 +205,26 @@ may_be_in rules (Some i) within bound =
     let there = some_binding (binding_of (slice_get rules.entries i) (slice_get rules.bound i)) bound in
     record { entry = there.0; bound = there.1; first = place_by rules i there.0 (rules.format == 1) (bound_rules rules within) there.1 }
 
-each_sits : (rules : Rules) (pages n : ℕ) (before hs : List SavedHart) → IsTrue (rules_within rules) → has_all (λ before. hart pages) before n hs ≡ true
-    → list_all (λ (h : SavedHart). is_bound rules h.entry) hs ≡ true → CanAllSit pages (entries_of rules) hs
+each_sits : (rules : Rules) (tables pages n : ℕ) (before hs : List SavedHart) → IsTrue (rules_within rules) → tables + page_size * pages < 2 ^ 63 → has_all (λ before. hart pages) before n hs ≡ true
+    → list_all (λ (h : SavedHart). is_bound rules h.entry) hs ≡ true → CanAllSit tables (entries_of rules) hs
 unfolding has_all
-each_sits rules pages n before [] within has bound = tt
-each_sits rules pages zero before (h ∷ hs) within has bound = absurd cc
-each_sits rules pages (suc n) before (h ∷ hs) within has bound = (
+each_sits rules tables pages n before [] within room has bound = tt
+each_sits rules tables pages zero before (h ∷ hs) within room has bound = absurd cc
+each_sits rules tables pages (suc n) before (h ∷ hs) within room has bound = (
   record {
+    ram_pages = pages;
+    room = room;
     form = first_true ((hart pages).has h) _ has;
     entry = may_be_in rules h.entry within (first_true (is_bound rules h.entry) _ bound);
   },
-  each_sits rules pages n (before ++ h ∷ []) hs within (second_true ((hart pages).has h) _ has) (second_true (is_bound rules h.entry) _ bound),
+  each_sits rules tables pages n (before ++ h ∷ []) hs within room (second_true ((hart pages).has h) _ has) (second_true (is_bound rules h.entry) _ bound),
 )
 
 -- the harts of a snapshot of the policy
-pub all_sit : (rules : Rules) (pages : ℕ) (hs : List SavedHart) → IsTrue (rules_within rules) → (harts pages (length hs)).has hs ≡ true
-    → list_all (λ (h : SavedHart). is_bound rules h.entry) hs ≡ true → CanAllSit pages (entries_of rules) hs
+pub all_sit : (rules : Rules) (tables pages : ℕ) (hs : List SavedHart) → IsTrue (rules_within rules) → tables + page_size * pages < 2 ^ 63 → (harts pages (length hs)).has hs ≡ true
+    → list_all (λ (h : SavedHart). is_bound rules h.entry) hs ≡ true → CanAllSit tables (entries_of rules) hs
 unfolding harts
-all_sit rules pages hs within has bound = each_sits rules pages (length hs) [] hs within has bound
+all_sit rules tables pages hs within room has bound = each_sits rules tables pages (length hs) [] hs within room has bound
 
 -- ---- the entry by its address
 

@@ -1,6 +1,6 @@
 -- What a saved hart has in a snapshot that can go on. This project's own.
-use Rattle.std.specs.Prelude.{◌≡◌, ℕ, ◌+◌, ◌^◌, ◌<◌, ◌≤◌, List, [], ◌∷◌, true, Option, Some, None, slice_get}
-use Rattle.processor.specs.Bytes.{ram_base, ram_place}
+use Rattle.std.specs.Prelude.{◌≡◌, ℕ, ◌+◌, ◌*◌, ◌^◌, ◌<◌, ◌≤◌, List, [], ◌∷◌, true, Option, Some, None, slice_get}
+use Rattle.processor.specs.Bytes.{page_size, ram_base, ram_place}
 use Rattle.processor.specs.declared.mode.Mode.{Mode}
 use Rattle.processor.specs.declared.mode.Mode.TheVariants.{Kernel, User}
 use Rattle.sv_types.specs.declared.view.View.{View}
@@ -29,11 +29,14 @@ view_in User entry = View.User
 abbrev pub IsReservable : (tables address : ℕ) → Type 0
 IsReservable tables address = (ram_base ≤ address) × (tables + ram_place address < 2 ^ 64)
 
--- its values are in their ranges, in RAM of so many pages, and it may be in its entry
-pub record CanSit (ram_pages : ℕ) (entries : Permitted) (h : SavedHart) : Type 0 where
+-- its values are in their ranges, in RAM of some number of pages which ends below 2^63 where it lies behind so many bytes of
+-- tables, and it may be in its entry
+pub record CanSit (tables : ℕ) (entries : Permitted) (h : SavedHart) : Type 0 where
+  pub ram_pages : ℕ
+  pub room : tables + page_size * ram_pages < 2 ^ 63
   pub form : (hart ram_pages).has h ≡ true
   pub entry : MayBeIn entries h.entry
 
 abbrev pub CanAllSit : ℕ → Permitted → List SavedHart → Type 0
-CanAllSit ram_pages entries [] = Unit {0}
-CanAllSit ram_pages entries (h ∷ harts) = CanSit ram_pages entries h × CanAllSit ram_pages entries harts
+CanAllSit tables entries [] = Unit {0}
+CanAllSit tables entries (h ∷ harts) = CanSit tables entries h × CanAllSit tables entries harts

@@ -21,7 +21,7 @@ pub fn devices_of(
     input: &[u8],
     time: u64,
     harts: &[SavedHart],
-) -> Devices<Port>
+) -> Devices
     requires form { form.devices.has (input.now, (port, disk.items)) ≡ true }
     requires few { length harts.now ≤ most_harts }
     ensures { result ≡ record { console = input.now; disk = disk_of port disk.items; clock = record { time = time; timers = timers_of harts.now } } }
@@ -44,7 +44,7 @@ fn port_of(port: PortState, disk: Vec<u8>) -> Port
 }
 
 // Puts bytes of input behind those that wait.
-fn put_input(devices: &mut Devices<Port>, input: &[u8])
+fn put_input(devices: &mut Devices, input: &[u8])
     requires room { length devices.old.console + length input.now ≤ most_queued }
     ensures { devices.new ≡ record devices.old { console = devices.old.console ++ input.now } }
 {

@@ -22,7 +22,7 @@ use crate::device_states::devices_of;
 use crate::guard::approved_guard;
 use crate::load::resume_loading;
 use crate::seats::seats_of;
-use devices::{Devices, Port};
+use devices::Devices;
 use gstage_tables::Trees;
 use hart_answers::Seat;
 use host_mem::HostMem;
@@ -42,7 +42,7 @@ pub struct ResumedParts {
     pub entries: Entries,
     pub seats: Vec<Seat>,
     pub modules: Modules,
-    pub devices: Devices<Port>,
+    pub devices: Devices,
     pub journal: Journal,
 }
 
@@ -92,12 +92,10 @@ fn copied_parts(
     alloc: Global,
     machine: &Saved,
     policy: &Policy,
-    guard: &Guard,
     tables: usize,
 ) -> Result<CopiedParts, AllocError>
     requires within { IsTrue (rules_within (rules_of policy.now)) }
-    requires each { CanAllSit (length guard.now.pages) (record { entries = (rules_of policy.now).entries; bound = (rules_of policy.now).bound }) machine.now.harts.items }
-    requires room { tables + page_size * length guard.now.pages < 2 ^ 63 }
+    requires each { CanAllSit tables (record { entries = (rules_of policy.now).entries; bound = (rules_of policy.now).bound }) machine.now.harts.items }
     requires notes { length machine.now.notes.items ≤ most_notes }
     requires ascends { AscendsFrom 0 machine.now.modules.items }
     ensures entries { IfOk result (λ p. p.entries ≡ record { entries = (rules_of policy.now).entries; bound = (rules_of policy.now).bound }) }
@@ -108,7 +106,7 @@ fn copied_parts(
     ensures gate { IfOk result (λ p. p.gate ≡ record { loaded = machine.now.modules.items; loading = false; retired = machine.now.retired }) }
 {
     let entries = Entries::new(alloc, &policy.entries, &policy.bound)?;
-    let seats = seats_of(alloc, guard, &entries, tables, &machine.harts)?;
+    let seats = seats_of(alloc, &entries, tables, &machine.harts)?;
     let journal = Journal::from_values(alloc, machine.counts, &machine.notes, machine.verdict)?;
     let gate = Gate::from_values(alloc, &machine.modules, machine.retired)?;
     Ok(CopiedParts {
@@ -141,7 +139,7 @@ fn assemble(
         machine,
         text: _,
     } = snapshot;
-    let copied = copied_parts(alloc, &machine, policy, &guard, mem.table_bytes())?;
+    let copied = copied_parts(alloc, &machine, policy, mem.table_bytes())?;
     let CopiedParts {
         entries,
         seats,

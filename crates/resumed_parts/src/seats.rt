@@ -1,8 +1,8 @@
 // The harts of a machine that goes on, each on its side. A hart comes to its side as every hart does, and in an entry by that
 // entry's address.
 
-ghost use Rattle.std.specs.Prelude.{◌≡◌, ◌+◌, ◌*◌, ◌^◌, ◌<◌, IfOk, IfSome, length, map, option_map};
-ghost use Rattle.processor.specs.Bytes.{page_size, ram_place};
+ghost use Rattle.std.specs.Prelude.{◌≡◌, IfOk, IfSome, length, map, option_map};
+ghost use Rattle.processor.specs.Bytes.{ram_place};
 ghost use Rattle.processor.specs.HypervisorRegisters.{IsLegal};
 ghost use Rattle.sv_types.specs.declared.view.View.TheVariants.{Entry};
 ghost use Rattle.machine_model.specs.StandsFor.{host_reservation};
@@ -13,7 +13,7 @@ ghost use Rattle.resumed_parts.specs.Seating.{CanAllSit, CanSit, IsEntered, IsRe
 use csr_file::{Csrs, at_hypervisor_places};
 use hart::{Core, Hart};
 use hart_answers::Seat;
-use page_guard::{Entries, Guard, Side};
+use page_guard::{Entries, Side};
 use processor::{Mode, ram_place};
 use rv64_exec::Regs;
 use saved_machine::SavedHart;
@@ -22,26 +22,23 @@ use std::alloc::{AllocError, Global};
 /// The harts, each on its side, where RAM lies behind so many bytes of tables. Want of memory is the one refusal.
 pub fn seats_of(
     alloc: Global,
-    guard: &Guard,
     entries: &Entries,
     tables: usize,
     harts: &[SavedHart],
 ) -> Result<Vec<Seat>, AllocError>
-    requires each { CanAllSit (length guard.now.pages) entries.now harts.now }
-    requires room { tables + page_size * length guard.now.pages < 2 ^ 63 }
+    requires { CanAllSit tables entries.now harts.now }
     ensures hosts { IfOk result (λ seats. hosts_of seats.items ≡ map (host_resumed tables) harts.now) }
     ensures number { IfOk result (λ seats. length seats.items ≡ length harts.now) }
 {
     let mut seats = Vec::new(alloc);
     'seated: for saved in harts {
-        seats.push(seat_of(guard, entries, tables, saved))?;
+        seats.push(seat_of(entries, tables, saved))?;
     }
     Ok(seats)
 }
 
-fn seat_of(guard: &Guard, entries: &Entries, tables: usize, saved: &SavedHart) -> Seat
-    requires sits { CanSit (length guard.now.pages) entries.now saved.now }
-    requires room { tables + page_size * length guard.now.pages < 2 ^ 63 }
+fn seat_of(entries: &Entries, tables: usize, saved: &SavedHart) -> Seat
+    requires { CanSit tables entries.now saved.now }
     ensures { host_at result ≡ host_resumed tables saved.now }
 {
     let core = Core {
@@ -54,7 +51,7 @@ fn seat_of(guard: &Guard, entries: &Entries, tables: usize, saved: &SavedHart) -
         core,
         started: saved.started,
     };
-    let side = side_of(guard, entries, saved.mode, saved.entry);
+    let side = side_of(entries, saved.mode, saved.entry);
     Seat { hart, side }
 }
 
@@ -93,29 +90,29 @@ fn reserved_place(reservation: Option<u64>, tables: usize) -> Option<u64>
 }
 
 // The side of a hart in a mode, which in kernel mode may be in an entry.
-fn side_of(guard: &Guard, entries: &Entries, mode: Mode, entry: Option<u8>) -> Side
+fn side_of(entries: &Entries, mode: Mode, entry: Option<u8>) -> Side
     requires { MayBeIn entries.now entry }
     ensures { result ≡ view_in mode entry }
 {
-    let mut side = Side::at_boot(guard);
+    let mut side = Side::at_boot();
     match (mode, entry) {
         (Mode::Kernel, None) => {}
-        (Mode::Kernel, Some(place)) => enter(&mut side, guard, entries, place),
-        (Mode::User, _) => side.leave(guard),
+        (Mode::Kernel, Some(place)) => enter(&mut side, entries, place),
+        (Mode::User, _) => side.leave(),
     }
     side
 }
 
 // Enters the kernel from user mode at the address of a bound entry.
-fn enter(side: &mut Side, guard: &Guard, entries: &Entries, place: u8)
+fn enter(side: &mut Side, entries: &Entries, place: u8)
     requires { IsEntered entries.now place }
     ensures { side.new ≡ Entry place }
 {
-    side.leave(guard);
+    side.leave();
     let Some(target) = entries.address(place) else {
         unreachable!();
     };
-    let Ok(()) = side.enter(guard, entries, target) else {
+    let Ok(()) = side.enter(entries, target) else {
         unreachable!();
     };
 }

@@ -3,7 +3,6 @@
 ghost use Rattle.std.specs.Prelude.{◌≡◌, ◌+◌, ◌*◌, ◌≤◌, length, IfOk};
 ghost use Rattle.processor.specs.Bytes.{page_size};
 ghost use Rattle.processor.specs.Regions.{most_ram_pages};
-ghost use Rattle.sv_types.specs.Protections.{is_approved};
 ghost use Rattle.resumed_start.specs.TextPages.{digest_in, text_in};
 
 use page_measure::page_digest;
@@ -26,20 +25,11 @@ pub fn text_pages(
 {
     let mut text = Vec::new(alloc);
     'pages: for page in 0..protections.len() {
-        if is_approved(protections[page]) {
+        if protections[page].is_approved() {
             text.push(digested_page(ram, page))?;
         }
     }
     Ok(text)
-}
-
-fn is_approved(protection: Protection) -> bool
-    ensures { result ≡ is_approved protection }
-{
-    match protection {
-        Protection::Free | Protection::Held => false,
-        Protection::Approved => true,
-    }
 }
 
 #[tactic(auto, using(crate::proofs::TextPages::page_between))]

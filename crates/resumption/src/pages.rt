@@ -58,15 +58,9 @@ fn is_free_at(guard: &[Protection], page: u64) -> bool
     ensures { result ≡ is_free (protection_at guard.now page) }
 {
     match guard.get(page as usize) {
-        Some(protection) => is_free(*protection),
+        Some(protection) => protection.is_free(),
         None => true,
     }
-}
-
-fn is_free(protection: Protection) -> bool
-    ensures { result ≡ is_free protection }
-{
-    matches!(protection, Protection::Free)
 }
 
 // A page past the end has no protection to set.

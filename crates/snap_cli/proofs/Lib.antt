@@ -10,5 +10,4 @@ pub mod FileHolds
 pub mod ReadyLemmas
 pub mod RunLemmas
 pub mod SaveLemmas
-pub mod TextLemmas
 pub mod WordLemmas

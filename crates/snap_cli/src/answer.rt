@@ -23,7 +23,6 @@ ghost use Rattle.snap_cli.specs.SnapWords.{snap_judged, snap_plan, out_of};
 
 use crate::ready::prepare_snap;
 use crate::saving::save_snapshot;
-use crate::text::machine_text;
 use crate::words::{Snap, read_snap};
 use machine::{Machine, run};
 use outside::{Files, Sink, write_all};
@@ -175,7 +174,7 @@ fn run_and_save<F: Files, O: Sink>(
     ensures { (start : State) → IsNew machine.old start → SnapsTo start (first_events events script) name.now machine.new
         (F.state files.old) (F.state files.new) (O.state out.old) (O.state out.new) result }
 {
-    let text = machine_text(alloc, machine)?;
+    let text = machine.text(alloc)?;
     let status = run_and_print(machine, script, events, out)?;
     save_snapshot(alloc, machine, text, name, files)?;
     Ok(status)

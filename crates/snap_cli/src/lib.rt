@@ -6,7 +6,6 @@ mod answer;
 mod laws;
 mod ready;
 mod saving;
-mod text;
 mod words;
 
 pub use answer::secvisor_snap;

@@ -16,10 +16,9 @@ ghost use Rattle.processor.specs.Bytes.{instruction_size};
 use crate::traps::guest_trap;
 use crate::values::loaded_value;
 use devices::Devices;
-use dma_guard::DiskPort;
 use hart_answers::{Seat, Trap, pass, set};
 use journal_records::Journal;
-use page_guard::{Entries, Guard};
+use page_guard::Entries;
 use processor::{Cause, ExitCause};
 
 /// A load: the register that it sets, its virtual address, how it takes the value, and the guest-physical address.
@@ -43,12 +42,11 @@ pub struct Store {
 
 /// A load of a device's register, or the guest's access fault where none is there. It takes all that a trap takes, and the
 /// devices.
-pub fn device_load<D: DiskPort>(
+pub fn device_load(
     hart: u8,
     seat: &mut Seat,
-    guard: &Guard,
     entries: &Entries,
-    devices: &mut Devices<D>,
+    devices: &mut Devices,
     journal: &mut Journal,
     load: Load,
 )
@@ -65,19 +63,18 @@ pub fn device_load<D: DiskPort>(
         }
         None => {
             let fault = access_fault(Cause::LoadAccess, load.address);
-            guest_trap(hart, seat, guard, entries, journal, fault);
+            guest_trap(hart, seat, entries, journal, fault);
         }
     }
 }
 
 /// A store to a device's register, or the guest's access fault where none is there. It takes all that a trap takes, and the
 /// devices.
-pub fn device_store<D: DiskPort>(
+pub fn device_store(
     hart: u8,
     seat: &mut Seat,
-    guard: &Guard,
     entries: &Entries,
-    devices: &mut Devices<D>,
+    devices: &mut Devices,
     journal: &mut Journal,
     store: Store,
 )
@@ -91,7 +88,7 @@ pub fn device_store<D: DiskPort>(
         journal.count_retired();
     } else {
         let fault = access_fault(Cause::StoreAccess, store.address);
-        guest_trap(hart, seat, guard, entries, journal, fault);
+        guest_trap(hart, seat, entries, journal, fault);
     }
 }
 

@@ -14,7 +14,7 @@ ghost use Rattle.processor.specs.Bytes.{instruction_size};
 
 use hart_answers::{Seat, Trap, demote, return_from_trap, send_again, take_trap};
 use journal_records::Journal;
-use page_guard::{Entries, Guard};
+use page_guard::Entries;
 use sv_types::Rule;
 
 /// A trap of the guest: it comes to its handler, or, from user mode to a target that isn't permitted, the machine stops.
@@ -22,7 +22,6 @@ use sv_types::Rule;
 pub fn guest_trap(
     hart: u8,
     seat: &mut Seat,
-    guard: &Guard,
     entries: &Entries,
     journal: &mut Journal,
     trap: Trap,
@@ -32,7 +31,7 @@ pub fn guest_trap(
     ensures machine { (m : Machine) → m.rules.entries ≡ entries.now.entries → m.rules.bound ≡ entries.now.bound → with_hart m hart (host_at seat.new) journal.new ≡ host_trap (with_hart m hart (host_at seat.old) journal.old) hart (host_at seat.old) (mode_of seat.old.side) (is_interrupt trap.cause) (guest_number trap.cause) trap.tval }
 {
     let from = seat.side.mode();
-    match take_trap(&mut seat.hart, &mut seat.side, guard, entries, trap) {
+    match take_trap(&mut seat.hart, &mut seat.side, entries, trap) {
         Ok(()) => journal.count_trap(from),
         Err(forbidden) => journal.stop(
             hart,
@@ -45,31 +44,31 @@ pub fn guest_trap(
 
 /// The guest's return from its trap.
 #[tactic(auto, using(crate::proofs::Places::update_there))]
-pub fn guest_return(seat: &mut Seat, guard: &Guard, journal: &mut Journal)
+pub fn guest_return(seat: &mut Seat, journal: &mut Journal)
     requires kernel { mode_of seat.old.side ≡ Kernel }
     requires counts { MayCount journal.old.counts }
     ensures machine { (m : Machine) (h : ℕ) → with_hart m h (host_at seat.new) journal.new ≡ host_return (with_hart m h (host_at seat.old) journal.old) h (host_at seat.old) }
 {
-    return_from_trap(&mut seat.hart, &mut seat.side, guard);
+    return_from_trap(&mut seat.hart, &mut seat.side);
     journal.count_return(seat.side.mode());
 }
 
 /// Kernel mode is left, with a note.
 #[tactic(auto, using(crate::proofs::Places::update_there))]
-pub fn guest_demotion(hart: u8, seat: &mut Seat, guard: &Guard, journal: &mut Journal, gpa: u64)
+pub fn guest_demotion(hart: u8, seat: &mut Seat, journal: &mut Journal, gpa: u64)
     requires counts { MayCount journal.old.counts }
     ensures machine { (m : Machine) → with_hart m hart (host_at seat.new) journal.new ≡ host_demote (with_hart m hart (host_at seat.old) journal.old) hart (host_at seat.old) gpa }
 {
     journal.demote(hart, seat.hart.core.pc, gpa);
-    demote(&mut seat.hart, &mut seat.side, guard);
+    demote(&mut seat.hart, &mut seat.side);
 }
 
 /// The entry is left, and nothing else changes, so that the hart attempts the same turn again.
 #[tactic(auto, using(crate::proofs::Places::update_there))]
-pub fn leave_entry(seat: &mut Seat, guard: &Guard)
+pub fn leave_entry(seat: &mut Seat)
     ensures machine { (m : Machine) (h : ℕ) (journal : Records) → with_hart m h (host_at seat.new) journal ≡ with_host (with_hart m h (host_at seat.old) journal) h host_outside }
 {
-    send_again(&mut seat.side, guard);
+    send_again(&mut seat.side);
 }
 
 /// The machine stops, since a hart was to write a protected page.

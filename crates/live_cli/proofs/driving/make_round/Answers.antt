@@ -1,9 +1,12 @@
-use Rattle.std.proofs.Common.{rules}
+use Rattle.std.proofs.Common.{◌∙◌, rules}
 use Rattle.live_cli.proofs.MadeEvents.{on_breaks, may_write, driven_then, stays_then, drives_then, drives_off}
 use Rattle.live_cli.proofs.driving.make_round.Goals as goal
 
 pub make_auto-requires-clause-sink : goal.make_auto-requires-clause-sink
 make_auto-requires-clause-sink g c = may_write c.in_ok-make_keys.ensures.drives.on.went c.requires.may.sink
+
+pub make_auto-requires-clause-running : goal.make_auto-requires-clause-running
+make_auto-requires-clause-running g c = c.make_keys.ensures.verdict ∙ c.requires.running
 
 pub returns-in_err-make_keys-clause-drives : goal.returns-in_err-make_keys-clause-drives
 returns-in_err-make_keys-clause-drives g c =

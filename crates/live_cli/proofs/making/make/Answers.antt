@@ -1,13 +1,12 @@
-use Rattle.std.proofs.Common.{◌+◌, ◌∷◌, ◌++◌, [], sym, ◌∙◌, ap, subst}
+use Rattle.std.proofs.Common.{◌+◌, ◌∷◌, ◌++◌, [], sym, ◌∙◌, subst}
 use Rattle.reference.specs.Run.{step}
 use Rattle.machine_model.specs.Machine.{Machine}
 use Rattle.machine.specs.Standing.{HasState}
-use Rattle.machine.proofs.Standing.{event_stays}
 use Rattle.machine.proofs.ConsoleLemmas.{room_after}
 use Rattle.machine.proofs.Repeated.{step_counts}
 use Rattle.machine.specs.Repeats.{Makes}
 use Rattle.live_cli.specs.Drives.{Breaks}
-use Rattle.live_cli.proofs.MadeEvents.{made_one, broken_one, cleared_state, cleared_counts, cleared_verdict, ok_map, err_both}
+use Rattle.live_cli.proofs.MadeEvents.{made_one, broken_one, cleared_state, cleared_counts, cleared_verdict, key_verdict, ok_both, err_both}
 use Rattle.live_cli.proofs.making.make.Goals as goal
 
 pub flush_due-requires-clause-room : goal.flush_due-requires-clause-room
@@ -18,7 +17,7 @@ flush_due-requires-clause-room g c =
 pub returns-clause-on : goal.returns-clause-on
 returns-clause-on g c =
     let steps : Makes c.args.machine.now c.args.event c.step.new.self = record { stands = c.step.ensures.stands; event = c.step.ensures.event } in
-    ok_map c.flush_due.result _ _ (λ f made. made_one _ _ _ _ _ _ steps f made) c.flush_due.ensures.flushed
+    ok_both c.flush_due.result _ _ _ (λ f rest made. made_one _ _ _ _ _ _ c.requires.came rest steps f made) c.flush_due.ensures.flushed c.flush_due.ensures.rest
 
 pub returns-clause-broke : goal.returns-clause-broke
 returns-clause-broke g c =
@@ -26,7 +25,7 @@ returns-clause-broke g c =
     err_both c.flush_due.result _ _ _
     (λ same off made.
     subst (λ (m : Machine). Breaks made (made ++ c.args.event ∷ []) c.args.machine.now m (g.O.Sink.state c.args.out.now) (g.O.Sink.state c.flush_due.new.out)) (sym same)
-    (broken_one _ _ _ _ _ steps off made))
+    (broken_one _ _ _ _ _ c.requires.came steps off made))
     c.flush_due.ensures.machine c.flush_due.ensures.failed
 
 pub returns-clause-state : goal.returns-clause-state
@@ -41,7 +40,7 @@ returns-clause-counts g c = λ n counts.
     cleared_counts (n + 1) c.step.new.self c.flush_due.new.machine
     (step_counts n c.args.machine.now c.step.new.self has.state c.args.event has.stands (c.step.ensures.stands has.state has.stands) counts) c.flush_due.ensures.cleared
 
-pub returns-clause-ended : goal.returns-clause-ended
-returns-clause-ended g c = λ ended is.
-    let stays = event_stays c.args.machine.now c.args.event c.step.new.self ended c.step.ensures.event in
-    ended (sym (cleared_verdict c.step.new.self c.flush_due.new.machine c.flush_due.ensures.cleared ∙ ap (λ (m : Machine). m.journal.verdict) stays) ∙ is)
+pub returns-clause-key : goal.returns-clause-key
+returns-clause-key g c = λ is.
+    cleared_verdict c.step.new.self c.flush_due.new.machine c.flush_due.ensures.cleared
+    ∙ key_verdict c.args.machine.now c.args.event c.step.new.self is c.step.ensures.event

@@ -1,4 +1,6 @@
-use Rattle.std.proofs.Common.{refl, sym, ◌∙◌, arith}
+use Rattle.std.proofs.Common.{refl, sym, ◌∙◌, arith, subst}
+use Rattle.sv_types.specs.declared.event.Verdict.{Verdict}
+use Rattle.live_cli.specs.Coming.{MayCome}
 use Rattle.live_cli.specs.LiveRuns.{harts_of, events_made}
 use Rattle.live_cli.proofs.DrawnEvents.{drawn_is, drawn_more, same_harts}
 use Rattle.live_cli.proofs.MadeEvents.{on_to, breaks_to, ok_both, err_map, may_step, auto_counted, auto_made}
@@ -6,6 +8,9 @@ use Rattle.live_cli.proofs.making.make_auto.Goals as goal
 
 pub make-requires-clause-may : goal.make-requires-clause-may
 make-requires-clause-may g c = may_step c.args.live.now c.requires.on.way c.requires.on.room (omega arith)
+
+pub make-requires-clause-came : goal.make-requires-clause-came
+make-requires-clause-came g c = subst (λ (v : Verdict). MayCome v c.in-Some.event) (sym c.requires.running) tt
 
 pub returns-clause-drives : goal.returns-clause-drives
 returns-clause-drives g c =

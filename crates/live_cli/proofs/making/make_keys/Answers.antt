@@ -11,7 +11,7 @@ keys-init g c = record {
   stays = record { way = c.requires.may.on.way; line = refl; all = refl; harts = refl; events = refl };
   script = refl;
   autos = refl;
-  ended = λ ended. ended;
+  verdict = refl;
 }
 
 pub make_key-requires-clause-sink : goal.make_key-requires-clause-sink
@@ -47,7 +47,7 @@ keys-preserved g c =
       };
       script = c.keys.invariant.script;
       autos = c.make_key.ensures.autos ∙ c.keys.invariant.autos;
-      ended = λ ended. c.make_key.ensures.ended (c.keys.invariant.ended ended);
+      verdict = c.make_key.ensures.verdict ∙ c.keys.invariant.verdict;
     }
 
 pub returns-in_err-make_key-clause-drives : goal.returns-in_err-make_key-clause-drives

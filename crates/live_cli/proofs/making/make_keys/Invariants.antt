@@ -1,5 +1,4 @@
-use Rattle.std.proofs.Common.{◌≡◌, ◌≢◌, ◌-◌, length}
-use Rattle.sv_types.specs.declared.event.Verdict.TheVariants.{Running}
+use Rattle.std.proofs.Common.{◌≡◌, ◌-◌, length}
 use Rattle.live_keys.specs.Line.{most_keys}
 use Rattle.live_cli.specs.Drives.{Driven, StaysUnderWay}
 use Rattle.live_cli.proofs.making.make_keys.Given as goal
@@ -10,7 +9,7 @@ invariant-keys g l = record {
   stays : StaysUnderWay l.initial.live l.live;
   script : l.live.script ≡ l.initial.live.script;
   autos : l.live.journal.autos ≡ l.initial.live.journal.autos;
-  ended : l.initial.live.machine.journal.verdict ≢ Running → l.live.machine.journal.verdict ≢ Running;
+  verdict : l.live.machine.journal.verdict ≡ l.initial.live.machine.journal.verdict;
 }
 
 abbrev pub decreases-keys : goal.decreases-keys

@@ -15,5 +15,5 @@ returns-in_err-write_all-clause-cleared g c = cleared_none c.args.machine.now
 
 pub returns-clause-on : goal.returns-clause-on
 returns-clause-on g c = λ made.
-    shown c.args.machine.now c.clear_printed.new.self _ _
+    shown c.args.machine.now c.clear_printed.new.self _ _ c.clear_printed.ensures.printed
     (flushed_all c.args.machine.now c.clear_printed.new.self _ _ _ c.clear_printed.ensures.cleared c.clear_printed.ensures.printed c.printed.ensures c.in_ok-write_all.ensures.whole) made

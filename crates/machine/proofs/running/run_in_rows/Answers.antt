@@ -68,7 +68,7 @@ returns-in_err-flush_due-clause-some g c =
     let room = room_again c.repeat-made.result c.events.machine c.repeat-made.new.self c.in-Some.row.event c.events.invariant.has c.repeat-made.ensures.chain c.events.invariant.room in
     let broke : RunBrokeFromStart c.args.machine.now (first_events c.args.events (g.S.EventSource.schedule c.args.source)) c.flush_due.new.machine (g.O.Sink.state c.args.out.now) (g.O.Sink.state c.flush_due.new.out) =
     λ start new. runs_broke c.repeat-made.result _ start _ (events_left g.S.EventSource.schedule c.events.drawing) (events_left g.S.EventSource.schedule c.count_down.new.self) c.events.machine c.repeat-made.new.self c.flush_due.new.machine
-    c.in-Some.row.event _ _ _ (c.events.invariant.on start new) parts c.repeat-made.ensures.chain
+    c.in-Some.row.event _ _ _ c.repeat-made.ensures.some c.events.invariant.rest (c.events.invariant.on start new) parts c.repeat-made.ensures.chain
     c.in_err-flush_due.ensures.machine room c.in_err-flush_due.ensures.due c.in_err-flush_due.ensures.failed in
     on_err _ _ broke
 

@@ -57,7 +57,7 @@ returns-in_err-flush_due-clause-some g c =
     let room = room_again c.repeat.result c.events.machine c.repeat.new.self c.in-Some.one.event c.events.invariant.has c.repeat.ensures.chain c.events.invariant.room in
     let broke : RunBrokeFromStart c.args.machine.now (first_events c.args.events (g.S.EventSource.schedule c.args.source)) c.flush_due.new.machine (g.O.Sink.state c.args.out.now) (g.O.Sink.state c.flush_due.new.out) =
     λ start new. runs_broke c.repeat.result _ start _ (first_events c.events.left before) (first_events (c.events.left - 1) behind) c.events.machine c.repeat.new.self c.flush_due.new.machine
-    c.in-Some.one.event _ _ _ (c.events.invariant.on start new) parts c.repeat.ensures.chain
+    c.in-Some.one.event _ _ _ c.repeat.ensures.some c.events.invariant.rest (c.events.invariant.on start new) parts c.repeat.ensures.chain
     c.in_err-flush_due.ensures.machine room c.in_err-flush_due.ensures.due c.in_err-flush_due.ensures.failed in
     on_err _ _ broke
 

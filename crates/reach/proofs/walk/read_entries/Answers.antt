@@ -2,14 +2,14 @@ use Rattle.std.proofs.Common.{◌≡◌, ◌+◌, ◌-◌, ◌*◌, ◌%◌, ◌
 use Rattle.gstage_cache.specs.Fills.{filled_further}
 use Rattle.reach.specs.declared.entries.Entries.{Entries}
 use Rattle.reach.specs.Kept.{Above, IsThere, IsPlace, EndsAt}
-use Rattle.reach.proofs.Levels.{GoOn, with_more, with_all, goes_on, ends_there}
+use Rattle.reach.proofs.Levels.{GoOn, with_more, with_all, goes_on, ends_there, nowhere_over, nowhere_unread}
 use Rattle.reach.proofs.walk.read_entries.Goals as goal
 
 pub returns-then-not-is_pointer-clause-ends : goal.returns-then-not-is_pointer-clause-ends
 returns-then-not-is_pointer-clause-ends c =
     let more : c.levels.below ≡ suc (c.levels.below - 1) = omega arith in
     let few : c.levels.below - 1 < 3 = omega arith in
-    subst (λ (e : Entries). EndsAt c.args.mem.now.tables c.args.hgatp c.args.root c.args.va e) (sym c.with_entry-entries.ensures)
+    subst (λ (e : Entries). EndsAt c.args.mem.now.tables c.args.hgatp c.args.root c.args.va e (c.levels.below - 1) c.in-Some.seen.word) (sym c.with_entry-entries.ensures)
     (ends_there c.args.mem.now.tables c.args.hgatp c.args.root c.args.va c.levels.below (c.levels.below - 1) c.levels.table c.index.result c.levels.entries c.in-Some.seen
     more few c.index.ensures.value c.in-Some.ensures.leads (sym c.is_pointer.ensures ∙ c.if-not-is_pointer.true) c.levels.invariant.same)
 
@@ -52,3 +52,13 @@ levels-preserved c =
         filled = filled_further c.args.mem.now.tables c.args.hgatp c.args.cache.now c.levels.cache c.read_entry.new.cache c.levels.invariant.walked.filled c.in-Some.ensures.walked.filled;
       };
     }
+
+pub returns-in_default-clause-nowhere : goal.returns-in_default-clause-nowhere
+returns-in_default-clause-nowhere c = λ none.
+    let more : c.levels.below ≡ suc (c.levels.below - 1) = omega arith in
+    nowhere_unread c.args.mem.now c.args.hgatp c.args.root c.args.va c.levels.below (c.levels.below - 1) c.levels.table c.index.result c.levels.entries more c.index.ensures.value
+    (c.read_entry.ensures.missing c.in_default.is) c.levels.invariant.there c.levels.invariant.same
+
+pub returns-clause-nowhere : goal.returns-clause-nowhere
+returns-clause-nowhere c = λ none.
+    nowhere_over c.args.mem.now c.args.hgatp c.args.root c.args.va c.levels.below c.levels.table c.levels.entries (omega arith) c.levels.invariant.there c.levels.invariant.same

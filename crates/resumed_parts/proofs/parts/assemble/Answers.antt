@@ -1,4 +1,4 @@
-use Rattle.std.proofs.Common.{◌≡◌, ◌∙◌, ◌≤◌, ℕ, List, ap, length, map, subst, sym, true}
+use Rattle.std.proofs.Common.{◌≡◌, ◌∙◌, ◌≤◌, ℕ, List, ap, arith, length, map, subst, sym, true}
 use Rattle.std.specs.Prelude.{option_map}
 use Rattle.sv_types.specs.Limits.{most_harts}
 use Rattle.sv_types.specs.Policies.{rules_of}
@@ -9,7 +9,6 @@ use Rattle.snapshot_form.specs.Snapshots.{contents}
 use Rattle.module_gate.specs.Gates.{Records}
 use Rattle.resumption.specs.ResumedStates.{resumed_state}
 use Rattle.resumed_start.specs.Resuming.{host_resumed, load_resumed}
-use Rattle.resumed_parts.specs.Seating.{CanAllSit}
 use Rattle.resumed_parts.proofs.Accepted.{known}
 use Rattle.resumed_parts.proofs.Approved.{guard_is, load_free}
 use Rattle.resumed_parts.proofs.Assembled.{devices_by, permitted_of, pages_guarded, tables_stay}
@@ -20,7 +19,10 @@ copied_parts-requires-clause-each c =
     let rules = rules_of c.args.policy.now in
     let s = contents c.args.snapshot in
     let k = known rules s c.requires.within c.requires.form c.requires.accepted in
-    subst (λ (n : ℕ). CanAllSit n (permitted_of rules.entries rules.bound) s.harts) (sym (pages_guarded rules s c.args.guard.pages c.requires.guard)) k.sits
+    let small = c.table_bytes.ensures.region.small in
+    let size = ap length c.requires.ram ∙ k.ram in
+    let tables = c.table_bytes.ensures.value in
+    k.sits c.table_bytes.result (omega (arith, small, size, tables))
 
 pub copied_parts-requires-clause-notes : goal.copied_parts-requires-clause-notes
 copied_parts-requires-clause-notes c = (known (rules_of c.args.policy.now) (contents c.args.snapshot) c.requires.within c.requires.form c.requires.accepted).notes

@@ -25,16 +25,15 @@ new-requires-clause-few c =
     let bound = ap length c.deref-2.ensures.value in
     omega (arith, few, bound)
 
-pub seats_of-requires-clause-each : goal.seats_of-requires-clause-each
-seats_of-requires-clause-each c =
+pub seats_of-requires : goal.seats_of-requires
+seats_of-requires c =
     let rules = rules_of c.args.policy.now in
-    let pages = length c.args.guard.now.pages in
     let entries : c.in_ok-entries.entries ≡ permitted_of rules.entries rules.bound =
     c.in_ok-entries.ensures
     ∙ ap (λ (xs : List ℕ). permitted_of xs c.deref-2.result.now) c.deref.ensures.value
     ∙ ap (permitted_of rules.entries) c.deref-2.ensures.value in
-    subst (λ (hs : List SavedHart). CanAllSit pages c.in_ok-entries.entries hs) (sym c.deref-3.ensures.value)
-    (subst (λ (e : Permitted). CanAllSit pages e c.args.machine.now.harts.items) (sym entries) c.requires.each)
+    subst (λ (hs : List SavedHart). CanAllSit c.args.tables c.in_ok-entries.entries hs) (sym c.deref-3.ensures.value)
+    (subst (λ (e : Permitted). CanAllSit c.args.tables e c.args.machine.now.harts.items) (sym entries) c.requires.each)
 
 pub from_values-requires : goal.from_values-requires
 from_values-requires c = record { few = subst (λ (notes : List Note). length notes ≤ most_notes) (sym c.deref-4.ensures.value) c.requires.notes }

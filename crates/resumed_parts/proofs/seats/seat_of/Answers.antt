@@ -1,18 +1,17 @@
-use Rattle.std.proofs.Common.{length}
 use Rattle.resumed_parts.proofs.Seated.{hart_ranges, reservable, seat_is}
 use Rattle.resumed_parts.proofs.seats.seat_of.Goals as goal
 
 pub from_values-requires : goal.from_values-requires
-from_values-requires c = record { zero = (hart_ranges (length c.args.guard.now.pages) c.args.saved.now c.requires.sits.form).zero }
+from_values-requires c = record { zero = (hart_ranges c.requires.ram_pages c.args.saved.now c.requires.form).zero }
 
 pub csrs_of-requires : goal.csrs_of-requires
-csrs_of-requires c = (hart_ranges (length c.args.guard.now.pages) c.args.saved.now c.requires.sits.form).legal
+csrs_of-requires c = (hart_ranges c.requires.ram_pages c.args.saved.now c.requires.form).legal
 
 pub reserved_place-requires : goal.reserved_place-requires
 reserved_place-requires c =
-    reservable c.args.tables (length c.args.guard.now.pages) c.args.saved.now (hart_ranges (length c.args.guard.now.pages) c.args.saved.now c.requires.sits.form) c.requires.room
+    reservable c.args.tables c.requires.ram_pages c.args.saved.now (hart_ranges c.requires.ram_pages c.args.saved.now c.requires.form) c.requires.room
 
 pub returns : goal.returns
 returns c =
     seat_is c.args.tables c.args.saved.now c.from_values.result c.csrs_of.result c.reserved_place.result c.side_of-side.result c.from_values.ensures c.csrs_of.ensures c.reserved_place.ensures
-    c.side_of-side.ensures (hart_ranges (length c.args.guard.now.pages) c.args.saved.now c.requires.sits.form).user
+    c.side_of-side.ensures (hart_ranges c.requires.ram_pages c.args.saved.now c.requires.form).user

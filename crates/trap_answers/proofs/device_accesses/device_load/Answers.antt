@@ -6,7 +6,7 @@ use Rattle.trap_answers.proofs.DeviceAnswers.{loaded_there, not_loaded}
 use Rattle.trap_answers.proofs.device_accesses.device_load.Goals as goal
 
 pub returns-in-Some : goal.returns-in-Some
-returns-in-Some g c = record {
+returns-in-Some c = record {
   machine = λ m same bound.
       rw (c.set.ensures.hart c.args.seat.now.side, c.count_retired.ensures, c.loaded_value-value.ensures, c.load.ensures.devices)
       (loaded_there m c.args.hart (host_at c.args.seat.now) (mode_of c.args.seat.now.side) c.args.load.rd c.args.load.address
@@ -16,7 +16,7 @@ returns-in-Some g c = record {
 }
 
 pub returns-in-None : goal.returns-in-None
-returns-in-None g c = record {
+returns-in-None c = record {
   machine = λ m same bound.
       c.guest_trap.ensures.machine (record m { devices = c.load.new.self }) same bound
       ∙ rw (c.access_fault-fault.ensures, c.load.ensures.devices)

@@ -6,7 +6,7 @@ use Rattle.trap_answers.proofs.DeviceAnswers.{stored_there, not_stored}
 use Rattle.trap_answers.proofs.device_accesses.device_store.Goals as goal
 
 pub returns-then-store : goal.returns-then-store
-returns-then-store g c = record {
+returns-then-store c = record {
   machine = λ m same bound.
       rw (c.pass.ensures.hart c.args.seat.now.side, c.count_retired.ensures, c.store.ensures.devices, c.store.ensures.journal)
       (stored_there m c.args.hart (host_at c.args.seat.now) (mode_of c.args.seat.now.side) c.args.store.address
@@ -16,7 +16,7 @@ returns-then-store g c = record {
 }
 
 pub returns-else-store : goal.returns-else-store
-returns-else-store g c = record {
+returns-else-store c = record {
   machine = λ m same bound.
       c.guest_trap.ensures.machine (record m { devices = c.store.new.self }) same bound
       ∙ rw (c.access_fault-fault.ensures, c.store.ensures.devices, c.store.ensures.journal)

@@ -44,4 +44,4 @@ end_then autos events now old mid new (inr ended) same keeps verdict = inr (λ i
 pub returns-clause-end : goal.returns-clause-end
 returns-clause-end g c =
     on_ok c.show_console.result _
-    (end_then _ _ _ _ _ _ c.in_ok-make_autos.ensures.end c.make_keys.ensures.autos c.make_keys.ensures.ended (cleared_verdict _ _ c.show_console.ensures.cleared))
+    (end_then _ _ _ _ _ _ c.in_ok-make_autos.ensures.end c.make_keys.ensures.autos (λ ended is. ended (sym c.make_keys.ensures.verdict ∙ is)) (cleared_verdict _ _ c.show_console.ensures.cleared))

@@ -1,10 +1,11 @@
-use Rattle.std.proofs.Common.{◌+◌, ◌-◌, ℕ, arith, rules, subst, sym}
+use Rattle.std.proofs.Common.{◌+◌, ◌-◌, ◌∙◌, ℕ, arith, rules, subst, sym}
 use Rattle.reference.specs.Counting.{CountsAtMost}
 use Rattle.sv_types.specs.declared.event.Event.TheVariants.{Turn}
 use Rattle.quick_turns.specs.Ends.{turns_of}
 use Rattle.machine.specs.Limits.{most_counts}
 use Rattle.machine.specs.Repeats.{Repeats}
 use Rattle.machine.proofs.Repeated.{counts_more, counts_within, repeats_more}
+use Rattle.machine.proofs.Behind.{stays_there}
 use Rattle.machine.proofs.machine.Machine.hart_turns.Goals as goal
 
 pub returns-then-made-most : goal.returns-then-made-most
@@ -26,7 +27,8 @@ pub returns : goal.returns
 returns c = record {
   chain = repeats_more c.turns-made.result c.args.self.now c.row-row.new.self c.make.new.self (Turn c.args.hart)
       (subst (λ (made : ℕ). Repeats made c.args.self.now (Turn c.args.hart) c.row-row.new.self) (sym c.turns-made.ensures) c.row-row.ensures.chain)
-      c.row-row.ensures.quiet c.make.ensures.makes;
+      (record { quiet = c.row-row.ensures.quiet; running = c.row-row.ensures.running (stays_there c.row-row.result.left (sym c.is_left.ensures ∙ c.if-is_left.false)) })
+      c.make.ensures.makes;
   counts = counts_more c.turns-made.result c.args.self.now.journal.counts c.row-row.new.self.journal.counts c.make.new.self.journal.counts
       (subst (λ (made : ℕ). (n : ℕ) → CountsAtMost n c.args.self.now.journal.counts → CountsAtMost (n + made) c.row-row.new.self.journal.counts)
       (sym c.turns-made.ensures) c.row-row.ensures.counts)

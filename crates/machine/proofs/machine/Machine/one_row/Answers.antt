@@ -3,7 +3,7 @@ use Rattle.sv_types.specs.declared.event.Event.TheVariants.{Turn}
 use Rattle.reference.specs.Counting.{CountsAtMost}
 use Rattle.machine_model.specs.Machine.{Machine}
 use Rattle.quick_turns.specs.Ends.{turns_of}
-use Rattle.machine.proofs.Behind.{Begins, behind_bounded, behind_counts, ends_rowed, in_kernel, may_count, may_trap}
+use Rattle.machine.proofs.Behind.{Begins, behind_counts, ends_rowed, ends_running, in_kernel, may_count, may_trap}
 use Rattle.machine.proofs.Ready.{ready_at}
 use Rattle.machine.proofs.Reservations.{free_where, leaving_free}
 use Rattle.machine.proofs.Rows.{Rowed}
@@ -64,26 +64,6 @@ answer_leaving-requires-clause-turns c =
     c.row-row.ensures.most counts in
     let turns = behind.turns in omega (arith, turns)
 
-pub answer_leaving-requires-clause-attempts : goal.answer_leaving-requires-clause-attempts
-answer_leaving-requires-clause-attempts c =
-    let may : MayRow c.self.inside.parts c.args.hart = subst (λ (m : Machine). MayRow m c.args.hart) (sym c.self.view_is) c.requires.may in
-    let begins : Begins c.self.inside.parts c.args.hart = record {
-      state = c.self.invariant.state;
-      may = may;
-      stands = c.self.invariant.stands;
-      addresses = c.self.invariant.addresses;
-      bounded = record { attempts = c.self.invariant.attempts; printed = c.self.invariant.printed };
-    } in
-    let counts : CountsAtMost (most_counts - c.args.most) c.self.inside.parts.journal.counts =
-    subst (λ (m : Machine). CountsAtMost (most_counts - c.args.most) m.journal.counts) (sym c.self.view_is) c.requires.counts in
-    let behind : CountsAtMost most_counts c.row-row.new.self.journal.counts =
-    behind_counts c.row-row.result.left c.row-row.result.made c.args.most c.self.inside.parts c.row-row.new.self c.args.hart begins c.row-row.ensures.ends c.requires.few
-    c.row-row.ensures.most counts in
-    let turns = behind.turns in
-    let bounded = behind_bounded c.row-row.result.left c.row-row.result.made c.self.inside.parts c.row-row.new.self c.args.hart begins c.row-row.ensures.ends in
-    let two = bounded.attempts in
-    omega (arith, turns, two)
-
 pub invariant_of-self : goal.invariant_of-self
 invariant_of-self c =
     let may : MayRow c.self.inside.parts c.args.hart = subst (λ (m : Machine). MayRow m c.args.hart) (sym c.self.view_is) c.requires.may in
@@ -124,10 +104,12 @@ returns c =
     let rowed : Rowed (turns_of c.row-row.result) c.self.inside.parts c.args.hart c.answer_leaving.new.self =
     ends_rowed c.row-row.result.left c.row-row.result.made c.self.inside.parts c.row-row.new.self c.answer_leaving.new.self c.args.hart begins c.row-row.ensures.ends
     c.answer_leaving.ensures in
-    let made : MadeInRow (turns_of c.row-row.result) c.args.most c.self.inside.parts (Turn c.args.hart) c.answer_leaving.new.self = record {
+    let made : MadeInRow c.row-row.result.left (turns_of c.row-row.result) c.args.most c.self.inside.parts (Turn c.args.hart) c.answer_leaving.new.self = record {
       chain = rowed.chain;
       quiet = rowed.quiet;
+      running = ends_running c.row-row.result.left c.row-row.result.made c.self.inside.parts c.row-row.new.self c.answer_leaving.new.self c.args.hart c.row-row.ensures.ends
+          c.answer_leaving.ensures;
       counts = rowed.counts;
       most = c.row-row.ensures.most;
     } in
-    subst (λ (m : Machine). MadeInRow (turns_of c.row-row.result) c.args.most m (Turn c.args.hart) c.answer_leaving.new.self) c.self.view_is made
+    subst (λ (m : Machine). MadeInRow c.row-row.result.left (turns_of c.row-row.result) c.args.most m (Turn c.args.hart) c.answer_leaving.new.self) c.self.view_is made

@@ -1,4 +1,5 @@
 use Rattle.std.proofs.Common.{◌≡◌, ◌≤◌, ◌+◌, ◌-◌, ℕ, length}
+use Rattle.sv_types.specs.declared.event.Verdict.TheVariants.{Running}
 use Rattle.reference.specs.Counting.{CountsAtMost}
 use Rattle.machine.specs.Repeats.{Repeats}
 use Rattle.machine.proofs.machine.Machine.rounds.Given as goal
@@ -7,6 +8,7 @@ abbrev pub invariant-events : goal.invariant-events
 invariant-events l = record {
   chain : Repeats l.made l.initial.self l.event l.self;
   quiet : length l.self.journal.printed ≡ length l.initial.self.journal.printed;
+  running : l.initial.self.journal.verdict ≡ Running → l.self.journal.verdict ≡ Running;
   few : l.made ≤ l.count;
   counts : (n : ℕ) → CountsAtMost n l.initial.self.journal.counts → CountsAtMost (n + l.made) l.self.journal.counts;
 }

@@ -7,4 +7,4 @@ use Rattle.machine.proofs.machine.Machine.row.Goals as goal
 
 pub returns-then-may_row : goal.returns-then-may_row
 returns-then-may_row c =
-    subst (λ (m : Machine). MadeInRow (turns_of c.one_row.result) c.args.most m (Turn c.args.hart) c.one_row.new.self) c.may_row.ensures.same c.one_row.ensures
+    subst (λ (m : Machine). MadeInRow c.one_row.result.left (turns_of c.one_row.result) c.args.most m (Turn c.args.hart) c.one_row.new.self) c.may_row.ensures.same c.one_row.ensures

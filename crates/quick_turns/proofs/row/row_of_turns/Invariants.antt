@@ -3,7 +3,7 @@ use Rattle.hart.specs.Cores.{core_of}
 use Rattle.quick_turns.specs.Quick.{GoesOn, Leads, SameCourse}
 use Rattle.quick_turns.proofs.Going.{Row}
 use Rattle.reach.specs.Kept.{ReachAgrees}
-use Rattle.quick_turns.proofs.row.quick_turns.Given as goal
+use Rattle.quick_turns.proofs.row.row_of_turns.Given as goal
 
 abbrev pub invariant-turns : goal.invariant-turns
 invariant-turns l = record {

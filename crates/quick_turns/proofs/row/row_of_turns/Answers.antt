@@ -5,7 +5,7 @@ use Rattle.quick_turns.specs.declared.window.Window.{Window}
 use Rattle.quick_turns.proofs.Exits.{ends_left, ends_there, goes_left, leaving_within, stopped_course}
 use Rattle.quick_turns.proofs.Going.{course_further, course_kept, course_stays, goes_further, goes_nowhere, row_more, row_starts, row_stays}
 use Rattle.quick_turns.proofs.Windows.{no_window}
-use Rattle.quick_turns.proofs.row.quick_turns.Goals as goal
+use Rattle.quick_turns.proofs.row.row_of_turns.Goals as goal
 
 pub turns-init : goal.turns-init
 turns-init c = record {
