@@ -161,7 +161,8 @@ def starts(law):
             for word in words.split(','):
                 given, _, other = word.strip().partition(' as ')
                 uses[other or given] = (module, given)
-        for function, contract in re.findall(r'^pub fn (\w+)[^{]*?\([^{]*?\n((?:    (?:requires|ensures|ghost).*\n|        .*\n|        .*\n)+)', text, re.M):
+        for function, contract in re.findall(r'^pub fn (\w+)(.*?)^\{', text, re.M | re.S):
+            contract = re.sub(r'//.*', '', contract)
             if name and function != name or not name and not function.startswith(('law_', 'secvisor')):
                 continue
             for word in set(WORD.findall(contract)) & set(uses):

@@ -1,5 +1,5 @@
 -- Each state that a run of the program comes through is reached.
-use Rattle.std.proofs.Common.{◌≡◌, ℕ, inl, inr, List, true, sym, subst}
+use Rattle.std.proofs.Common.{◌≡◌, ℕ, inl, inr, List, true, subst}
 use Rattle.processor.specs.Bytes.{page_bytes}
 use Rattle.sv_types.specs.declared.event.Event.{Event}
 use Rattle.reference.specs.Origins.{is_kernel_text, ownership}

@@ -1,5 +1,5 @@
 -- What the program printed and saved is that of a guarded run.
-use Rattle.std.proofs.Common.{◌≡◌, ◌⊎◌, ℕ, inl, inr, List, refl, sym, ◌∙◌, ap, subst, Bool, true, false}
+use Rattle.std.proofs.Common.{◌≡◌, ℕ, inl, inr, List, refl, sym, ◌∙◌, ap, subst, Bool, true, false}
 use Rattle.std.specs.Prelude.{Option, Some, None, Result, Ok, Err, IsErrOf, IsTrue}
 use Rattle.sv_types.specs.Output.{run_status}
 use Rattle.sv_types.specs.declared.event.Event.{Event}
@@ -7,20 +7,19 @@ use Rattle.sv_types.specs.declared.status.Status.{Status}
 use Rattle.reference.specs.Report.{output}
 use Rattle.reference.specs.Run.{run}
 use Rattle.reference.specs.States.{State}
-use Rattle.resumed_start.specs.SnapLaws.{IsSnapshotOf}
-use Rattle.outside.specs.Outside.{FilesState, SinkState, after_taking}
+use Rattle.outside.specs.Outside.{FilesState}
 use Rattle.outside.specs.Endings.{status_of_end}
 use Rattle.outside.specs.declared.trouble.Trouble.{Trouble}
 use Rattle.outside.specs.declared.trouble.Trouble.TheVariants.{Write, Memory}
 use Rattle.command_plans.specs.Refusals.{refusal_line, refusal_status}
-use Rattle.command_plans.specs.Plans.{Due, Refuse, RunFrom, Make, Plan, End, Saving, Exactly, saving_of_bytes, status_due, run_plan}
+use Rattle.command_plans.specs.Plans.{Due, Refuse, RunFrom, Make, Plan, Saving, Exactly}
 use Rattle.command_plans.specs.Reading.{Follows, Saved}
 use Rattle.command_plans.specs.declared.refusal.Refusal.{Refusal}
-use Rattle.secvisor_cli.specs.Answers.{Outside, outside, is_answer, Writes, SavedBehind, WritesAndSaves, MeetsSavesBehind, MeetsReached}
-use Rattle.live_cli.specs.LiveAnswers.{LiveOutside, live_outside, IsScriptOf, SavesScript, after_reading, RunsLive, AnswersLiveReached, LiveHeadline}
+use Rattle.secvisor_cli.specs.Answers.{Outside, outside, is_answer, Writes, WritesAndSaves, MeetsSavesBehind, MeetsReached}
+use Rattle.live_cli.specs.LiveAnswers.{LiveOutside, live_outside, SavesScript, after_reading, AnswersLiveReached}
 use Rattle.live_cli.specs.LiveReady.{out_of}
 use Rattle.live_cli.specs.LiveWords.{LiveWords, live_plan}
-use Rattle.snap_cli.specs.SnapAnswers.{saving_of, SavesSnapshot, SnapsTo, AnswersSnapReached, SnapHeadline}
+use Rattle.snap_cli.specs.SnapAnswers.{saving_of, SavesSnapshot, AnswersSnapReached}
 use Rattle.snap_cli.specs.SnapWords.{SnapWords, snap_plan}
 use Rattle.snap_cli.specs.SnapWords.{out_of as snap_out}
 use Rattle.guarantee.specs.Guarded.{IsGuarded}
