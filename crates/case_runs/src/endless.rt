@@ -1,11 +1,12 @@
 // Files of the operating system that have no end.
 
 use crate::values::line_of;
-use outside::{MemSink, RealFiles};
+use outside::MemSink;
 use secvisor_cli::{Bench, secvisor};
 use std::io;
 use std::io::Write;
 use std::thread::Threads;
+use system_files::RealFiles;
 
 // The most bytes that a call prints.
 const ROOM: usize = 1000;

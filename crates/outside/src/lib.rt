@@ -8,14 +8,12 @@ ghost use Rattle.processor.specs.Counters.{CanCount};
 mod calls;
 mod memory_files;
 mod memory_sink;
-mod real;
 mod trouble;
 mod writing;
 
 pub use calls::{call_number, is_to_fail};
 pub use memory_files::MemFiles;
 pub use memory_sink::MemSink;
-pub use real::{RealFiles, StdSink};
 use std::alloc::Global;
 pub use sv_types::Failed;
 pub use trouble::{Trouble, status_of_end};

@@ -1,8 +1,9 @@
 // The files of the operating system and standard output.
 
-use outside::{FileRefusal, Files, RealFiles, Sink, StdSink};
+use outside::{FileRefusal, Files, Sink};
 use std::alloc::{AllocError, Global};
 use std::process::Abort;
+use system_files::{RealFiles, StdSink};
 
 // A fact about files has to hold.
 fn holds(rt: &impl Abort, what: &str, fact: bool) {

@@ -8,7 +8,6 @@ use again::PlainFiles;
 use help::help;
 use live_cli::secvisor_live;
 use live_keys::{ReaderKeys, Still};
-use outside::{RealFiles, StdSink};
 use remarks::{MostBytes, remark};
 use resume_cli::secvisor_resume;
 use secvisor_cli::{
@@ -23,6 +22,7 @@ use std::env;
 use std::io::{ErrorKind, IsTerminal};
 use std::process::ExitCode;
 use std::thread::Threads;
+use system_files::{RealFiles, StdSink};
 
 // Every end has its status, want of memory before the program is called too.
 fn main(rt: HostRuntime) -> ExitCode {

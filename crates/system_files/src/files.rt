@@ -1,15 +1,17 @@
-// Real files and standard output. They tell nothing of content.
+// Files by name.
 ghost use Rattle.std.specs.Prelude.{◌≡◌};
-ghost use Rattle.outside.specs.Held.{real_state, real_sink};
+ghost use Rattle.outside.specs.Held.{real_state};
 
-use crate::{Failed, FileRefusal, Files, SaveFailed, Sink};
+use crate::escaped::Escaped;
+use crate::saving::save_whole;
+use outside::{FileRefusal, Files, SaveFailed};
 use std::alloc::Global;
 use std::fs::File;
-use std::io::{ErrorKind, Read, Write};
-use std::{fs, io};
+use std::io;
+use std::io::{ErrorKind, Read};
 
 /// The files of the operating system. A file that is missing is a fault; of one that is too long, or never ends, one byte
-/// more than the limit is read.
+/// more than the limit is read. Standard error says of a fault the system's error.
 #[derive(Drop)]
 pub struct RealFiles<R: std::rt::Files + AllocGlobal + Eprint + Drop> {
     rt: R,
@@ -19,8 +21,7 @@ pub struct RealFiles<R: std::rt::Files + AllocGlobal + Eprint + Drop> {
 }
 
 impl<R: std::rt::Files + AllocGlobal + Eprint + Drop> RealFiles<R> {
-    /// No call has failed yet. With `remarks` standard error says which file is read or saved, and of a fault the system's
-    /// error.
+    /// No call has failed yet. With `remarks` standard error also says which file is read or saved.
     pub fn new(rt: R, remarks: bool) -> RealFiles<R>
         ensures faults { real_state result.read_faults result.save_faults ≡ real_state 0 0 }
         ensures remarks { result.remarks ≡ remarks }
@@ -36,14 +37,14 @@ impl<R: std::rt::Files + AllocGlobal + Eprint + Drop> RealFiles<R> {
     // A failure changes nothing.
     fn remark(&self, work: &str, name: &str) {
         if self.remarks {
+            let name = Escaped { text: name };
             let _written = eprintln!(self.rt; "secvisor: {work} {name}");
         }
     }
 
     fn remark_fault(&self, name: &str, error: &io::Error) {
-        if self.remarks {
-            let _written = eprintln!(self.rt; "secvisor: {name}: {error}");
-        }
+        let name = Escaped { text: name };
+        let _written = eprintln!(self.rt; "secvisor: {name}: {error}");
     }
 }
 
@@ -72,9 +73,10 @@ impl<R: std::rt::Files + AllocGlobal + Eprint + Drop> Files for RealFiles<R> {
         }
     }
 
+    // A plain file holds all of the bytes behind it, or what it held.
     fn save(&mut self, name: &str, bytes: &[u8]) -> Result<(), SaveFailed> {
         self.remark("saves", name);
-        match fs::write(&self.rt, name, bytes) {
+        match save_whole(&self.rt, name, bytes) {
             Ok(()) => Ok(()),
             Err(error) => {
                 self.remark_fault(name, &error);
@@ -96,41 +98,4 @@ fn first_bytes<R: std::rt::Files>(
     let most = (limit as u64).saturating_add(1);
     File::open(rt, name)?.take(most).read_to_end(&mut bytes)?;
     Ok(bytes)
-}
-
-/// Standard output.
-#[derive(Drop)]
-pub struct StdSink<R: Print + Drop> {
-    rt: R,
-    faults: u64,
-}
-
-impl<R: Print + Drop> StdSink<R> {
-    /// No write has failed yet.
-    pub fn new(rt: R) -> StdSink<R>
-        ensures { real_sink result.faults ≡ real_sink 0 }
-    {
-        StdSink { rt, faults: 0 }
-    }
-}
-
-impl<R: Print + Drop> Sink for StdSink<R> {
-    ghost state = { λ s. real_sink s.faults };
-
-    fn write(&mut self, piece: &[u8]) -> Result<usize, Failed> {
-        match io::writer(&self.rt).write(piece) {
-            Ok(count) => {
-                if count == 0 && !piece.is_empty() {
-                    self.faults += 1;
-                    Err(Failed)
-                } else {
-                    Ok(count)
-                }
-            }
-            Err(_) => {
-                self.faults += 1;
-                Err(Failed)
-            }
-        }
-    }
 }
