@@ -1,6 +1,6 @@
 // A machine that goes on from a snapshot.
 
-ghost use Rattle.std.specs.Prelude.{◌≡◌, None, IfErr, IfOk, IsTrue, OnOk, true, replicate};
+ghost use Rattle.std.specs.Prelude.{◌≡◌, ◌+◌, None, IfErr, IfOk, IsTrue, OnOk, true, replicate};
 ghost use Rattle.sv_types.specs.Policies.{rules_of, rules_within};
 ghost use Rattle.reference.specs.Start.{AreWords};
 ghost use Rattle.machine_model.specs.Reaches.{IsNew};
