@@ -75,7 +75,7 @@ is_of_policy rules s =
 
 -- ---- no page is two parties', and each has the protection that follows
 
--- pages that are taken one after the other, each of them free until then
+-- a party takes pages one after the other, and each gets its protection; none where one of them isn't free by then
 abbrev pub take_pages : Protection → List Protection → List ℕ → Option (List Protection)
 take_pages protection guard [] = Some guard
 take_pages protection guard (page ∷ pages) =
@@ -85,9 +85,16 @@ abbrev pub then_held : Option (List Protection) → List ℕ → Option (List Pr
 then_held None pages = None
 then_held (Some guard) pages = take_pages Held guard pages
 
--- text and loaded modules are approved, and the load's pages are held; none where a page would be two parties'
+abbrev pub all_free : Rules → List Protection
+all_free rules = replicate rules.ram_pages Free
+
+-- of pages that are all free, the text and the loaded modules take theirs first
+abbrev pub with_approved : Rules → Contents → Option (List Protection)
+with_approved rules s = take_pages Approved (all_free rules) (approved_of rules s)
+
+-- and then the load its own, which are held; none where a page would be two parties'
 unfoldable pub guard_due : Rules → Contents → Option (List Protection)
-guard_due rules s = then_held (take_pages Approved (replicate rules.ram_pages Free) (approved_of rules s)) (load_pages rules s.loading)
+guard_due rules s = then_held (with_approved rules s) (load_pages rules s.loading)
 
 abbrev pub is_same : Protection → Protection → Bool
 is_same Free Free = true

@@ -133,26 +133,30 @@ hart_parts h = (
   ),
 )
 
-abbrev pub hart_of : HartParts → SavedHart
-hart_of x = record {
-  started = x.0.0;
-  mode = x.0.1.0;
-  pc = x.1.0;
-  registers = 0 ∷ x.1.1.0;
-  sstatus = x.1.1.1.0.0;
-  sie = x.1.1.1.0.1.0;
-  stvec = x.1.1.1.0.1.1.0;
-  scounteren = x.1.1.1.0.1.1.1.0;
-  sscratch = x.1.1.1.0.1.1.1.1.0;
-  sepc = x.1.1.1.0.1.1.1.1.1.0;
-  scause = x.1.1.1.0.1.1.1.1.1.1.0;
-  stval = x.1.1.1.0.1.1.1.1.1.1.1.0;
-  sip = x.1.1.1.0.1.1.1.1.1.1.1.1.0;
-  satp = x.1.1.1.0.1.1.1.1.1.1.1.1.1;
-  reservation = x.1.1.1.1.0;
-  entry = x.0.1.1;
-  timer = x.1.1.1.1.1;
+-- a hart by its parts; x0 is 0
+abbrev pub hart_by : Side → Status → (pc : ℕ) → (numbered : List ℕ) → (reserved : Option ℕ) → (timer : ℕ) → SavedHart
+hart_by (started, (at, entry)) (sstatus, (sie, (stvec, (scounteren, (sscratch, (sepc, (scause, (stval, (sip, satp))))))))) pc numbered reserved timer = record {
+  started = started;
+  mode = at;
+  pc = pc;
+  registers = 0 ∷ numbered;
+  sstatus = sstatus;
+  sie = sie;
+  stvec = stvec;
+  scounteren = scounteren;
+  sscratch = sscratch;
+  sepc = sepc;
+  scause = scause;
+  stval = stval;
+  sip = sip;
+  satp = satp;
+  reservation = reserved;
+  entry = entry;
+  timer = timer;
 }
+
+abbrev pub hart_of : HartParts → SavedHart
+hart_of (its_side, (pc, (numbered, (its_status, (reserved, timer))))) = hart_by its_side its_status pc numbered reserved timer
 
 -- register 0 is 0
 abbrev pub begins_with_0 : List ℕ → Bool
