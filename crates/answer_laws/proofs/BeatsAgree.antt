@@ -7,7 +7,7 @@ use Rattle.processor.specs.Bytes.{part, overwrite, low_bytes, in_ram, ram_base, 
 use Rattle.sv_types.specs.declared.block.BlockStatus.{BlockStatus}
 use Rattle.sv_types.specs.declared.virtio.VirtioMove.{VirtioMove}
 use Rattle.processor_laws.proofs.ByteLemmas.{length_low_bytes}
-use Rattle.reference.specs.States.{State, Disk, BlockDevice, BlockDisk, VirtioDisk, protection_in, protection_by, is_protected, is_approved_in, has_number}
+use Rattle.reference.specs.States.{State, Disk, BlockDevice, BlockDisk, VirtioDisk, protection_in, protection_by, is_protected, is_approved_in, has_number, protections_of}
 use Rattle.reference.specs.BlockDisk.{block_beat, block_to_memory, block_to_disk, block_after_beat, beat_place, beat_gpa, beat_size, is_busy, is_to_memory, transfer_ended}
 use Rattle.reference.specs.VirtioDevice.{VirtioDevice, Request}
 use Rattle.reference.specs.VirtioBeats.{VirtioBeat, nothing, broken_beat, with_request, with_written, last_moves_alone, to_memory, put_last, finish_request, make, make_first, go_on, is_live, virtio_beat}
@@ -18,7 +18,7 @@ use Rattle.reference.specs.Move.{Move, Idle, FromRam, IntoRam, DeniedAt, Outside
 use Rattle.reference.specs.Devices.{beat, poke, with_disk, after_move, with_bytes}
 use Rattle.sv_types.specs.Protections.{is_free}
 use Rattle.machine_model.specs.HostEvents.{beat_served, poke_served, after_host_beaten, after_host_move}
-use Rattle.machine_model.specs.StandsFor.{Unseen, machine_of, protections_of}
+use Rattle.machine_model.specs.StandsFor.{Unseen, machine_of}
 use Rattle.reference.specs.Soundness.{IsSound, IsSoundDisk, IsSoundVirtio, IsSoundRequest, IsSoundMove, AreSoundMoves}
 use Rattle.attempt_laws.proofs.Hosts.{hosts_forget}
 use Rattle.run_laws.proofs.Sounds.{bytes_keep_load}

@@ -16,7 +16,7 @@ use Rattle.processor_laws.proofs.ByteLemmas.{length_overwrite}
 use Rattle.sv_types.specs.declared.event.Note.TheVariants.{Denied}
 use Rattle.sv_types.specs.declared.event.Verdict.{Verdict}
 use Rattle.sv_types.specs.declared.event.Verdict.TheVariants.{Running}
-use Rattle.reference.specs.States.{State, Disk, Journal, protection_in, is_protected, is_approved_in, has_number}
+use Rattle.reference.specs.States.{State, Disk, Journal, protection_in, is_protected, is_approved_in, has_number, protections_of}
 use Rattle.reference.specs.Counting.{count, with_count, count_beat, count_key, count_tick, count_dropped, with_note, count_denied}
 use Rattle.reference.specs.Attacker.{poke_move}
 use Rattle.reference.specs.Disk.{disk_beat, Beaten}
@@ -27,7 +27,7 @@ use Rattle.machine_model.specs.Machine.{Machine, with_count_raised}
 use Rattle.machine_model.specs.HardwareEvent.{with_records, with_bytes_at, Written, IsPermitted, OnlyDisk, OnlyBytes, IsEvent, Happens, HappensUnder}
 use Rattle.machine_model.specs.HostEvents.{with_host_disk, beat_served, poke_served, key_served, tick_served, event_served}
 use Rattle.reference.specs.Run.{step, happen}
-use Rattle.machine_model.specs.StandsFor.{Unseen, IsRightFor, StandsFor, machine_of, protections_of, without_printed}
+use Rattle.machine_model.specs.StandsFor.{Unseen, IsRightFor, StandsFor, machine_of, without_printed}
 use Rattle.reference.specs.Soundness.{IsSound}
 use Rattle.answer_laws.proofs.BeatsAgree.{beat_agrees, poke_agrees, free_by, page_of_beat}
 use Rattle.attempt_laws.proofs.Hosts.{hosts_forget}

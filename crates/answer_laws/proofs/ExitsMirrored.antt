@@ -18,12 +18,12 @@ use Rattle.machine_model.specs.HardwareEvent.{Answers}
 use Rattle.machine_model.specs.HostExits.{host_exit_answered, host_exit, served_by, served_exit, with_tables}
 use Rattle.machine_model.specs.Machine.{Machine, HostHart}
 use Rattle.reference.specs.Protections.{protection_at}
-use Rattle.reference.specs.States.{State, Hart, protection_in}
+use Rattle.reference.specs.States.{State, Hart, protection_in, protections_of}
 use Rattle.machine_model.specs.Served.{seen_of, exit_answer, exit_answered, serve_exit, is_again}
 use Rattle.machine_model.specs.declared.exits.ExitAnswer.{ExitAnswer}
 use Rattle.machine_model.specs.declared.exits.ExitAnswer.TheVariants.{Traps, Returns, Demotes, LeavesEntry, StopsAtWrite, LoadsDevice, StoresDevice, Calls}
 use Rattle.reference.specs.Devices.{device_load}
-use Rattle.machine_model.specs.StandsFor.{StandsFor, Unseen, IsRightFor, machine_of, protections_of, bound_pages}
+use Rattle.machine_model.specs.StandsFor.{StandsFor, Unseen, IsRightFor, machine_of, bound_pages}
 use Rattle.reference.specs.Soundness.{IsSound}
 use Rattle.reference.specs.Turn.{turn}
 use Rattle.answer_laws.proofs.CallsMirrored.{call_mirrors}

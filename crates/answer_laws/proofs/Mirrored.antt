@@ -7,10 +7,10 @@ use Rattle.processor.specs.HypervisorRegisters.{HypervisorRegisters}
 use Rattle.sv_types.specs.ApprovedPages.{ApprovedPage}
 use Rattle.sv_types.specs.declared.protection.Protection.{Protection}
 use Rattle.sv_types.specs.declared.saved.SavedModule.{SavedModule}
-use Rattle.reference.specs.States.{State, Hart, Loading, Devices, Journal}
+use Rattle.reference.specs.States.{State, Hart, Loading, Devices, Journal, protections_of}
 use Rattle.sv_types.specs.Protections.{is_free}
 use Rattle.machine_model.specs.Machine.{Machine, HostHart, HostLoad, update}
-use Rattle.machine_model.specs.StandsFor.{Unseen, IsRightFor, machine_of, host_hart, host_harts, load_kept, protections_of, without_printed}
+use Rattle.machine_model.specs.StandsFor.{Unseen, IsRightFor, machine_of, host_hart, host_harts, load_kept, without_printed}
 use Rattle.attempt_laws.specs.Agree.{IsAt}
 use Rattle.attempt_laws.proofs.Hosts.{hosts_update}
 use Rattle.machine_model.specs.HardwareEvent.{Answers, Others, Nobody, MayChange, others_changed, hart_answered, devices_answered, journal_answered}

@@ -25,9 +25,9 @@ use Rattle.reference.specs.declared.answers.Beside.{Beside}
 use Rattle.reference.specs.declared.answers.Beside.TheVariants.{BeginsLoad, ApprovesModule, ReleasesModule, UnloadsModule, RetiresInit}
 use Rattle.reference.specs.Origins.{AllAbove, Ascends, IsOwned, ownership, is_kernel_text}
 use Rattle.reference.specs.Protections.{protection_at, or_free, with_pages, with_each}
-use Rattle.reference.specs.States.{State, Hart, Loading, has_number, is_approved_in, is_protected, module_pages, find_module, with_module, without_module, without_pages, pages_in_rule, protection_in, protection_by}
+use Rattle.reference.specs.States.{State, Hart, Loading, has_number, is_approved_in, is_protected, module_pages, find_module, with_module, without_module, without_pages, pages_in_rule, protection_in, protection_by, protections_of}
 use Rattle.reference.specs.Relocations.{fields_right}
-use Rattle.machine_model.specs.StandsFor.{Unseen, IsRightFor, machine_of, host_harts, load_kept, load_kept_by, kept_digests, kept_answer, protections_of, without_printed}
+use Rattle.machine_model.specs.StandsFor.{Unseen, IsRightFor, machine_of, host_harts, load_kept, load_kept_by, kept_digests, kept_answer, without_printed}
 use Rattle.reference.specs.Soundness.{IsSound, IsSoundLoad, HoldsModule}
 use Rattle.run_laws.proofs.AnswersMay.{MayBeside}
 use Rattle.run_laws.proofs.Lookups.{both, same_number, numbers_bounds}

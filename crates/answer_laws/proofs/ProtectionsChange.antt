@@ -10,11 +10,11 @@ use Rattle.sv_types.specs.declared.module.Span.{Span}
 use Rattle.sv_types.specs.declared.protection.Protection.{Protection}
 use Rattle.sv_types.specs.declared.protection.Protection.TheVariants.{Free, Held, Approved}
 use Rattle.sv_types.specs.declared.saved.SavedModule.{SavedModule}
-use Rattle.reference.specs.States.{State, Loading, protection_in, protection_by, has_number, is_approved_in, find_module, module_pages, pages_in_rule, without_pages}
+use Rattle.reference.specs.States.{State, Loading, protection_in, protection_by, has_number, is_approved_in, find_module, module_pages, pages_in_rule, without_pages, protections_of}
 use Rattle.reference.specs.Answers.{init_text}
 use Rattle.reference.specs.Protections.{or_free, protection_at, with_pages, with_each}
 use Rattle.sv_types.specs.Views.{AreViews}
-use Rattle.machine_model.specs.StandsFor.{bound_pages, protections_of}
+use Rattle.machine_model.specs.StandsFor.{bound_pages}
 use Rattle.reference.specs.Soundness.{IsSound, IsSoundLoad, HoldsModule}
 use Rattle.run_laws.proofs.Lookups.{both, same_number, numbers_bounds, approved_without}
 use Rattle.attempt_laws.proofs.LoadsKept.{elsewhere}

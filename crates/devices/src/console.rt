@@ -4,7 +4,6 @@ ghost use Rattle.std.specs.Prelude.{◌≡◌, ◌≤◌, [], length, slice_get}
 ghost use Rattle.sv_types.specs.Console.{most_queued, has_room, after_key, without_first, console_line, register_value, console_load, after_load, stored_byte};
 ghost use Rattle.sv_types.specs.Console.ConsoleRegister.{Status};
 
-use arrayvec::ArrayVec;
 use std::marker::Model;
 use sv_types::MOST_QUEUED;
 
@@ -21,7 +20,9 @@ const HAS_INPUT: u64 = 0x01;
 /// A queue of at most 256 bytes of input, seen as the list of these bytes.
 #[derive(Drop)]
 pub struct Console {
-    queue: ArrayVec<u8, MOST_QUEUED>,
+    // The bytes that wait come first, the next one at place 0.
+    bytes: [u8; MOST_QUEUED],
+    count: usize,
 }
 
 impl Model for Console {
@@ -29,7 +30,12 @@ impl Model for Console {
 
     ghost Value = { List ℕ };
 
-    ghost view = { λ c. c.queue.items };
+    ghost use Rattle.std.specs.Prelude.{◌≤◌, take};
+    ghost use Rattle.sv_types.specs.Console.{most_queued};
+
+    ghost view = { λ c. take c.count c.bytes };
+
+    ghost invariant = { λ c. c.count ≤ most_queued };
 }
 
 impl Console {
@@ -38,7 +44,8 @@ impl Console {
         ensures { result ≡ [] }
     {
         Console {
-            queue: ArrayVec::new(),
+            bytes: [0; MOST_QUEUED],
+            count: 0,
         }
     }
 
@@ -48,7 +55,12 @@ impl Console {
         ensures queue { self.new ≡ after_key self.old byte }
         ensures bound { length self.new ≤ most_queued }
     {
-        self.queue.try_push(byte).is_ok()
+        if self.count == MOST_QUEUED {
+            return false;
+        }
+        self.bytes[self.count] = byte;
+        self.count += 1;
+        true
     }
 
     /// The next byte of input, which leaves the queue.
@@ -56,21 +68,24 @@ impl Console {
         ensures byte { result ≡ slice_get self.old 0 }
         ensures queue { self.new ≡ without_first self.old }
     {
-        self.queue.pop_at(0)
+        let byte = *self.queue().first()?;
+        self.bytes.copy_within(1.., 0);
+        self.count -= 1;
+        Some(byte)
     }
 
     /// Whether input is there, which sets the interrupt line.
     pub fn line(&self) -> bool
         ensures { result ≡ console_line self.now }
     {
-        !self.queue.is_empty()
+        self.count > 0
     }
 
     /// The bytes that wait, the next one first.
     pub fn queue(&self) -> &[u8]
         ensures { result.now ≡ self.now }
     {
-        &self.queue
+        &self.bytes[..self.count]
     }
 
     fn status(&self) -> u64

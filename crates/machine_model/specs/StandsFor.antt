@@ -7,7 +7,6 @@ use Rattle.processor.specs.Hardware.{Core}
 use Rattle.processor.specs.HypervisorRegisters.{HypervisorRegisters}
 use Rattle.sv_types.specs.Measure.{page_digests}
 use Rattle.sv_types.specs.Policies.{Rules, ModuleRule}
-use Rattle.sv_types.specs.ApprovedPages.{numbers_from}
 use Rattle.processor.specs.Regions.{IsRegion}
 use Rattle.sv_types.specs.Views.{AreViews, view_hgatp, with_ram}
 use Rattle.processor.specs.declared.hregs.HRegs.{HRegs}
@@ -17,7 +16,7 @@ use Rattle.sv_types.specs.declared.protection.Protection.{Protection}
 use Rattle.sv_types.specs.declared.view.View.{View as Root}
 use Rattle.sv_types.specs.declared.view.View.TheVariants as View
 use Rattle.sv_types.specs.declared.saved.SavedModule.{SavedModule}
-use Rattle.reference.specs.States.{State, Hart, Journal, Loading, protection_in}
+use Rattle.reference.specs.States.{State, Hart, Journal, Loading, protection_in, protections_of}
 use Rattle.reference.specs.Loads.{module_text, module_bases}
 use Rattle.reference.specs.Soundness.{IsSound}
 use Rattle.sv_types.specs.Protections.{is_free}
@@ -109,9 +108,6 @@ pub record Unseen : Type 0 where
   -- the printed bytes that were taken away
   pub cleared : ℕ
   pub attempts : ℕ
-
-abbrev pub protections_of : State → List Protection
-protections_of r = map (protection_in r.approved r.held) (numbers_from 0 r.rules.ram_pages)
 
 abbrev pub without_printed : ℕ → Journal → Journal
 without_printed cleared j = record j { printed = drop cleared j.printed }

@@ -1,6 +1,6 @@
 -- The state of the reference machine, as plain data: what a RISC-V hart has in S and U mode (Unprivileged manual,
 -- "Programmers' Model for Base Integer ISA"; Privileged manual, "Supervisor CSRs"), memory, modules, devices and records.
-use Rattle.std.specs.Prelude.{ℕ, suc, Bool, true, false, ◌&&◌, ◌||◌, not, List, [], ◌∷◌, filter, ◌==◌, nat_lt, if◌then◌else◌, Option, Some, None, option_map, slice_get, slice_set, is_some}
+use Rattle.std.specs.Prelude.{ℕ, suc, Bool, true, false, ◌&&◌, ◌||◌, not, List, [], ◌∷◌, map, filter, ◌==◌, nat_lt, if◌then◌else◌, Option, Some, None, option_map, slice_get, slice_set, is_some}
 use Rattle.std.specs.List.{list_any}
 use Rattle.processor.specs.Bytes.{page_of}
 use Rattle.sv_types.specs.ApprovedPages.{ApprovedPage, numbers_from, approved_bytes}
@@ -99,6 +99,10 @@ protection_in approved held page = protection_by (is_approved_in approved page) 
 
 abbrev pub protection : State → ℕ → Protection
 protection r page = protection_in r.approved r.held page
+
+-- of each page of RAM
+abbrev pub protections_of : State → List Protection
+protections_of r = map (protection r) (numbers_from 0 r.rules.ram_pages)
 
 unfoldable pub is_protected : State → ℕ → Bool
 is_protected r page = is_approved_in r.approved page || has_number r.held page

@@ -20,8 +20,8 @@ use Rattle.reference.specs.Origins.{IsOwned, IsMeasured, OwnsPages, is_kernel_te
 use Rattle.reference.specs.Soundness.{IsSound, IsSoundDisk, IsSoundLoad}
 use Rattle.reference.specs.Start.{AreWords}
 use Rattle.reference.specs.Protections.{protection_at}
-use Rattle.reference.specs.States.{has_number, is_approved_in, protection_in, find_module, pages_in_rule}
-use Rattle.saved_machine.specs.SavedStates.{disk_of, saved_protections}
+use Rattle.reference.specs.States.{has_number, is_approved_in, protection_in, find_module, pages_in_rule, protections_of}
+use Rattle.saved_machine.specs.SavedStates.{disk_of}
 use Rattle.saved_machine.specs.declared.whole.SavedLoad.{SavedLoad}
 use Rattle.snapshot_form.specs.DeviceForms.{console, port}
 use Rattle.snapshot_form.specs.Forms.{is_word}
@@ -275,7 +275,7 @@ protection_is rules s page k =
     ∙ ap (either_one (is_approved_in (approved_pages s.ram (approved_of rules s)) page) Approved) (all_free_at rules.ram_pages page))
     (λ there. were_free Held k.pages.approved s.protection (load_pages rules s.loading) page k.pages.load_is there)
 
-protections_are : (rules : Rules) (s : Contents) → Known rules s → saved_protections (resumed_state rules s) ≡ s.protection
+protections_are : (rules : Rules) (s : Contents) → Known rules s → protections_of (resumed_state rules s) ≡ s.protection
 unfolding resumed_state
 protections_are rules s k =
     let f : ℕ → Protection = protection_in (approved_pages s.ram (approved_of rules s)) (load_pages rules s.loading) in

@@ -22,8 +22,8 @@ use Rattle.reference.specs.Origins.{is_kernel_text, ownership}
 use Rattle.sv_types.specs.Protections.{is_free}
 use Rattle.reference.specs.Protections.{protection_at}
 use Rattle.reference.specs.Soundness.{IsSound, IsSoundEntry, IsSoundHart, IsSoundLoad}
-use Rattle.reference.specs.States.{State, Hart, Loading, find_module, has_number, is_approved_in, module_pages, pages_in_rule, protection_in}
-use Rattle.saved_machine.specs.SavedStates.{saved_harts, saved_load, saved_protections}
+use Rattle.reference.specs.States.{State, Hart, Loading, find_module, has_number, is_approved_in, module_pages, pages_in_rule, protection_in, protections_of}
+use Rattle.saved_machine.specs.SavedStates.{saved_harts, saved_load}
 use Rattle.saved_machine.specs.declared.harts.SavedHart.{SavedHart}
 use Rattle.snapshot_form.specs.Snapshots.{Contents}
 use Rattle.snapshot_form.specs.declared.whole.TextPage.{TextPage}
@@ -117,14 +117,14 @@ load_fits_by r (Some load) k =
     (least_is load.left (pages_in_rule (slice_get r.rules.modules load.about.id)) k.left)
 
 abbrev pub saved_contents : State → ℕ → List TextPage → PortState → List ℕ → Contents
-saved_contents r events text port disk = contents_of r events text (saved_protections r) port disk
+saved_contents r events text port disk = contents_of r events text (protections_of r) port disk
 
 of_policy : (r : State) (events : ℕ) (text : List TextPage) (port : PortState) (disk : List ℕ) → IsSound r → is_of_policy r.rules (saved_contents r events text port disk) ≡ true
 unfolding is_of_policy
 of_policy r events text port disk sound =
     let harts = saved_harts r.devices.clock 0 r.harts in
     let a : (length harts == r.rules.harts) ≡ true = eq-eqb _ _ (length_saved r.devices.clock 0 r.harts ∙ sound.number) in
-    let b : (length (saved_protections r) == r.rules.ram_pages) ≡ true = eq-eqb _ _ (length_pages (protection_in r.approved r.held) 0 r.rules.ram_pages) in
+    let b : (length (protections_of r) == r.rules.ram_pages) ≡ true = eq-eqb _ _ (length_pages (protection_in r.approved r.held) 0 r.rules.ram_pages) in
     let c = all_bound r.rules r.devices.clock 0 r.harts sound.harts in
     let d : list_all (fits r.rules) r.loaded ≡ true = all_by (fits r.rules) r.loaded (λ i m at. loaded_fits r i m sound at) in
     and_from _ _ (and_from _ _ (and_from _ _ (and_from _ _ a b) c) d) (load_fits_by r r.loading sound.load)
@@ -225,7 +225,7 @@ first_taken r c sound a =
     }
 
 -- and what they leave are the state's protections
-last_is : (r : State) (c : Contents) (last : List Protection) → (k : TakenTwice r c) → Holds r → Taking Held k.mid r.held last → last ≡ saved_protections r
+last_is : (r : State) (c : Contents) (last : List Protection) → (k : TakenTwice r c) → Holds r → Taking Held k.mid r.held last → last ≡ protections_of r
 unfolding protection_in
 last_is r c last k h taken =
     let f : ℕ → Protection = protection_in r.approved r.held in
@@ -235,7 +235,7 @@ last_is r c last k h taken =
     sym (listed f 0 last (λ i below. each i ∙ ap f (nothing_plus i)))
     ∙ ap (λ (n : ℕ). map f (numbers_from 0 n)) (length_taken Held k.mid last r.held taken ∙ k.size)
 
-guarded_right : (r : State) (c : Contents) → IsSound r → Approves r c → Holds r → c.protection ≡ saved_protections r → load_pages r.rules c.loading ≡ r.held
+guarded_right : (r : State) (c : Contents) → IsSound r → Approves r c → Holds r → c.protection ≡ protections_of r → load_pages r.rules c.loading ≡ r.held
     → is_guarded_right r.rules c ≡ true
 unfolding is_guarded_right guard_due
 guarded_right r c sound a h same pages =

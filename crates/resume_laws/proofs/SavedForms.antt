@@ -8,8 +8,8 @@ use Rattle.sv_types.specs.declared.port.PortState.{PortState}
 use Rattle.sv_types.specs.declared.protection.Protection.{Protection}
 use Rattle.sv_types.specs.Limits.{most_events}
 use Rattle.reference.specs.Soundness.{IsSound}
-use Rattle.reference.specs.States.{State, protection_in}
-use Rattle.saved_machine.specs.SavedStates.{saved_harts, saved_protections}
+use Rattle.reference.specs.States.{State, protection_in, protections_of}
+use Rattle.saved_machine.specs.SavedStates.{saved_harts}
 use Rattle.snapshot_form.specs.DeviceForms.{console, devices, port}
 use Rattle.snapshot_form.specs.Forms.{is_word}
 use Rattle.snapshot_form.specs.HartForms.{flag, harts}
@@ -89,7 +89,7 @@ sizes r events ts p d sound = record {
 }
 
 harts_part : (r : State) (events : ℕ) (ts : List TextPage) (p : PortState) (d : List ℕ) → IsSound r → IsKeepable r → AreWithin r.rules
-    → IsTyped (saved_contents r events ts p d) → (harts (length (saved_protections r)) (length (saved_harts r.devices.clock 0 r.harts))).has (saved_harts r.devices.clock 0 r.harts) ≡ true
+    → IsTyped (saved_contents r events ts p d) → (harts (length (protections_of r)) (length (saved_harts r.devices.clock 0 r.harts))).has (saved_harts r.devices.clock 0 r.harts) ≡ true
 unfolding harts
 harts_part r events ts p d sound keepable w typed =
     let k = sizes r events ts p d sound in

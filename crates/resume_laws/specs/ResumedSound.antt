@@ -6,8 +6,7 @@ use Rattle.sv_types.specs.declared.event.Event.{Event}
 use Rattle.reference.specs.Run.{run}
 use Rattle.reference.specs.Soundness.{IsSound}
 use Rattle.reference.specs.Start.{AreWords}
-use Rattle.reference.specs.States.{State}
-use Rattle.saved_machine.specs.SavedStates.{saved_protections}
+use Rattle.reference.specs.States.{State, protections_of}
 use Rattle.snapshot_form.specs.Snapshots.{Contents, snapshot}
 use Rattle.resumption.specs.Judgements.{resume_refusal}
 use Rattle.resumption.specs.ResumedStates.{resumed_state}
@@ -19,7 +18,7 @@ use Rattle.resume_laws.specs.Resumed.{GoesOn, KeepsDigests}
 pub record IsResumable (rules : Rules) (s : Contents) : Type 0 where
   pub sound : IsSound (resumed_state rules s)
   pub keepable : IsKeepable (resumed_state rules s)
-  pub protections : saved_protections (resumed_state rules s) ≡ s.protection
+  pub protections : protections_of (resumed_state rules s) ≡ s.protection
   pub digests : KeepsDigests (resumed_state rules s) s.text
 
 abbrev pub ResumedSoundLaw : Type 0

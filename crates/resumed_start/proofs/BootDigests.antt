@@ -11,8 +11,7 @@ use Rattle.sv_types.specs.Policies.{Rules}
 use Rattle.reference.specs.Protections.{protection_at}
 use Rattle.reference.specs.Soundness.{IsSound}
 use Rattle.reference.specs.Start.{IsStart, block_disk, boot_start, start}
-use Rattle.reference.specs.States.{State, Disk, has_number, is_approved_in, protection_in}
-use Rattle.machine_model.specs.StandsFor.{protections_of}
+use Rattle.reference.specs.States.{State, Disk, has_number, is_approved_in, protection_in, protections_of}
 use Rattle.snapshot_form.specs.declared.whole.TextPage.{TextPage}
 use Rattle.processor_laws.proofs.ByteLemmas.{length_part}
 use Rattle.elf64_load.proofs.LoadedText.{text_in_ram}

@@ -7,10 +7,10 @@ use Rattle.sv_types.specs.Policies.{Rules}
 use Rattle.sv_types.specs.Views.{AreViews}
 use Rattle.sv_types.specs.declared.protection.Protection.{Protection}
 use Rattle.reference.specs.Protections.{protection_at}
-use Rattle.reference.specs.States.{State, protection_in}
+use Rattle.reference.specs.States.{State, protection_in, protections_of}
 use Rattle.machine_model.specs.Machine.{Machine}
 use Rattle.machine_model.specs.Reaches.{IsNew}
-use Rattle.machine_model.specs.StandsFor.{Unseen, IsRightFor, bound_pages, load_kept, machine_of, protections_of}
+use Rattle.machine_model.specs.StandsFor.{Unseen, IsRightFor, bound_pages, load_kept, machine_of}
 use Rattle.saved_machine.specs.declared.whole.SavedLoad.{SavedLoad}
 use Rattle.snapshot_form.specs.Snapshots.{Contents}
 use Rattle.resumption.specs.ResumedStates.{resumed_hart, resumed_load, resumed_state}

@@ -6,8 +6,7 @@ use Rattle.sv_types.specs.Measure.{page_digest}
 use Rattle.sv_types.specs.Protections.{is_approved}
 use Rattle.sv_types.specs.declared.protection.Protection.{Protection}
 use Rattle.reference.specs.Protections.{protection_at}
-use Rattle.reference.specs.States.{State}
-use Rattle.saved_machine.specs.SavedStates.{saved_protections}
+use Rattle.reference.specs.States.{State, protections_of}
 use Rattle.snapshot_form.specs.declared.whole.TextPage.{TextPage}
 
 -- the approved ones among the first pages
@@ -27,4 +26,4 @@ text_in ram protections = text_among ram protections (length protections)
 
 -- those of a machine in such a state
 abbrev pub digested_text : State → List TextPage
-digested_text r = text_in r.ram (saved_protections r)
+digested_text r = text_in r.ram (protections_of r)

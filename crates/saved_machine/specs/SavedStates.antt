@@ -1,13 +1,12 @@
 -- When plain data is a state of the reference machine. This project's own.
-use Rattle.std.specs.Prelude.{◌≡◌, ℕ, ◌+◌, ◌*◌, List, [], ◌∷◌, map, option_map}
-use Rattle.sv_types.specs.ApprovedPages.{numbers_from}
+use Rattle.std.specs.Prelude.{◌≡◌, ℕ, ◌+◌, ◌*◌, List, [], ◌∷◌, option_map}
 use Rattle.processor.specs.Bits.{flag}
 use Rattle.processor.specs.Bytes.{ram_base}
 use Rattle.processor.specs.Registers.{software_bit}
 use Rattle.sv_types.specs.Clock.{Clock, timer_of}
 use Rattle.sv_types.specs.declared.protection.Protection.{Protection}
 use Rattle.sv_types.specs.declared.port.PortState.{PortState}
-use Rattle.reference.specs.States.{State, Hart, Disk, BlockDisk, VirtioDisk, Loading, protection}
+use Rattle.reference.specs.States.{State, Hart, Disk, BlockDisk, VirtioDisk, Loading, protections_of}
 use Rattle.saved_machine.specs.VirtioStates.{virtio_of}
 use Rattle.saved_machine.specs.declared.harts.SavedHart.{SavedHart}
 use Rattle.saved_machine.specs.declared.whole.Saved.{Saved}
@@ -60,14 +59,10 @@ disk_of (PortState.Virtio state) bytes = VirtioDisk (virtio_of state bytes)
 
 -- ---- the whole
 
--- of each page of RAM
-abbrev pub saved_protections : State → List Protection
-saved_protections r = map (protection r) (numbers_from 0 r.rules.ram_pages)
-
 pub record IsSaved (r : State) (s : Saved) : Type 0 where
   pub harts : s.harts.items ≡ saved_harts r.devices.clock 0 r.harts
   pub ram : s.ram.items ≡ r.ram
-  pub protection : s.protection.items ≡ saved_protections r
+  pub protection : s.protection.items ≡ protections_of r
   pub modules : s.modules.items ≡ r.loaded
   pub retired : s.retired ≡ r.retired
   pub loading : s.loading ≡ option_map saved_load r.loading

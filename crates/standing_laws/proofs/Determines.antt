@@ -12,9 +12,9 @@ use Rattle.sv_types.specs.declared.protection.Protection.{Protection}
 use Rattle.sv_types.specs.declared.protection.Protection.TheVariants.{Approved}
 use Rattle.reference.specs.Origins.{IsOwned, IsPageOf, is_kernel_text, ownership}
 use Rattle.reference.specs.Soundness.{IsSound, IsSoundLoad}
-use Rattle.reference.specs.States.{State, Hart, Loading, has_number, is_approved_in, module_pages, protection_in, protection_by}
+use Rattle.reference.specs.States.{State, Hart, Loading, has_number, is_approved_in, module_pages, protection_in, protection_by, protections_of}
 use Rattle.machine_model.specs.Machine.{Machine, HostHart, HostLoad}
-use Rattle.machine_model.specs.StandsFor.{Unseen, IsRightFor, machine_of, host_hart, host_harts, load_kept, load_kept_by, protections_of}
+use Rattle.machine_model.specs.StandsFor.{Unseen, IsRightFor, machine_of, host_hart, host_harts, load_kept, load_kept_by}
 use Rattle.run_laws.proofs.Lookups.{both, none_there}
 use Rattle.standing_laws.specs.Laws.{AreSame, DeterminesLaw}
 use Rattle.standing_laws.proofs.Standings.{listed}

@@ -7,10 +7,10 @@ use Rattle.processor.specs.Bytes.{page_of, ram_place, page_size}
 use Rattle.sv_types.specs.Policies.{Rules, ModuleRule, each_within, rules_within, numbers_within, lists_within, init_within, modules_count_within, module_within, modules_within, module_pages_within, sites_count_within, sites_of, sites_within}
 use Rattle.sv_types.specs.declared.saved.SavedModule.{SavedModule}
 use Rattle.sv_types.specs.declared.protection.Protection.TheVariants.{Held, Approved}
-use Rattle.reference.specs.States.{State, Loading, protection_in, protection_by, has_number, is_approved_in, find_module, pages_in_rule}
+use Rattle.reference.specs.States.{State, Loading, protection_in, protection_by, has_number, is_approved_in, find_module, pages_in_rule, protections_of}
 use Rattle.reference.specs.Soundness.{IsSound, IsSoundLoad, HoldsModule}
 use Rattle.machine_model.specs.Machine.{Machine}
-use Rattle.machine_model.specs.StandsFor.{Unseen, machine_of, protections_of, load_kept, load_kept_by}
+use Rattle.machine_model.specs.StandsFor.{Unseen, machine_of, load_kept, load_kept_by}
 use Rattle.attempt_laws.proofs.LoadsKept.{elsewhere}
 use Rattle.run_laws.proofs.Lookups.{length_pages}
 use Rattle.page_guard.specs.Guarded.{IsInRam, AllAre}

@@ -13,10 +13,10 @@ use Rattle.processor.specs.declared.mode.Mode.TheVariants.{Kernel, User}
 use Rattle.sv_types.specs.declared.view.View.TheVariants as View
 use Rattle.attempt_laws.proofs.Views.{view_walks_apart}
 use Rattle.reference.specs.Protections.{or_free, protection_at}
-use Rattle.reference.specs.States.{State, Hart, Binding, binding_of, binding_at, protection_in}
+use Rattle.reference.specs.States.{State, Hart, Binding, binding_of, binding_at, protection_in, protections_of}
 use Rattle.reference.specs.Soundness.{IsSound, IsSoundEntry}
 use Rattle.machine_model.specs.Machine.{Machine, HostHart}
-use Rattle.machine_model.specs.StandsFor.{Unseen, IsRightFor, machine_of, host_hart, host_harts, hregs_in, bound_pages, protections_of}
+use Rattle.machine_model.specs.StandsFor.{Unseen, IsRightFor, machine_of, host_hart, host_harts, hregs_in, bound_pages}
 use Rattle.attempt_laws.proofs.Under.{bound_page}
 use Rattle.answer_laws.proofs.ViewsMeet.{get_numbers, views_meet}
 use Rattle.run_laws.proofs.Lookups.{length_pages}

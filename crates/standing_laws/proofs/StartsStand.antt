@@ -14,11 +14,11 @@ use Rattle.sv_types.specs.declared.protection.Protection.TheVariants.{Free, Held
 use Rattle.reference.specs.Calls.{hart_at, stopped_hart}
 use Rattle.reference.specs.Protections.{protection_at, with_pages, with_each}
 use Rattle.reference.specs.Start.{AreWords, start, flat_start, image_start, boot_start, virtio_start, block_disk, virtio_disk, flat_rules, harts_at_boot}
-use Rattle.reference.specs.States.{State, Disk, protection_in, protection_by, has_number}
+use Rattle.reference.specs.States.{State, Disk, protection_in, protection_by, has_number, protections_of}
 use Rattle.reference.specs.Soundness.{IsSoundDisk}
 use Rattle.machine_model.specs.Machine.{Machine}
 use Rattle.machine_model.specs.Reaches.{IsNew}
-use Rattle.machine_model.specs.StandsFor.{bound_pages, Unseen, IsRightFor, machine_of, protections_of, host_harts}
+use Rattle.machine_model.specs.StandsFor.{bound_pages, Unseen, IsRightFor, machine_of, host_harts}
 use Rattle.run_laws.proofs.Lookups.{approved_alone}
 use Rattle.run_laws.proofs.StartsSound.{CanStart, start_sound, block_quiet, virtio_quiet, flat_can, image_can}
 use Rattle.answer_laws.proofs.ProtectionsChange.{each_changed, span_changed, views_from}

@@ -41,7 +41,7 @@ pub enum Note {
         pc: u64,
         gpa: u64,
     },
-    /// The block device was kept from writing into a protected page.
+    /// A device was kept from writing into a protected page.
     Denied {
         gpa: u64,
     },
