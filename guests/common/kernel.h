@@ -60,6 +60,12 @@ void put_hex(u64 value);
 void put_number(long value);
 /* A label and a number in a line. */
 void tell(const char *label, long value);
+/* Some thousand turns that do nothing, for what comes from outside. */
+static inline void busy(void)
+{
+    for (volatile int i = 0; i < 1000; i++)
+        ;
+}
 
 #define CONSOLE ((volatile u8 *)0x10000000)
 
