@@ -12,7 +12,6 @@ use Rattle.sv_types.specs.Views.{AreViews, view_hgatp, with_ram}
 use Rattle.processor.specs.declared.hregs.HRegs.{HRegs}
 use Rattle.processor.specs.declared.mode.Mode.{Mode}
 use Rattle.processor.specs.declared.mode.Mode.TheVariants.{Kernel, User}
-use Rattle.sv_types.specs.declared.protection.Protection.{Protection}
 use Rattle.sv_types.specs.declared.view.View.{View as Root}
 use Rattle.sv_types.specs.declared.view.View.TheVariants as View
 use Rattle.sv_types.specs.declared.saved.SavedModule.{SavedModule}

@@ -4,7 +4,6 @@ use Rattle.processor.specs.Bits.{flag}
 use Rattle.processor.specs.Bytes.{ram_base}
 use Rattle.processor.specs.Registers.{software_bit}
 use Rattle.sv_types.specs.Clock.{Clock, timer_of}
-use Rattle.sv_types.specs.declared.protection.Protection.{Protection}
 use Rattle.sv_types.specs.declared.port.PortState.{PortState}
 use Rattle.reference.specs.States.{State, Hart, Disk, BlockDisk, VirtioDisk, Loading, protections_of}
 use Rattle.saved_machine.specs.VirtioStates.{virtio_of}
