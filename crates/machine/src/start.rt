@@ -120,11 +120,7 @@ pub(crate) struct Begun {
 impl Begun {
     /// The permitted entries of a policy and its harts, of which the first begins at an entry. No module is loaded, and nothing is
     /// recorded or kept.
-    pub(crate) fn new(
-        alloc: Global,
-        policy: &Policy,
-        entry: u64,
-    ) -> Result<Begun, AllocError>
+    pub(crate) fn new(alloc: Global, policy: &Policy, entry: u64) -> Result<Begun, AllocError>
         requires along { length policy.now.bound.items ≤ length policy.now.entries.items }
         requires few { length policy.now.bound.items ≤ most_bound }
         requires one { 1 ≤ policy.now.harts }
@@ -194,11 +190,7 @@ fn first_seat(entry: u64) -> Seat
     seat
 }
 
-fn seats_at_boot(
-    alloc: Global,
-    harts: u8,
-    entry: u64,
-) -> Result<Vec<Seat>, AllocError>
+fn seats_at_boot(alloc: Global, harts: u8, entry: u64) -> Result<Vec<Seat>, AllocError>
     requires { 1 ≤ harts }
     ensures hosts { IfOk result (λ seats. hosts_of seats.items ≡ hosts_at_boot harts entry) }
     ensures number { IfOk result (λ seats. length seats.items ≡ harts) }

@@ -60,13 +60,7 @@ impl Parts {
         ensures { WithTables self.old (answered_exit self.old hart (Traps trap.cause trap.tval)) self.new }
     {
         let seat = &mut self.seats[hart as usize];
-        guest_trap(
-            hart,
-            seat,
-            &self.entries,
-            &mut self.journal,
-            trap,
-        );
+        guest_trap(hart, seat, &self.entries, &mut self.journal, trap);
     }
 
     // It returns from its trap.

@@ -1,6 +1,6 @@
 // All that goes on of a snapshot.
 
-ghost use Rattle.std.specs.Prelude.{◌≡◌, ◌+◌, ◌*◌, ◌^◌, ◌<◌, ◌≤◌, [], None, IfOk, IsTrue, false, length, map, replicate, true};
+ghost use Rattle.std.specs.Prelude.{◌≡◌, ◌*◌, ◌≤◌, [], None, IfOk, IsTrue, false, length, map, replicate, true};
 ghost use Rattle.processor.specs.Bytes.{page_size};
 ghost use Rattle.processor.specs.Regions.{most_ram_pages};
 ghost use Rattle.sv_types.specs.Limits.{most_notes};

@@ -19,13 +19,7 @@ use sv_types::Rule;
 
 /// A trap of the guest: it comes to its handler, or, from user mode to a target that isn't permitted, the machine stops.
 #[inline(always)]
-pub fn guest_trap(
-    hart: u8,
-    seat: &mut Seat,
-    entries: &Entries,
-    journal: &mut Journal,
-    trap: Trap,
-)
+pub fn guest_trap(hart: u8, seat: &mut Seat, entries: &Entries, journal: &mut Journal, trap: Trap)
     requires aligned { seat.old.hart.core.pc % instruction_size ≡ 0 }
     requires counts { MayCount journal.old.counts }
     ensures machine { (m : Machine) → m.rules.entries ≡ entries.now.entries → m.rules.bound ≡ entries.now.bound → with_hart m hart (host_at seat.new) journal.new ≡ host_trap (with_hart m hart (host_at seat.old) journal.old) hart (host_at seat.old) (mode_of seat.old.side) (is_interrupt trap.cause) (guest_number trap.cause) trap.tval }
