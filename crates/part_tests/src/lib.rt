@@ -1,6 +1,6 @@
 //! Tests of parts that stand in several crates: registers, traps, walks and attempts of a hart, and requests of the virtio block
 //! device, by rows of their standards; measures, kernel images and module objects, the generated guest, the events of scripts,
-//! and the files of the operating system.
+//! the files of the operating system, standard output, and the keys of a reader.
 #![tactic(auto)]
 
 #[cfg(test)]
@@ -12,6 +12,8 @@ mod generated;
 #[cfg(test)]
 mod images;
 #[cfg(test)]
+mod keys;
+#[cfg(test)]
 mod loading;
 #[cfg(test)]
 mod measures;
@@ -20,9 +22,13 @@ mod modes;
 #[cfg(test)]
 mod objects;
 #[cfg(test)]
+mod outputs;
+#[cfg(test)]
 mod real;
 #[cfg(test)]
 mod registers;
+#[cfg(test)]
+mod saves;
 #[cfg(test)]
 mod scripts;
 #[cfg(test)]

@@ -1,9 +1,9 @@
-// The files of the operating system and standard output.
+// The files of the operating system.
 
-use outside::{FileRefusal, Files, Sink};
+use outside::{FileRefusal, Files};
 use std::alloc::{AllocError, Global};
 use std::process::Abort;
-use system_files::{RealFiles, StdSink};
+use system_files::RealFiles;
 
 // A fact about files has to hold.
 fn holds(rt: &impl Abort, what: &str, fact: bool) {
@@ -52,13 +52,5 @@ fn real_files_keep_what_was_saved(rt: HostRuntime) -> Result<(), AllocError> {
     holds(&rt, "absent", absent == Some(FileRefusal::Failed));
     let is_saved = saves(rt.clone()?, "no_such_folder/file", "saved");
     holds(&rt, "no folder", !is_saved);
-    Ok(())
-}
-
-#[test]
-fn standard_output_takes_bytes(rt: HostRuntime) -> Result<(), AllocError> {
-    let mut out = StdSink::new(rt.clone()?);
-    assert!(rt; out.write(b"taken\n").is_ok());
-    assert!(rt; out.write(b"").is_ok());
     Ok(())
 }
