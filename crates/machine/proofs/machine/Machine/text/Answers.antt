@@ -3,7 +3,7 @@ use Rattle.std.specs.Prelude.{IfOk}
 use Rattle.machine_model.specs.Machine.{Machine}
 use Rattle.resumed_start.specs.TextPages.{text_in}
 use Rattle.machine.proofs.Texts.{pages_few, ram_paged, text_states}
-use Rattle.machine.proofs.text.Machine.text.Goals as goal
+use Rattle.machine.proofs.machine.Machine.text.Goals as goal
 
 pub text_of-requires-clause-size : goal.text_of-requires-clause-size
 text_of-requires-clause-size c = ram_paged c.self.inside.parts c.self.invariant.state c.self.invariant.stands
