@@ -79,6 +79,23 @@ build_others() {
 }
 
 # A small file system with one file, the same bytes each time.
+# symbol NAME: its virtual address in the kernel.
+symbol() {
+    "${CROSS_COMPILE}nm" "$kernel/vmlinux" | sed -nE "s/^([0-9a-f]+) [A-Za-z] $1\$/0x\1/p"
+}
+
+# poke_script ADDRESS VALUE: a boot, then a write of an attacker's device to the eight bytes that have this virtual address.
+poke_script() {
+    printf 'auto 52000000\npoke 0x%x 0x%x\nauto 2000000000\n' $((($1 - 0xffffffff80000000 + 0x80200000) & ~7)) "$2"
+}
+
+# It writes `li a0, 666` over a system call, and another system call into the table of them.
+build_pokes() {
+    local getppid=173
+    poke_script "$(symbol sys_getppid)" 0x29a0051300000013 > "$out/poke_text.script"
+    poke_script $(($(symbol sys_call_table) + 8 * getppid)) "$(symbol sys_getpid)" > "$out/poke_table.script"
+}
+
 build_disk() {
     local disk=$out/virtio.disk id=53656356-6973-4f72-8000-000000000001
     export E2FSPROGS_FAKE_TIME=1767225600
@@ -125,6 +142,7 @@ unpack
 build_kernels
 build_modules
 build_others
+build_pokes
 build_disk
 : > "$out/measure.txt"
 grep -v '^#' "$here/guests.txt" | while read -r name harts commands approved others _ _ command; do
