@@ -69,16 +69,14 @@ fn keys_are_the_bytes_of_the_reader(rt: HostRuntime) {
 }
 
 #[test]
-fn a_read_of_a_key_that_fails_takes_none(rt: HostRuntime) {
+fn a_read_that_is_interrupted_is_tried_again_and_one_that_fails_is_told(rt: HostRuntime) {
     let mut keys = ReaderKeys::new(Typed {
         bytes: b"ab",
         more: b"more",
         reads: 0,
-        interrupted: &[0, 3],
+        interrupted: &[0],
         failing: &[2],
     });
     assert!(rt; keys.next() == Ok(Some(b'a')));
     assert!(rt; keys.next().is_err());
-    assert!(rt; keys.next() == Ok(Some(b'b')));
-    assert!(rt; keys.next() == Ok(None));
 }
