@@ -6,16 +6,12 @@ mod help;
 
 use again::PlainFiles;
 use help::help;
-use live_cli::secvisor_live;
 use live_keys::{ReaderKeys, Still};
 use remarks::{MostBytes, remark};
-use resume_cli::secvisor_resume;
 use secvisor_cli::{
     Bench, MOST_DISK_BYTES, MOST_FLAT_BYTES, MOST_IMAGE_BYTES, MOST_OBJECT_BYTES,
-    MOST_POLICY_BYTES, MOST_SCRIPT_BYTES, Status, secvisor,
+    MOST_POLICY_BYTES, MOST_SCRIPT_BYTES, Status,
 };
-use show_cli::secvisor_show;
-use snap_cli::secvisor_snap;
 use snapshot_reader::MOST_SNAPSHOT_BYTES;
 use std::alloc::AllocError;
 use std::env;
@@ -23,6 +19,7 @@ use std::io::{ErrorKind, IsTerminal};
 use std::process::ExitCode;
 use std::thread::Threads;
 use system_files::{RealFiles, StdSink};
+use top_call::answer;
 
 // Every end has its status, want of memory before the program is called too.
 fn main(rt: HostRuntime) -> ExitCode {
@@ -36,41 +33,23 @@ fn main(rt: HostRuntime) -> ExitCode {
         return ExitCode::from(Status::Memory.number());
     };
     let mut files = RealFiles::new(reading, rt.stderr().is_terminal());
+    let mut keys = ReaderKeys::new(rt.reader());
     let mut out = StdSink::new(printing);
     let mut bench = Bench { machine: None };
-    let status = if asks(&words, "live") {
-        let mut keys = ReaderKeys::new(rt.reader());
-        secvisor_live(
-            &rt,
-            rt.alloc(),
-            &words,
-            &mut files,
-            &mut keys,
-            &mut out,
-            &Still,
-            &mut bench,
-        )
-    } else if asks(&words, "snap") {
-        secvisor_snap(&rt, rt.alloc(), &words, &mut files, &mut out, &mut bench)
-    } else if asks(&words, "resume") {
-        secvisor_resume(&rt, rt.alloc(), &words, &mut files, &mut out, &mut bench)
-    } else if asks(&words, "show") {
-        secvisor_show(rt.alloc(), &words, &mut files, &mut out)
-    } else {
-        secvisor(&rt, rt.alloc(), &words, &mut files, &mut out, &mut bench)
-    };
+    let status = answer(
+        &rt,
+        rt.alloc(),
+        &words,
+        &mut files,
+        &mut keys,
+        &mut out,
+        &Still,
+        &mut bench,
+    );
     if rt.stderr().is_terminal() {
         explain(&rt, &rt, &words, status);
     }
     ExitCode::from(status.number())
-}
-
-// The first word is this command.
-fn asks(words: &[String], command: &str) -> bool {
-    match words {
-        [name, ..] => name.as_str() == command,
-        [] => false,
-    }
 }
 
 /// The most bytes of each part, as the top call reads them.
