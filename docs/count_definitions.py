@@ -17,12 +17,12 @@ USE = re.compile(r'^(?:pub )?use (?:«?Rattle»?\.)([\w.«»+]+?)\.?(?:\{([^}]*)
 HEAD = re.compile(r'^(?:(?:abbrev|unfoldable|opaque) )*(?:pub )?(record|data)? ?([^\s(:]+)')
 
 LISTS = [
-    ('the laws of the guarantee', ['guarantee']),
+    ('the laws of the guarantee', ['laws_guarantee']),
     ('`run` and `vrun` with their laws', [
-        'command_plans.specs.CommandLine.run_judged', 'command_plans.specs.Plans.run_plan', 'program_laws.specs.ProgramLaw.GuardedRun',
-        'program_laws.specs.Starts.IsMeasuredStart', 'guarantee', 'run_laws']),
+        'cli_plans.specs.CommandLine.run_judged', 'cli_plans.specs.Plans.run_plan', 'laws_program.specs.ProgramLaw.GuardedRun',
+        'laws_program.specs.Starts.IsMeasuredStart', 'laws_guarantee', 'laws_invariants']),
     ('all commands with all laws of the program', [
-        'secvisor_cli', 'live_cli', 'snap_cli', 'resume_cli', 'show_cli', 'guarantee', 'run_laws', 'program_laws']),
+        'secvisor_cli', 'cli_live', 'cli_snap', 'cli_resume', 'cli_show', 'laws_guarantee', 'laws_invariants', 'laws_program']),
 ]
 
 

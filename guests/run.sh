@@ -5,7 +5,7 @@ cd "$(dirname "$0")" || exit 1
 what=$1
 program=$(command -v "${2:-secvisor}") || exit 1
 program=$(realpath "$program")
-crate=$(realpath ../crates/whole_runs)
+crate=$(realpath ../crates/test_runs)
 copy=$(mktemp -d)
 trap 'rm -rf "$copy"' EXIT
 cp "$crate"/data/* "$copy"

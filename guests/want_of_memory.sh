@@ -7,7 +7,7 @@ here=$(realpath "$(dirname "$0")")
 folder=$(mktemp -d)
 trap 'rm -rf "$folder"' EXIT
 cd "$folder" || exit 1
-cp "$here"/../crates/whole_runs/data/* .
+cp "$here"/../crates/test_runs/data/* .
 cc -shared -fPIC -O2 -o fail.so "$here/tools/fail_allocation.c" -ldl || exit 1
 failed=0
 

@@ -4,14 +4,14 @@ use Rattle.std.specs.Prelude.{◌==◌, min, None, bit_and}
 use Rattle.std.specs.Int.{bit_at}
 use Rattle.std.proofs.Math.Nat.{mod-lt, zero-div}
 use Rattle.std.proofs.lemmas.Nat.Bits.{bit_at_and}
-use Rattle.processor.specs.Bits.{bit}
-use Rattle.processor.specs.Traps.{takes_interrupts}
-use Rattle.processor.specs.HypervisorRegisters.{HypervisorRegisters, hip_value, virtual_number, is_taken, pending}
-use Rattle.processor.specs.declared.hregs.HRegs.{HRegs}
-use Rattle.processor.specs.declared.mode.Mode.{Mode}
-use Rattle.processor.specs.declared.lines.Lines.{Lines}
-use Rattle.processor.specs.declared.interrupt.Interrupt.{Interrupt}
-use Rattle.processor.specs.declared.interrupt.Interrupt.TheVariants.{External, Software, Timer}
+use Rattle.spec_processor.specs.Bits.{bit}
+use Rattle.spec_processor.specs.Traps.{takes_interrupts}
+use Rattle.spec_processor.specs.HypervisorRegisters.{HypervisorRegisters, hip_value, virtual_number, is_taken, pending}
+use Rattle.spec_processor.specs.declared.hregs.HRegs.{HRegs}
+use Rattle.spec_processor.specs.declared.mode.Mode.{Mode}
+use Rattle.spec_processor.specs.declared.lines.Lines.{Lines}
+use Rattle.spec_processor.specs.declared.interrupt.Interrupt.{Interrupt}
+use Rattle.spec_processor.specs.declared.interrupt.Interrupt.TheVariants.{External, Software, Timer}
 
 no_bit : (i : ℕ) → bit_at 0 i ≡ 0
 no_bit i = ap (λ (n : ℕ). n % 2) (zero-div (2 ^ i))

@@ -1,5 +1,5 @@
 -- The file of registers as its contracts see it: the hypervisor's registers, field by field.
-use Rattle.processor.specs.HypervisorRegisters.{HypervisorRegisters, IsLegal}
+use Rattle.spec_processor.specs.HypervisorRegisters.{HypervisorRegisters, IsLegal}
 use Rattle.csr_file.specs.declared.csrs.Csrs.TheInside.{Inside}
 
 abbrev pub registers_of : Inside → HypervisorRegisters

@@ -2,18 +2,18 @@
 
 ghost use Rattle.std.specs.Prelude.{◌≡◌, ◌^◌, ◌<◌, true};
 ghost use Rattle.std.specs.Result.{result_err};
-ghost use Rattle.processor.specs.HypervisorRegisters.{registers_at_boot, hip_value, at_guest_places, at_hypervisor_places, guest_alias, with_alias, is_hypervisor_number, refusal, csr_access, read_virtual, write_virtual, read_answer, after_write};
-ghost use Rattle.processor.specs.Registers.{legal_satp};
+ghost use Rattle.spec_processor.specs.HypervisorRegisters.{registers_at_boot, hip_value, at_guest_places, at_hypervisor_places, guest_alias, with_alias, is_hypervisor_number, refusal, csr_access, read_virtual, write_virtual, read_answer, after_write};
+ghost use Rattle.spec_processor.specs.Registers.{legal_satp};
 
 use crate::hypervisor::{
     HCOUNTEREN, HEDELEG, HGATP, HIDELEG, HIE, HIP, HSTATUS, HTINST, HTVAL, HVIP, VSATP, VSCAUSE,
     VSEPC, VSIE, VSIP, VSSCRATCH, VSSTATUS, VSTVAL, VSTVEC,
 };
 use crate::masks::{
-    INTERRUPT_BITS, MISALIGNED, SATP_BITS, STATUS_BITS, TIME_ENABLE, TIME_ENABLE_PLACE,
+    INTERRUPT_BITS, MISALIGNED, SATP_BITS, STATUS_BITS, TIME_ENABLE, TIME_ENABLE_BIT,
     TVEC_RESERVED, UXL, VIRTUAL_EXTERNAL, VIRTUAL_INTERRUPT_BITS, VIRTUAL_SOFTWARE, VIRTUAL_TIMER,
 };
-use processor::{BARE, Csr, CsrFault, HRegs, Lines, Mode, ROOT_MODE_PLACE, SV39, has_bit};
+use spec_processor::{BARE, Csr, CsrFault, HRegs, Lines, Mode, ROOT_MODE_SHIFT, SV39, has_bit};
 use std::marker::Model;
 
 /// The registers of one hart: those of the virtual supervisor, `scounteren`, the interrupts, and, from `sepc` on, those
@@ -38,7 +38,7 @@ pub struct Csrs {
 }
 
 impl Model for Csrs {
-    ghost use Rattle.processor.specs.HypervisorRegisters.{HypervisorRegisters};
+    ghost use Rattle.spec_processor.specs.HypervisorRegisters.{HypervisorRegisters};
 
     ghost Value = { HypervisorRegisters };
 
@@ -52,7 +52,7 @@ impl Model for Csrs {
 }
 
 /// Whether a number is one of the VS registers' or of the hypervisor's.
-#[tactic(auto, unfolding(processor::specs::HypervisorRegisters::is_hypervisor_number))]
+#[tactic(auto, unfolding(spec_processor::specs::HypervisorRegisters::is_hypervisor_number))]
 fn is_hypervisor_number(number: u16) -> bool
     ensures { result ≡ is_hypervisor_number number }
 {
@@ -86,16 +86,14 @@ fn refusal(mode: Mode, scounteren: u64, writes: bool, csr: Csr) -> Option<CsrFau
 {
     match (csr, mode) {
         (Csr::Time, _) if writes => Some(CsrFault::Illegal),
-        (Csr::Time, Mode::User) if !has_bit(scounteren, TIME_ENABLE_PLACE) => Some(
-            CsrFault::Virtual,
-        ),
+        (Csr::Time, Mode::User) if !has_bit(scounteren, TIME_ENABLE_BIT) => Some(CsrFault::Virtual),
         (Csr::Time, _) | (_, Mode::Kernel) => None,
         (_, Mode::User) => Some(CsrFault::Virtual),
     }
 }
 
 /// A register of interrupts as the guest sees it.
-#[tactic(auto, unfolding(processor::specs::HypervisorRegisters::guest_alias))]
+#[tactic(auto, unfolding(spec_processor::specs::HypervisorRegisters::guest_alias))]
 fn guest_alias(hideleg: u64, register: u64) -> u64
     ensures { result ≡ guest_alias hideleg register }
 {
@@ -120,7 +118,7 @@ pub fn at_hypervisor_places(bits: u64) -> u64
 }
 
 /// The register with the bits that `hideleg` has, of those given, written as the guest writes them.
-#[tactic(auto, unfolding(processor::specs::HypervisorRegisters::with_alias))]
+#[tactic(auto, unfolding(spec_processor::specs::HypervisorRegisters::with_alias))]
 fn with_alias(hideleg: u64, bits: u64, register: u64, value: u64) -> u64
     ensures { result ≡ with_alias hideleg bits register value }
 {
@@ -133,7 +131,7 @@ fn with_alias(hideleg: u64, bits: u64, register: u64, value: u64) -> u64
 fn with_satp(old: u64, value: u64) -> u64
     ensures { result ≡ legal_satp old value }
 {
-    match value >> ROOT_MODE_PLACE {
+    match value >> ROOT_MODE_SHIFT {
         BARE | SV39 => value & SATP_BITS,
         _ => old,
     }
@@ -141,7 +139,7 @@ fn with_satp(old: u64, value: u64) -> u64
 
 impl Csrs {
     /// The file at boot: every register is 0.
-    #[tactic(auto, unfolding(processor::specs::HypervisorRegisters::registers_at_boot))]
+    #[tactic(auto, unfolding(spec_processor::specs::HypervisorRegisters::registers_at_boot))]
     pub fn at_boot() -> Csrs
         ensures { result ≡ registers_at_boot }
     {
@@ -166,7 +164,7 @@ impl Csrs {
 
     /// The register that an access by a number reaches. An access that also writes is judged as a write. The fault is
     /// `Virtual` where supervisor mode without V would have the access, and else `Illegal`.
-    #[tactic(auto, unfolding(processor::specs::HypervisorRegisters::csr_access, processor::specs::HypervisorRegisters::reached_csr))]
+    #[tactic(auto, unfolding(spec_processor::specs::HypervisorRegisters::csr_access, spec_processor::specs::HypervisorRegisters::reached_csr))]
     #[inline(always)]
     pub fn access(&self, mode: Mode, number: u16, writes: bool) -> Result<Csr, CsrFault>
         ensures { result ≡ csr_access mode self.now number writes }
@@ -185,7 +183,7 @@ impl Csrs {
     }
 
     /// The guest's interrupts that are pending, each one place higher than in `sip`: `hvip` ORed with the wires.
-    #[tactic(auto, unfolding(processor::specs::HypervisorRegisters::hip_value))]
+    #[tactic(auto, unfolding(spec_processor::specs::HypervisorRegisters::hip_value))]
     pub fn hip(&self, lines: &Lines) -> u64
         ensures { result ≡ hip_value self.now.hvip lines.now }
     {
@@ -195,7 +193,7 @@ impl Csrs {
     }
 
     /// The value of a register that an access reaches, as the guest reads it.
-    #[tactic(auto, unfolding(processor::specs::HypervisorRegisters::read_virtual))]
+    #[tactic(auto, unfolding(spec_processor::specs::HypervisorRegisters::read_virtual))]
     pub fn value(&self, hideleg: u64, lines: &Lines, csr: Csr) -> u64
         ensures { result ≡ read_virtual hideleg self.now lines.now csr }
     {
@@ -215,7 +213,7 @@ impl Csrs {
     }
 
     /// Writes a register that an access reaches, as the guest writes it. No access writes the time.
-    #[tactic(auto, unfolding(processor::specs::HypervisorRegisters::write_virtual))]
+    #[tactic(auto, unfolding(spec_processor::specs::HypervisorRegisters::write_virtual))]
     #[inline(always)]
     pub fn set(&mut self, hideleg: u64, csr: Csr, value: u64)
         ensures { self.new ≡ write_virtual hideleg self.old csr value }
@@ -237,7 +235,7 @@ impl Csrs {
 
     /// Reads the register of a number, as the guest's `csrr` reads it in a mode with V = 1. The fault is `Virtual`
     /// where supervisor mode without V would have the access, and else `Illegal`.
-    #[tactic(auto, unfolding(processor::specs::HypervisorRegisters::read_answer))]
+    #[tactic(auto, unfolding(spec_processor::specs::HypervisorRegisters::read_answer))]
     pub fn read(&self, regs: &HRegs, lines: &Lines, number: u16) -> Result<u64, CsrFault>
         ensures { result ≡ read_answer regs.now self.now lines.now number }
     {
@@ -248,7 +246,7 @@ impl Csrs {
     /// Writes the register of a number, as the guest's `csrw` writes it in a mode with V = 1: the bits that may stand
     /// there, and nothing else of the file. The fault is as for `read`, and a write to the time is `Illegal`; then
     /// nothing changes.
-    #[tactic(auto, unfolding(processor::specs::HypervisorRegisters::after_write))]
+    #[tactic(auto, unfolding(spec_processor::specs::HypervisorRegisters::after_write))]
     pub fn write(&mut self, regs: &HRegs, number: u16, value: u64) -> Result<(), CsrFault>
         ensures refused { result_err result ≡ result_err (csr_access regs.now.mode self.old number true) }
         ensures after { self.new ≡ after_write regs.now self.old number value }

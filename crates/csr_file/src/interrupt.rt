@@ -1,12 +1,12 @@
 // Which interrupt is taken.
 
 ghost use Rattle.std.specs.Prelude.{◌≡◌};
-ghost use Rattle.processor.specs.HypervisorRegisters.{is_taken, pending};
-ghost use Rattle.processor.specs.Traps.{takes_interrupts};
+ghost use Rattle.spec_processor.specs.HypervisorRegisters.{is_taken, pending};
+ghost use Rattle.spec_processor.specs.Traps.{takes_interrupts};
 
 use crate::csrs::Csrs;
-use crate::masks::SIE_PLACE;
-use processor::{HRegs, Interrupt, Lines, Mode, has_bit};
+use crate::masks::SIE_BIT;
+use spec_processor::{HRegs, Interrupt, Lines, Mode, has_bit};
 
 /// Whether a hart takes delegated interrupts: user mode always, kernel mode where SIE of `vsstatus` is set.
 fn takes_interrupts(mode: Mode, vsstatus: u64) -> bool
@@ -14,12 +14,12 @@ fn takes_interrupts(mode: Mode, vsstatus: u64) -> bool
 {
     match mode {
         Mode::User => true,
-        Mode::Kernel => has_bit(vsstatus, SIE_PLACE),
+        Mode::Kernel => has_bit(vsstatus, SIE_BIT),
     }
 }
 
 /// Whether an interrupt is taken: it is pending and enabled, and where it is delegated, the guest takes interrupts.
-#[tactic(auto, unfolding(processor::specs::HypervisorRegisters::is_taken))]
+#[tactic(auto, unfolding(spec_processor::specs::HypervisorRegisters::is_taken))]
 fn is_taken(csrs: &Csrs, regs: &HRegs, lines: &Lines, interrupt: Interrupt) -> bool
     ensures { result ≡ is_taken regs.now.hideleg regs.now.mode csrs.now lines.now interrupt }
 {
@@ -32,7 +32,7 @@ fn is_taken(csrs: &Csrs, regs: &HRegs, lines: &Lines, interrupt: Interrupt) -> b
 /// The interrupt that a hart takes before its next instruction, the first of external, software and timer. None exactly
 /// where none is deliverable: one that is delegated waits until the guest takes interrupts, and one that isn't is taken
 /// at once.
-#[tactic(auto, unfolding(processor::specs::HypervisorRegisters::pending))]
+#[tactic(auto, unfolding(spec_processor::specs::HypervisorRegisters::pending))]
 pub fn pending(csrs: &Csrs, regs: &HRegs, lines: &Lines) -> Option<Interrupt>
     ensures { result ≡ pending regs.now csrs.now lines.now }
 {

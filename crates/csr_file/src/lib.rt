@@ -13,8 +13,7 @@ pub use csrs::{Csrs, at_guest_places, at_hypervisor_places};
 pub use entry::{into_guest, into_hypervisor, return_to_guest, target};
 pub use interrupt::pending;
 pub use masks::{
-    INTERRUPT_BITS, MISALIGNED, MXR_PLACE, SATP_BITS, SIE, SIE_PLACE, SOFTWARE_INTERRUPT, SPIE,
-    SPIE_PLACE, SPP, SPP_PLACE, STATUS_BITS, SUM_PLACE, TIME_ENABLE, TVEC_RESERVED,
-    VIRTUAL_SOFTWARE,
+    INTERRUPT_BITS, MISALIGNED, MXR_BIT, SATP_BITS, SIE, SIE_BIT, SOFTWARE_INTERRUPT, SPIE,
+    SPIE_BIT, SPP, SPP_BIT, STATUS_BITS, SUM_BIT, TIME_ENABLE, TVEC_RESERVED, VIRTUAL_SOFTWARE,
 };
-pub use processor::CsrFault;
+pub use spec_processor::CsrFault;

@@ -1,11 +1,11 @@
 -- What a device may do to memory: one bit for each page of RAM says whether it may be written. This project's own.
 use Rattle.std.specs.Prelude.{ℕ, Bool, List, length, if◌then◌else◌, Result, Ok, Err}
-use Rattle.processor.specs.Bytes.{in_ram, page_of, overwrite, part, ram_place}
-use Rattle.processor.specs.Regions.{Region}
-use Rattle.reference.specs.Disk.{is_writable}
-use Rattle.reference.specs.Move.{Move}
+use Rattle.spec_processor.specs.Bytes.{in_ram, page_of, overwrite, part, ram_offset}
+use Rattle.spec_processor.specs.Regions.{Region}
+use Rattle.spec_reference.specs.Disk.{is_writable}
+use Rattle.spec_reference.specs.Move.{Move}
 use Rattle.dma_guard.specs.declared.DmaRefused.{DmaRefused}
-use Rattle.dma_guard.specs.declared.port.Beaten.{Beaten}
+use Rattle.dma_guard.specs.declared.port.DmaStep.{DmaStep}
 
 -- what a device is answered that writes n bytes at a guest-physical address, all in one page's span
 unfoldable pub write_answer : List ℕ → List Bool → (gpa n : ℕ) → Result (Unit {0}) DmaRefused
@@ -16,7 +16,7 @@ write_answer ram bits gpa n =
 
 -- the region with bytes of RAM written
 abbrev pub with_written : Region → ℕ → List ℕ → Region
-with_written r gpa bytes = record r { ram = overwrite r.ram (ram_place gpa) bytes }
+with_written r gpa bytes = record r { ram = overwrite r.ram (ram_offset gpa) bytes }
 
 -- the region after that: it changes where nothing is refused
 unfoldable pub after_write : Region → List Bool → ℕ → List ℕ → Region
@@ -31,17 +31,17 @@ read_answer ram gpa n = if in_ram ram gpa n then Ok tt else Err DmaRefused.OutOf
 
 -- what it has read, or what stood in its place before
 unfoldable pub after_read : List ℕ → ℕ → List ℕ → List ℕ
-after_read ram gpa before = if in_ram ram gpa (length before) then part ram (ram_place gpa) (length before) else before
+after_read ram gpa before = if in_ram ram gpa (length before) then part ram (ram_offset gpa) (length before) else before
 
 -- ---- beats
 
 -- what a beat tells of its move
-abbrev pub beat_of : Move → Beaten
-beat_of Move.Idle = Beaten.Idle
-beat_of (Move.FromRam gpa) = Beaten.Read gpa
-beat_of (Move.IntoRam gpa bytes) = Beaten.Wrote gpa (length bytes)
-beat_of (Move.DeniedAt gpa) = Beaten.Denied gpa
-beat_of Move.OutsideRam = Beaten.Range
+abbrev pub beat_of : Move → DmaStep
+beat_of Move.Idle = DmaStep.Idle
+beat_of (Move.FromRam gpa) = DmaStep.Read gpa
+beat_of (Move.IntoRam gpa bytes) = DmaStep.Wrote gpa (length bytes)
+beat_of (Move.DeniedAt gpa) = DmaStep.Denied gpa
+beat_of Move.OutsideRam = DmaStep.Range
 
 -- the region after a move
 abbrev pub after_move : Region → Move → Region

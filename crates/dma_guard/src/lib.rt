@@ -2,17 +2,17 @@
 #![tactic(auto)]
 
 ghost use Rattle.std.specs.Prelude.{◌≡◌, ◌+◌, ◌<◌, ◌≤◌, ◌%◌, length, replicate, slice_set, IfOk, true};
-ghost use Rattle.processor.specs.Bytes.{low_bytes, page_size};
+ghost use Rattle.spec_processor.specs.Bytes.{low_bytes, page_size};
 ghost use Rattle.sv_types.specs.Schedule.{poke_size};
-ghost use Rattle.reference.specs.Attacker.{poke_move};
-ghost use Rattle.reference.specs.Disk.{is_writable};
+ghost use Rattle.spec_reference.specs.Attacker.{poke_move};
+ghost use Rattle.spec_reference.specs.Disk.{is_writable};
 ghost use Rattle.dma_guard.specs.Transfers.{write_answer, after_write, read_answer, after_read, beat_of, after_move};
 
 mod port;
 
 use host_mem::HostMem;
-pub use port::{Beaten, DiskPort};
-use processor::PAGE_SIZE;
+pub use port::{DiskPort, DmaStep};
+use spec_processor::PAGE_SIZE;
 use std::alloc::{AllocError, Global};
 use std::marker::Model;
 
@@ -85,21 +85,21 @@ impl DmaGuard {
     }
 
     /// A write of an attacker's device: eight bytes, little-endian. Nothing moves where the address is no multiple of 8.
-    #[tactic(auto, unfolding(reference::specs::Attacker::poke_move, crate::specs::Transfers::write_answer, crate::specs::Transfers::after_write))]
-    pub fn poke(&self, mem: &mut HostMem, gpa: u64, value: u64) -> Beaten
+    #[tactic(auto, unfolding(spec_reference::specs::Attacker::poke_move, crate::specs::Transfers::write_answer, crate::specs::Transfers::after_write))]
+    pub fn poke(&self, mem: &mut HostMem, gpa: u64, value: u64) -> DmaStep
         ensures told { result ≡ beat_of (poke_move mem.old.ram (is_writable self.now) gpa value) }
         ensures memory { mem.new ≡ after_move mem.old (poke_move mem.old.ram (is_writable self.now) gpa value) }
     {
         if gpa % POKE_BYTES != 0 {
-            return Beaten::Range;
+            return DmaStep::Range;
         }
         match self.write(mem, gpa, &low_8(value)) {
-            Ok(()) => Beaten::Wrote {
+            Ok(()) => DmaStep::Wrote {
                 gpa,
                 len: POKE_BYTES as u32,
             },
-            Err(DmaRefused::Protected { page: _ }) => Beaten::Denied { gpa },
-            Err(DmaRefused::OutOfRam) => Beaten::Range,
+            Err(DmaRefused::Protected { page: _ }) => DmaStep::Denied { gpa },
+            Err(DmaRefused::OutOfRam) => DmaStep::Range,
         }
     }
 

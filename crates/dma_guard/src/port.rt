@@ -1,7 +1,7 @@
 // What a block device is to the machine.
 ghost use Rattle.std.specs.Prelude.{◌≡◌, is_some, unwrap_or};
-ghost use Rattle.reference.specs.States.{Disk};
-ghost use Rattle.reference.specs.Disk.{is_writable, disk_bytes, disk_load, disk_store, disk_beat, disk_line};
+ghost use Rattle.spec_reference.specs.States.{Disk};
+ghost use Rattle.spec_reference.specs.Disk.{is_writable, disk_bytes, disk_load, disk_store, disk_beat, disk_line};
 ghost use Rattle.dma_guard.specs.Transfers.{beat_of, after_move};
 
 use crate::DmaGuard;
@@ -9,7 +9,7 @@ use host_mem::HostMem;
 
 /// What a beat did, or a write of an attacker's device.
 #[derive(Clone, Copy, PartialEq, Eq, Drop)]
-pub enum Beaten {
+pub enum DmaStep {
     /// Nothing: no transfer is under way.
     Idle,
     /// It moved bytes out of RAM.
@@ -37,7 +37,7 @@ pub trait DiskPort {
         ensures device { state self.new ≡ unwrap_or (disk_store (state self.old) offset width value) (state self.old) };
 
     /// One beat of the transfer under way, if there is one. It writes RAM through the guard alone.
-    fn beat(&mut self, guard: &DmaGuard, mem: &mut HostMem) -> Beaten
+    fn beat(&mut self, guard: &DmaGuard, mem: &mut HostMem) -> DmaStep
         ensures device { state self.new ≡ (disk_beat (state self.old) mem.old.ram (is_writable guard.now)).disk }
         ensures told { result ≡ beat_of (disk_beat (state self.old) mem.old.ram (is_writable guard.now)).move }
         ensures memory { mem.new ≡ after_move mem.old (disk_beat (state self.old) mem.old.ram (is_writable guard.now)).move };

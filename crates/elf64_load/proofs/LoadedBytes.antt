@@ -3,9 +3,9 @@ use Rattle.std.proofs.Common.{◌≡◌, ℕ, zero, suc, ◌+◌, ◌-◌, ◌*�
 use Rattle.std.specs.Prelude.{nat_le, nat_lt, ◌&&◌}
 use Rattle.std.proofs.lemmas.Bool.Decides.{nat_tests}
 use Rattle.std.proofs.lemmas.List.{places, get_or-append_right, ext_get_or, get_or_past}
-use Rattle.processor.specs.Bytes.{overwrite, with_padding, part, page_bytes, page_size, ram_place}
+use Rattle.spec_processor.specs.Bytes.{overwrite, with_padding, part, page_bytes, page_size, ram_offset}
 use Rattle.sv_types.specs.Kernel.{LoadedSegment, with_segment}
-use Rattle.processor_laws.proofs.ByteLemmas.{lt_or_le, length_overwrite, length_padded, length_part}
+use Rattle.laws_processor.proofs.ByteLemmas.{lt_or_le, length_overwrite, length_padded, length_part}
 use Rattle.elf64_load.specs.Images.{IsPlaced}
 
 -- ---- bytes, and zeros behind them
@@ -35,10 +35,10 @@ pub at_written : (list bytes : List ℕ) (at i : ℕ) → at ≤ length list →
 unfolding overwrite
 at_written list bytes at i within from before = search (rules, places)
 
-pub at_behind : (list bytes : List ℕ) (at i : ℕ) → at + length bytes ≤ length list → at + length bytes ≤ i
+pub at_after : (list bytes : List ℕ) (at i : ℕ) → at + length bytes ≤ length list → at + length bytes ≤ i
     → get_or (overwrite list at bytes) i 0 ≡ get_or list i 0
 unfolding overwrite
-at_behind list bytes at i within behind = search (rules, places)
+at_after list bytes at i within behind = search (rules, places)
 
 -- ---- a segment in RAM of a size
 
@@ -46,37 +46,37 @@ pub length_with_segment : (ram : List ℕ) (s : LoadedSegment) → IsPlaced (len
 length_with_segment ram s lies =
     let len = length_padded s.bytes s.memory lies.short in
     let inside = lies.inside in
-    length_overwrite ram (with_padding s.bytes s.memory) (ram_place s.gpa) (omega arith)
+    length_overwrite ram (with_padding s.bytes s.memory) (ram_offset s.gpa) (omega arith)
 
 -- a byte that isn't the segment's stays
 pub byte_elsewhere : (ram : List ℕ) (s : LoadedSegment) (i : ℕ) → IsPlaced (length ram) s
-    → nat_le (ram_place s.gpa) i && nat_lt i (ram_place s.gpa + s.memory) ≡ false
+    → nat_le (ram_offset s.gpa) i && nat_lt i (ram_offset s.gpa + s.memory) ≡ false
     → get_or (with_segment ram s) i 0 ≡ get_or ram i 0
 byte_elsewhere ram s i lies apart =
     let len = length_padded s.bytes s.memory lies.short in
     let inside = lies.inside in
-    elim (lt_or_le i (ram_place s.gpa)) [
-      | inl before ↦ at_before ram (with_padding s.bytes s.memory) (ram_place s.gpa) i (omega arith) before
+    elim (lt_or_le i (ram_offset s.gpa)) [
+      | inl before ↦ at_before ram (with_padding s.bytes s.memory) (ram_offset s.gpa) i (omega arith) before
       | inr from ↦
-          let behind : ram_place s.gpa + s.memory ≤ i = grind (arith, nat_tests) in
-          at_behind ram (with_padding s.bytes s.memory) (ram_place s.gpa) i (omega arith) (omega arith)
+          let behind : ram_offset s.gpa + s.memory ≤ i = grind (arith, nat_tests) in
+          at_after ram (with_padding s.bytes s.memory) (ram_offset s.gpa) i (omega arith) (omega arith)
     ]
 
 -- a byte that is the segment's, or a zero behind its memory, is its byte or the zero behind them
-pub byte_there : (ram : List ℕ) (s : LoadedSegment) (i : ℕ) → IsPlaced (length ram) s → ram_place s.gpa ≤ i → get_or ram i 0 ≡ 0
-    → get_or (with_segment ram s) i 0 ≡ get_or s.bytes (i - ram_place s.gpa) 0
+pub byte_there : (ram : List ℕ) (s : LoadedSegment) (i : ℕ) → IsPlaced (length ram) s → ram_offset s.gpa ≤ i → get_or ram i 0 ≡ 0
+    → get_or (with_segment ram s) i 0 ≡ get_or s.bytes (i - ram_offset s.gpa) 0
 byte_there ram s i lies from zero_before =
     let len = length_padded s.bytes s.memory lies.short in
     let inside = lies.inside in
     let short = lies.short in
-    elim (lt_or_le i (ram_place s.gpa + s.memory)) [
+    elim (lt_or_le i (ram_offset s.gpa + s.memory)) [
       | inl before ↦
-          at_written ram (with_padding s.bytes s.memory) (ram_place s.gpa) i (omega arith) from (omega arith)
-          ∙ at_padded s.bytes s.memory (i - ram_place s.gpa)
+          at_written ram (with_padding s.bytes s.memory) (ram_offset s.gpa) i (omega arith) from (omega arith)
+          ∙ at_padded s.bytes s.memory (i - ram_offset s.gpa)
       | inr behind ↦
-          let past : length s.bytes ≤ i - ram_place s.gpa = omega arith in
-          at_behind ram (with_padding s.bytes s.memory) (ram_place s.gpa) i (omega arith) (omega arith) ∙ zero_before
-          ∙ sym (get_or_past s.bytes (i - ram_place s.gpa) 0 past)
+          let past : length s.bytes ≤ i - ram_offset s.gpa = omega arith in
+          at_after ram (with_padding s.bytes s.memory) (ram_offset s.gpa) i (omega arith) (omega arith) ∙ zero_before
+          ∙ sym (get_or_past s.bytes (i - ram_offset s.gpa) 0 past)
     ]
 
 -- ---- a page

@@ -7,16 +7,16 @@ use Rattle.std.proofs.lemmas.Bool.Decides.{nat_tests}
 use Rattle.std.proofs.lemmas.List.{length-replicate}
 use Rattle.std.proofs.lemmas.List.Elements.{All-head, All-tail}
 use Rattle.std.proofs.Math.Bool.{or-true}
-use Rattle.processor.specs.Bytes.{with_padding, page_bytes, page_size, page_of, ram_base, ram_place}
+use Rattle.spec_processor.specs.Bytes.{with_padding, page_bytes, page_size, page_of, ram_base, ram_offset}
 use Rattle.sv_types.specs.Kernel.{LoadedSegment, with_segment, segments_ram, loaded_segment, kernel_segments, kernel_refusal, loaded_headers, table_count, segment_checks, is_executable, may_clash, text_is_shared, first_page, last_page, is_text_of, filled_part, text_page, text_page_in, text_pages, text_of}
 use Rattle.sv_types.specs.ApprovedPages.{numbers_from}
-use Rattle.processor.specs.Regions.{most_ram_pages}
+use Rattle.spec_processor.specs.Regions.{max_ram_pages}
 use Rattle.sv_types.specs.declared.kernel.ProgramHeader.{ProgramHeader}
 use Rattle.elf64_load.proofs.LoadedBytes.{length_with_segment, byte_elsewhere, byte_there, same_page, zero_at}
 use Rattle.elf64_load.specs.Headers.{HasMemory}
 use Rattle.elf64_load.proofs.FirstRefusals.{accepted_image, each_passed}
 use Rattle.elf64_load.proofs.Pages.{memory_of_loaded}
-use Rattle.processor_laws.proofs.ByteLemmas.{length_part}
+use Rattle.laws_processor.proofs.ByteLemmas.{length_part}
 use Rattle.sv_types.proofs.FileChecks.{Passed, segment_passed, accepted_headers}
 use Rattle.elf64_load.specs.Images.{IsPlaced}
 
@@ -25,7 +25,7 @@ pub record Sound (file : List ℕ) (size : ℕ) (h : ProgramHeader) : Type 0 whe
   pub lies : IsPlaced size (loaded_segment file h)
   pub in_ram : ram_base ≤ h.gpa
   pub memory : 0 < h.memory_size
-  pub whole : is_executable h ≡ true → ram_place h.gpa % page_size ≡ 0
+  pub whole : is_executable h ≡ true → ram_offset h.gpa % page_size ≡ 0
 
 -- a segment touches a page
 abbrev pub touches : ℕ → ProgramHeader → Bool
@@ -36,7 +36,7 @@ pub text_touches : (file : List ℕ) (size page : ℕ) (h : ProgramHeader) → S
 text_touches file size page h sound =
     let in_ram = sound.in_ram in
     let memory = sound.memory in
-    let last : nat_lt (page_size * page) (ram_place h.gpa + h.memory_size) ≡ nat_le page (last_page h) = grind (arith, nat_tests) in
+    let last : nat_lt (page_size * page) (ram_offset h.gpa + h.memory_size) ≡ nat_le page (last_page h) = grind (arith, nat_tests) in
     ap (λ (b : Bool). is_executable h && (nat_le (page_of h.gpa) page && b)) last
 
 -- ---- a byte of a page
@@ -51,10 +51,10 @@ byte_stays : (file ram : List ℕ) (page j : ℕ) (h : ProgramHeader) → j < pa
 byte_stays file ram page j h inside sound apart =
     let in_ram = sound.in_ram in
     let memory = sound.memory in
-    let same : h.gpa + h.memory_size - 1 - ram_base ≡ ram_place h.gpa + h.memory_size - 1 = omega arith in
+    let same : h.gpa + h.memory_size - 1 - ram_base ≡ ram_offset h.gpa + h.memory_size - 1 = omega arith in
     let apart_here = apart in
     byte_elsewhere ram (loaded_segment file h) (page_size * page + j) sound.lies
-    (byte_apart (ram_place h.gpa) h.memory_size page j inside (rw same at apart_here))
+    (byte_apart (ram_offset h.gpa) h.memory_size page j inside (rw same at apart_here))
 
 -- segments one behind the other
 abbrev with_segments : List ℕ → List ℕ → List ProgramHeader → List ℕ
@@ -66,13 +66,13 @@ sound_still file ram h hs sound =
     let len = length_with_segment ram (loaded_segment file h) (All-head (Sound file (length ram)) h hs sound).lies in
     rw len (All-tail (Sound file (length ram)) h hs sound)
 
-byte_stays_behind : (file ram : List ℕ) (page j : ℕ) (hs : List ProgramHeader) → j < page_size → All (Sound file (length ram)) hs
+byte_stays_after : (file ram : List ℕ) (page j : ℕ) (hs : List ProgramHeader) → j < page_size → All (Sound file (length ram)) hs
     → list_any (touches page) hs ≡ false
     → get_or (with_segments file ram hs) (page_size * page + j) 0 ≡ get_or ram (page_size * page + j) 0
-byte_stays_behind file ram page j [] inside sound apart = refl
-byte_stays_behind file ram page j (h ∷ hs) inside sound apart =
+byte_stays_after file ram page j [] inside sound apart = refl
+byte_stays_after file ram page j (h ∷ hs) inside sound apart =
     let here = or_parts (touches page h) (list_any (touches page) hs) apart in
-    byte_stays_behind file (with_segment ram (loaded_segment file h)) page j hs inside (sound_still file ram h hs sound) here.1
+    byte_stays_after file (with_segment ram (loaded_segment file h)) page j hs inside (sound_still file ram h hs sound) here.1
     ∙ byte_stays file ram page j h inside (All-head (Sound file (length ram)) h hs sound) here.0
 
 -- ---- the segment of a page of text
@@ -86,13 +86,13 @@ other_apart : (h k : ProgramHeader) (page : ℕ) → touches page h ≡ true →
 other_apart h k page here apart = grind (arith, nat_tests)
 
 -- the segments that don't clash with it don't touch the page
-clear_behind : (h : ProgramHeader) (page : ℕ) (hs : List ProgramHeader) → is_executable h ≡ true → touches page h ≡ true
+clear_after : (h : ProgramHeader) (page : ℕ) (hs : List ProgramHeader) → is_executable h ≡ true → touches page h ≡ true
     → list_any (may_clash h) hs ≡ false → list_any (touches page) hs ≡ false
-clear_behind h page [] executable here apart = refl
-clear_behind h page (k ∷ hs) executable here apart =
+clear_after h page [] executable here apart = refl
+clear_after h page (k ∷ hs) executable here apart =
     let parts = or_parts (may_clash h k) (list_any (may_clash h) hs) apart in
     let clear = other_apart h k page here (clash_parts (is_executable h) (is_executable k) _ executable parts.0) in
-    rw clear (clear_behind h page hs executable here parts.1)
+    rw clear (clear_after h page hs executable here parts.1)
 
 both_touch : (h k : ProgramHeader) (page : ℕ) → touches page h ≡ true → touches page k ≡ true
     → (nat_le (first_page h) (last_page k) && nat_le (first_page k) (last_page h)) ≡ true
@@ -129,12 +129,12 @@ text_byte file ram page j (h ∷ hs) s inside sound apart found zeros =
       | inl text ↦
           let same : s ≡ loaded_segment file h = let some = rw text at found in cc in
           let mine = and_parts (is_executable h) (touches page h) (sym (text_touches file (length ram) page h here) ∙ text) in
-          let from : ram_place h.gpa / page_size ≤ page = let t = mine.1 in grind (arith, nat_tests) in
+          let from : ram_offset h.gpa / page_size ≤ page = let t = mine.1 in grind (arith, nat_tests) in
           let whole = here.whole mine.0 in
-          byte_stays_behind file (with_segment ram (loaded_segment file h)) page j hs inside (sound_still file ram h hs sound)
-          (clear_behind h page hs mine.0 mine.1 parts.0)
+          byte_stays_after file (with_segment ram (loaded_segment file h)) page j hs inside (sound_still file ram h hs sound)
+          (clear_after h page hs mine.0 mine.1 parts.0)
           ∙ byte_there ram (loaded_segment file h) (page_size * page + j) here.lies (omega arith) zeros
-          ∙ ap (λ (i : ℕ). get_or (loaded_segment file h).bytes i 0) (place_in_segment (ram_place h.gpa) page j whole from)
+          ∙ ap (λ (i : ℕ). get_or (loaded_segment file h).bytes i 0) (place_in_segment (ram_offset h.gpa) page j whole from)
           ∙ sym (ap (λ (t : LoadedSegment). get_or t.bytes (page_size * (page - page_of t.gpa) + j) 0) same)
       | inr other ↦
           let rest = rw other at found in
@@ -221,7 +221,7 @@ text_loaded file ram_pages hs sound apart =
     passing (text_page ss) (page_bytes (with_segments file ram hs)) (λ page. list_any (is_text_of page) ss)
     (λ page text. page_found file ram ram_pages page hs size (λ i. zero_at (page_size * ram_pages) i) sound_here apart (find (is_text_of page) ss) refl (sym (found_or_none (is_text_of page) ss) ∙ text))
     (λ page none. page_none page (find (is_text_of page) ss) (sym (found_or_none (is_text_of page) ss) ∙ none))
-    (numbers_from 0 most_ram_pages)
+    (numbers_from 0 max_ram_pages)
 
 -- ---- a good file
 
@@ -229,12 +229,12 @@ sound_header : (file : List ℕ) (ram_pages : ℕ) (h : ProgramHeader) → Passe
 sound_header file ram_pages h passed memory =
     let in_file = passed.in_file in
     let short = passed.short in
-    let tests = and_parts (nat_le ram_base h.gpa) (nat_le (ram_place h.gpa + h.memory_size) (page_size * ram_pages)) passed.in_ram in
+    let tests = and_parts (nat_le ram_base h.gpa) (nat_le (ram_offset h.gpa + h.memory_size) (page_size * ram_pages)) passed.in_ram in
     let in_ram = leb-true ram_base h.gpa tests.0 in
     let bytes = length_part file h.offset h.file_size in_file in
     record {
       lies = record {
-        inside = leb-true (ram_place h.gpa + h.memory_size) (page_size * ram_pages) tests.1;
+        inside = leb-true (ram_offset h.gpa + h.memory_size) (page_size * ram_pages) tests.1;
         short = omega arith;
       };
       in_ram = in_ram;

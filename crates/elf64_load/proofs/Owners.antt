@@ -8,7 +8,7 @@ use Rattle.std.proofs.lemmas.List.{places}
 use Rattle.std.proofs.lemmas.List.Folds.{find_at}
 use Rattle.std.proofs.lemmas.Option.{slice_get-map}
 use Rattle.sv_types.specs.Kernel.{is_text_of, text_page, text_page_in}
-use Rattle.processor_laws.proofs.ByteLemmas.{lt_or_le}
+use Rattle.laws_processor.proofs.ByteLemmas.{lt_or_le}
 use Rattle.elf64_load.specs.Images.{segment_of, text_owner}
 use Rattle.elf64_load.specs.declared.image.Segment.{Segment}
 

@@ -8,11 +8,11 @@ use Rattle.elf64_load.specs.Headers.{HasMemory}
 use Rattle.std.proofs.lemmas.Grind.{flat_map-append}
 use Rattle.std.proofs.Math.ListN.{drop_of_length-le}
 use Rattle.elf64_sections.proofs.Numbers.{numbers-suc}
-use Rattle.processor.specs.Bytes.{part}
+use Rattle.spec_processor.specs.Bytes.{part}
 use Rattle.sv_types.specs.Kernel.{header_at, is_loaded, loaded_among, table_place}
 use Rattle.sv_types.specs.ApprovedPages.{numbers_from}
 use Rattle.sv_types.specs.declared.kernel.ProgramHeader.{ProgramHeader}
-use Rattle.processor_laws.proofs.ByteLemmas.{lt_or_le}
+use Rattle.laws_processor.proofs.ByteLemmas.{lt_or_le}
 
 pub flat_map-more : {X : Type 0} (f : ℕ → List X) (n : ℕ) → flat_map f (numbers_from 0 (n + 1)) ≡ flat_map f (numbers_from 0 n) ++ f n
 flat_map-more {X = X} f n =

@@ -81,16 +81,16 @@ joined : (e r a f b : Bool) → ((if e then r else f) || (if e then a else b)) �
 joined true r a f b = refl
 joined false r a f b = refl
 
-ends_behind : (k h : ProgramHeader) → HasMemory k → first_page h ≤ first_page k → nat_le (first_page h) (last_page k) ≡ true
-ends_behind k h memory order = grind (arith, nat_tests)
+ends_after : (k h : ProgramHeader) → HasMemory k → first_page h ≤ first_page k → nat_le (first_page h) (last_page k) ≡ true
+ends_after k h memory order = grind (arith, nat_tests)
 
-pub clash_behind : (k : ProgramHeader) (hs : List ProgramHeader) → HasMemory k → All (λ h. first_page h ≤ first_page k) hs
+pub clash_after : (k : ProgramHeader) (hs : List ProgramHeader) → HasMemory k → All (λ h. first_page h ≤ first_page k) hs
     → list_any (may_clash k) hs ≡ (if is_executable k then list_any (reaches (first_page k)) hs else list_any (text_reaches (first_page k)) hs)
-clash_behind k [] memory order = nothing (is_executable k)
-clash_behind k (h ∷ hs) memory order =
-    let ends = ends_behind k h memory (All-head (λ g. first_page g ≤ first_page k) h hs order) in
+clash_after k [] memory order = nothing (is_executable k)
+clash_after k (h ∷ hs) memory order =
+    let ends = ends_after k h memory (All-head (λ g. first_page g ≤ first_page k) h hs order) in
     let here = decided (is_executable k) (is_executable h) (reaches (first_page k) h) (nat_le (first_page h) (last_page k)) ends in
-    let rest = clash_behind k hs memory (All-tail (λ g. first_page g ≤ first_page k) h hs order) in
+    let rest = clash_after k hs memory (All-tail (λ g. first_page g ≤ first_page k) h hs order) in
     (λ i. here i || rest i)
     ∙ joined (is_executable k) (reaches (first_page k) h) (list_any (reaches (first_page k)) hs)
     (text_reaches (first_page k) h) (list_any (text_reaches (first_page k)) hs)
@@ -125,7 +125,7 @@ pub clash_seen : (done : List ProgramHeader) (end text_end : ℕ) (k : ProgramHe
 clash_seen done end text_end k swept memory order =
     let all = swept.all (first_page k) in
     let text = swept.text (first_page k) in
-    clash_behind k done memory order ∙ (λ i. if is_executable k then all i else text i) ∙ chosen (is_executable k) (first_page k) end text_end
+    clash_after k done memory order ∙ (λ i. if is_executable k then all i else text i) ∙ chosen (is_executable k) (first_page k) end text_end
 
 pub shared_now : (done : List ProgramHeader) (end text_end : ℕ) (k : ProgramHeader) → Swept done end text_end → HasMemory k
     → All (λ h. first_page h ≤ first_page k) done

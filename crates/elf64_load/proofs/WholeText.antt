@@ -5,8 +5,8 @@ use Rattle.std.proofs.lemmas.Bool.Decides.{nat_tests}
 use Rattle.std.proofs.lemmas.Bool.{cases_Bool}
 use Rattle.std.proofs.lemmas.List.{take-append-drop, append-nil, drop-drop, length-drop, length-take-le}
 use Rattle.std.proofs.Math.ListN.{drop_of_length-le}
-use Rattle.processor.specs.Bytes.{with_padding, page_of, ram_place, page_size}
-use Rattle.processor.specs.Regions.{most_ram_pages}
+use Rattle.spec_processor.specs.Bytes.{with_padding, page_of, ram_offset, page_size}
+use Rattle.spec_processor.specs.Regions.{max_ram_pages}
 use Rattle.sv_types.specs.ApprovedPages.{numbers_from}
 use Rattle.sv_types.specs.Kernel.{LoadedSegment, is_text_of, text_of, text_page, text_page_in}
 use Rattle.elf64_load.specs.Images.{IsWhole, is_text}
@@ -57,7 +57,7 @@ pages_are ss s only (page ∷ pages) =
 -- where the segment begins and how many pages it has
 record Spans (s : LoadedSegment) (first count : ℕ) : Type 0 where
   text : s.executable ≡ true
-  place : ram_place s.gpa ≡ page_size * first
+  place : ram_offset s.gpa ≡ page_size * first
   size : s.memory ≡ page_size * count
   filled : length s.bytes ≡ page_size * count
 
@@ -140,11 +140,11 @@ whole_text ss s only whole =
     let pages = whole.pages in
     let filled = whole.filled in
     let inside = whole.inside in
-    let spans : Spans s (ram_place s.gpa / page_size) (s.memory / page_size) = record {
+    let spans : Spans s (ram_offset s.gpa / page_size) (s.memory / page_size) = record {
       text = text_kept ss s only;
       place = omega (arith, first);
       size = omega (arith, pages);
       filled = filled ∙ omega (arith, pages);
     } in
-    sym (pages_are ss s only (numbers_from 0 most_ram_pages)
-    ∙ from_below s (ram_place s.gpa / page_size) (s.memory / page_size) spans most_ram_pages 0 (omega arith) (omega (arith, inside)))
+    sym (pages_are ss s only (numbers_from 0 max_ram_pages)
+    ∙ from_below s (ram_offset s.gpa / page_size) (s.memory / page_size) spans max_ram_pages 0 (omega arith) (omega (arith, inside)))

@@ -11,7 +11,7 @@ use Rattle.elf64_sections.specs.Sections.{Tables, sections_in_file, sections_of,
 use Rattle.elf64_sections.specs.declared.tables.Symbol.{Symbol}
 use Rattle.elf64_load.specs.Refusals.{Judged}
 use Rattle.sv_types.specs.Elf.{et_exec, st_bind, stb_global, shn_undef}
-use Rattle.sv_types.specs.Limits.{most_exports}
+use Rattle.sv_types.specs.Limits.{max_exports}
 
 -- its binding is global, and a section defines it
 abbrev pub is_defined_global : Symbol → Bool
@@ -41,7 +41,7 @@ export_of tables name = export_at name (address_of tables name)
 
 -- not too many of them
 abbrev pub if_few : List Export → Judged (List Export)
-if_few exports = if nat_lt most_exports (length exports) then Err ImageFault.TooManyNames else Ok exports
+if_few exports = if nat_lt max_exports (length exports) then Err ImageFault.TooManyNames else Ok exports
 
 abbrev pub exports_in : Option Tables → List (List ℕ) → Judged (List Export)
 exports_in None names = Err ImageFault.NoSymbols

@@ -1,15 +1,15 @@
 -- What callers see of an image's segments.
 use Rattle.std.specs.Prelude.{◌≡◌, ℕ, ◌+◌, ◌/◌, ◌%◌, ◌≤◌, Bool, List, length, map}
 use Rattle.std.specs.List.{position_or_len}
-use Rattle.processor.specs.Bytes.{page_size, ram_place}
-use Rattle.processor.specs.Regions.{most_ram_pages}
+use Rattle.spec_processor.specs.Bytes.{page_size, ram_offset}
+use Rattle.spec_processor.specs.Regions.{max_ram_pages}
 use Rattle.sv_types.specs.Kernel.{LoadedSegment, is_text_of}
 use Rattle.elf64_load.specs.declared.image.Segment.{Segment}
 use Rattle.elf64_load.specs.declared.image.KernelImage.{KernelImage}
 
 -- its memory lies in RAM of a size, and it has no more bytes than memory
 pub record IsPlaced (size : ℕ) (s : LoadedSegment) : Type 0 where
-  pub inside : ram_place s.gpa + s.memory ≤ size
+  pub inside : ram_offset s.gpa + s.memory ≤ size
   pub short : length s.bytes ≤ s.memory
 
 -- a segment, with its bytes as a list
@@ -34,7 +34,7 @@ is_text s = s.executable
 
 -- a segment of whole pages of RAM, of which the file has all bytes
 pub record IsWhole (s : LoadedSegment) : Type 0 where
-  pub first : ram_place s.gpa % page_size ≡ 0
+  pub first : ram_offset s.gpa % page_size ≡ 0
   pub pages : s.memory % page_size ≡ 0
   pub filled : length s.bytes ≡ s.memory
-  pub inside : ram_place s.gpa / page_size + s.memory / page_size ≤ most_ram_pages
+  pub inside : ram_offset s.gpa / page_size + s.memory / page_size ≤ max_ram_pages

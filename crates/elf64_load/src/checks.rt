@@ -11,7 +11,7 @@ use elf64_sections::elf::{
     E_PHENTSIZE, E_PHNUM, E_PHOFF, ET_EXEC, PF_W_BIT, PF_X_BIT, PROGRAM_HEADER_BYTES,
 };
 use elf64_sections::{double, file_refusal, half};
-use processor::{PAGE_BYTES, has_bit, is_in_ram};
+use spec_processor::{PAGE_BYTES, has_bit, is_in_ram};
 use std::alloc::{AllocError, Global};
 use sv_types::{ImageFault, ProgramHeader};
 

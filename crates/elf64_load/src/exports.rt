@@ -15,7 +15,7 @@ use elf64_sections::{
     Symbol, SymbolTables, file_refusal, name_at, section_headers, sections_in_file, symbol_at,
     symbol_count, symbol_tables,
 };
-use policy_limits::MOST_EXPORTS;
+use policy_limits::MAX_EXPORTS;
 use std::alloc::{AllocError, Global};
 use std::collections::BTreeMap;
 use sv_types::{Export, ImageFault, Name};
@@ -100,7 +100,7 @@ fn few_exports(
     ensures refused { IfErr result (Refuses (spec.exports_in (Some (tables_view tables.now)) names.now)) }
 {
     let exports = exports_in(alloc, tables, names)?;
-    if exports.len() > MOST_EXPORTS {
+    if exports.len() > MAX_EXPORTS {
         return Err(ElfRefusal::Fault(ImageFault::TooManyNames));
     }
     Ok(exports)

@@ -2,13 +2,13 @@
 
 ghost use Rattle.std.specs.Prelude.{◌≡◌, ℕ, ◌≤◌, ◌<◌, ◌&&◌, ◌++◌, nat_le, nat_lt, map, Some, length, slice_index, if◌then◌else◌, IfOk, OnOk};
 ghost use Rattle.sv_types.specs.Kernel.{is_text_of, filled_part, text_page, text_page_in, text_of};
-ghost use Rattle.processor.specs.Regions.{most_ram_pages};
-ghost use Rattle.processor.specs.Bytes.{page_size};
+ghost use Rattle.spec_processor.specs.Regions.{max_ram_pages};
+ghost use Rattle.spec_processor.specs.Bytes.{page_size};
 ghost use Rattle.elf64_load.specs.Images.{segment_of, segments_of, text_owner};
 
 use elf64_sections::push_zeros;
-use policy_limits::MOST_RAM_PAGES;
-use processor::{PAGE_BYTES, ram_place};
+use policy_limits::MAX_RAM_PAGES;
+use spec_processor::{PAGE_BYTES, ram_offset};
 use std::alloc::{AllocError, Global};
 
 /// A segment that is loaded: its bytes, which stay in the file, and zeros behind them up to the size in memory.
@@ -50,8 +50,8 @@ impl KernelImage<'_> {
     /// For each page the number of the first executable segment in which it lies, or of all segments where there is none.
     /// Fails where memory is wanting.
     pub fn page_owners(&self, alloc: Global) -> Result<Vec<usize>, AllocError>
-        ensures pages { IfOk result (λ owners. length owners.items ≡ most_ram_pages) }
-        ensures owners { IfOk result (λ owners. (page : ℕ) → page < most_ram_pages → slice_index owners.items page ≡ text_owner page (segments_of self.now)) }
+        ensures pages { IfOk result (λ owners. length owners.items ≡ max_ram_pages) }
+        ensures owners { IfOk result (λ owners. (page : ℕ) → page < max_ram_pages → slice_index owners.items page ≡ text_owner page (segments_of self.now)) }
     {
         text_owners(alloc, &self.segments)
     }
@@ -67,24 +67,24 @@ struct PageRange {
 // The pages of a segment's text.
 fn text_range(segment: &Segment) -> PageRange
     ensures ordered { result.first ≤ result.end }
-    ensures within { result.end ≤ most_ram_pages }
-    ensures text { (page : ℕ) → page < most_ram_pages → is_text_of page (segment_of segment.now) ≡ (nat_le result.first page && nat_lt page result.end) }
+    ensures within { result.end ≤ max_ram_pages }
+    ensures text { (page : ℕ) → page < max_ram_pages → is_text_of page (segment_of segment.now) ≡ (nat_le result.first page && nat_lt page result.end) }
 {
     if !segment.executable {
         return PageRange { first: 0, end: 0 };
     }
-    let place = ram_place(segment.gpa);
+    let place = ram_offset(segment.gpa);
     let end = (place as u128 + segment.memory as u128).div_ceil(PAGE_BYTES as u128);
     PageRange {
-        first: (place / PAGE_BYTES).min(u64::from(MOST_RAM_PAGES)) as usize,
-        end: end.min(u128::from(MOST_RAM_PAGES)) as usize,
+        first: (place / PAGE_BYTES).min(u64::from(MAX_RAM_PAGES)) as usize,
+        end: end.min(u128::from(MAX_RAM_PAGES)) as usize,
     }
 }
 
 // Writes a segment's number at the pages of its text.
 fn claim_pages(owners: &mut [usize], segment: &Segment, number: usize)
-    requires { length owners.old ≡ most_ram_pages }
-    ensures { (page : ℕ) → page < most_ram_pages → slice_index owners.new page ≡ (if is_text_of page (segment_of segment.now) then number else slice_index owners.old page) }
+    requires { length owners.old ≡ max_ram_pages }
+    ensures { (page : ℕ) → page < max_ram_pages → slice_index owners.new page ≡ (if is_text_of page (segment_of segment.now) then number else slice_index owners.old page) }
 {
     let range = text_range(segment);
     owners[range.first..range.end].fill(number);
@@ -99,10 +99,10 @@ fn pages_of_none(alloc: Global, pages: usize, number: usize) -> Result<Vec<usize
 
 // For each page the number of the first executable segment in which it lies, or of all segments where there is none.
 fn text_owners(alloc: Global, segments: &[Segment]) -> Result<Vec<usize>, AllocError>
-    ensures pages { IfOk result (λ owners. length owners.items ≡ most_ram_pages) }
-    ensures owners { IfOk result (λ owners. (page : ℕ) → page < most_ram_pages → slice_index owners.items page ≡ text_owner page (map segment_of segments.now)) }
+    ensures pages { IfOk result (λ owners. length owners.items ≡ max_ram_pages) }
+    ensures owners { IfOk result (λ owners. (page : ℕ) → page < max_ram_pages → slice_index owners.items page ≡ text_owner page (map segment_of segments.now)) }
 {
-    let mut owners = pages_of_none(alloc, MOST_RAM_PAGES as usize, segments.len())?;
+    let mut owners = pages_of_none(alloc, MAX_RAM_PAGES as usize, segments.len())?;
     'segments: for i in (0..segments.len()).rev() {
         claim_pages(&mut owners, &segments[i], i);
     }
@@ -111,11 +111,11 @@ fn text_owners(alloc: Global, segments: &[Segment]) -> Result<Vec<usize>, AllocE
 
 // The bytes of a page of a segment's that lie in the file.
 fn filled_part<'a>(page: usize, segment: &Segment<'a>) -> &'a [u8]
-    requires { page ≤ most_ram_pages }
+    requires { page ≤ max_ram_pages }
     ensures part { result.now ≡ filled_part page (segment_of segment.now) }
     ensures short { length result.now ≤ page_size }
 {
-    let place = ram_place(segment.gpa);
+    let place = ram_offset(segment.gpa);
     let start = (PAGE_BYTES * (page as u64).saturating_sub(place / PAGE_BYTES)) as usize;
     let bytes = segment.bytes;
     let from = start.min(bytes.len());
@@ -130,7 +130,7 @@ fn push_text_page(
     segments: &[Segment],
     owner: usize,
 ) -> Result<(), AllocError>
-    requires page { page ≤ most_ram_pages }
+    requires page { page ≤ max_ram_pages }
     requires owner { owner ≡ text_owner page (map segment_of segments.now) }
     ensures { OnOk result (text.new.items ≡ text.old.items ++ text_page (map segment_of segments.now) page) }
 {
@@ -142,7 +142,7 @@ fn push_text_page(
 
 // Adds a page of a segment's.
 fn push_filled_page(text: &mut Vec<u8>, page: usize, segment: &Segment) -> Result<(), AllocError>
-    requires { page ≤ most_ram_pages }
+    requires { page ≤ max_ram_pages }
     ensures { OnOk result (text.new.items ≡ text.old.items ++ text_page_in page (Some (segment_of segment.now))) }
 {
     let filled = filled_part(page, segment);

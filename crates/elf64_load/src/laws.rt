@@ -1,7 +1,7 @@
 // Laws of the definitions alone. A law takes no argument and does nothing; its clause is the theorem.
 
 ghost use Rattle.std.specs.Prelude.{◌≡◌, ℕ, List, None, flat_map};
-ghost use Rattle.processor.specs.Bytes.{page_bytes};
+ghost use Rattle.spec_processor.specs.Bytes.{page_bytes};
 ghost use Rattle.sv_types.specs.Kernel.{kernel_refusal, kernel_segments, segments_ram, text_of, text_pages};
 
 /// The text of a file that isn't refused is what RAM holds in the pages of its text, one behind the other in ascending

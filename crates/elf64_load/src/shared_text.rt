@@ -7,7 +7,7 @@ ghost use Rattle.sv_types.specs.Kernel.{first_page, last_page, text_is_shared};
 ghost use Rattle.elf64_load.specs.Headers.{HasMemory};
 
 use crate::checks::{end_of, is_executable};
-use processor::{PAGE_BYTES, RAM_BASE, page_of};
+use spec_processor::{PAGE_BYTES, RAM_BASE, page_of};
 use std::alloc::{AllocError, Global};
 use sv_types::ProgramHeader;
 

@@ -5,8 +5,8 @@ ghost use Rattle.sv_types.specs.Kernel.{text_of};
 ghost use Rattle.elf64_load.specs.Images.{IsWhole, is_text, segment_of, segments_of};
 
 use crate::image::{KernelImage, Segment};
-use policy_limits::MOST_RAM_PAGES;
-use processor::{PAGE_BYTES, is_in_ram, ram_place};
+use policy_limits::MAX_RAM_PAGES;
+use spec_processor::{PAGE_BYTES, is_in_ram, ram_offset};
 
 impl<'a> KernelImage<'a> {
     /// The text where it lies in the file as it is measured: one segment of whole pages, of which the file has all bytes.
@@ -42,9 +42,9 @@ fn only_text<'a>(segments: &[Segment<'a>]) -> Option<Segment<'a>>
 fn is_whole(segment: &Segment) -> bool
     ensures { result ≡ true → IsWhole (segment_of segment.now) }
 {
-    let ram_bytes = PAGE_BYTES * u64::from(MOST_RAM_PAGES);
+    let ram_bytes = PAGE_BYTES * u64::from(MAX_RAM_PAGES);
     is_in_ram(segment.gpa, segment.memory, ram_bytes)
-        && ram_place(segment.gpa) % PAGE_BYTES == 0
+        && ram_offset(segment.gpa) % PAGE_BYTES == 0
         && segment.memory % PAGE_BYTES == 0
         && segment.bytes.len() as u64 == segment.memory
 }

@@ -1,13 +1,13 @@
 -- Relocations that are judged good stand in the text, at instructions. So do their fields and the anchors of these, each
 -- field at a multiple of its bytes, and their bases are there.
 use Rattle.std.proofs.Common.{◌≡◌, ℕ, suc, ◌+◌, ◌*◌, ◌%◌, ◌^◌, ◌<◌, ◌≤◌, Bool, true, false, cond, List, [], ◌∷◌, ◌++◌, length, Option, Some, None, Ok, Err, refl, sym, subst, ◌∙◌, arith}
-use Rattle.processor.specs.Bytes.{page_size}
+use Rattle.spec_processor.specs.Bytes.{page_size}
 use Rattle.std.specs.Prelude.{◌&&◌, ◌||◌, ◌==◌, nat_le, nat_lt, if◌then◌else◌, find, slice_get}
 use Rattle.std.specs.List.{position_from}
 use Rattle.std.specs.Str.{bytes_eq}
 use Rattle.std.proofs.lemmas.Bool.{eqb-true, eq-eqb, or_left, or_right}
 use Rattle.std.proofs.lemmas.Bool.Decides.{nat_tests}
-use Rattle.processor.specs.Effects.{plus}
+use Rattle.spec_processor.specs.Effects.{plus}
 use Rattle.sv_types.specs.Policies.{site_size, is_low_part}
 use Rattle.sv_types.specs.declared.module.Site.{Site}
 use Rattle.sv_types.specs.declared.policy.Export.{Export}
@@ -160,8 +160,8 @@ record IsSound (total exports : ℕ) (j : Judging) : Type 0 where
   bases : (symbol : ℕ) → IfThere (HasBase exports) (symbol_target j.names symbol)
   highs : (place : ℕ) → IfThere (IsPlaced total) (j.high_at place)
 
-next_place : (total place : ℕ) → place + 8 ≤ total → total ≤ page_size * 1024 → (place + 4) % 2 ^ 64 ≡ place + 4
-next_place total place fits most = omega arith
+next_bit : (total place : ℕ) → place + 8 ≤ total → total ≤ page_size * 1024 → (place + 4) % 2 ^ 64 ≡ place + 4
+next_bit total place fits most = omega arith
 
 four_more : (place : ℕ) → place % 4 ≡ 0 → (place + 4) % 4 ≡ 0
 four_more place aligned = omega arith
@@ -169,7 +169,7 @@ four_more place aligned = omega arith
 call_sites : (total exports : ℕ) (r : Relocation) (t : Target) → r.place + 8 ≤ total → total ≤ page_size * 1024 → r.place % 4 ≡ 0 → HasBase exports t
     → Each (IsSiteOf total exports) (found_sites (call_fields r t))
 call_sites total exports r t fits most aligned based =
-    let next : plus r.place 4 ≡ r.place + 4 = next_place total r.place fits most in
+    let next : plus r.place 4 ≡ r.place + 4 = next_bit total r.place fits most in
     let at : IsPlace total r.place = record { below = omega (arith, fits); whole = aligned } in
     let at_next : IsPlace total (plus r.place 4) = subst (IsPlace total) (sym next) (record { below = omega (arith, fits); whole = four_more r.place aligned }) in (
       site_made total exports r.place PcrelHi20 t r.addend r.place most at aligned based at (eq-eqb r.place r.place refl),

@@ -1,6 +1,6 @@
 -- Lists that grow by one step.
 use Rattle.std.proofs.Common.{◌≡◌, ℕ, zero, suc, ◌+◌, ◌-◌, ◌<◌, ◌≤◌, Bool, true, false, cond, ◌≢◌, ◌%◌, ◌&&◌, ◌||◌, List, [], ◌∷◌, ◌++◌, length, drop, get_or, Option, Some, Ok, refl, ap, sym, ◌∙◌, arith, append_assoc}
-use Rattle.processor.specs.Bytes.{page_size}
+use Rattle.spec_processor.specs.Bytes.{page_size}
 use Rattle.std.specs.Prelude.{◌==◌, nat_le, if◌then◌else◌, find}
 use Rattle.std.specs.BTreeMap.{insert_entry}
 use Rattle.std.specs.Ordering.{nat_cmp}
@@ -13,7 +13,7 @@ use Rattle.sv_types.specs.declared.policy.Export.{Export}
 use Rattle.sv_types.specs.declared.module.Site.{Site}
 use Rattle.sv_types.specs.Steps.{◌>>=◌}
 use Rattle.elf64_sections.specs.declared.sections.SectionHeader.{SectionHeader}
-use Rattle.elf64_reloc.specs.Layouts.{padding, placed_behind, placed_from, placed_sections, ends_behind, ends_from}
+use Rattle.elf64_reloc.specs.Layouts.{padding, placed_after, placed_from, placed_sections, ends_after, ends_from}
 use Rattle.elf64_reloc.specs.Modules.{Judging, ordered_from, each_judged, fields_judged, found_sites, is_high_at, sites_of, text_behind, text_from}
 use Rattle.elf64_reloc.specs.Objects.{Object}
 use Rattle.elf64_reloc.specs.Refusals.{Judged}
@@ -72,18 +72,18 @@ all_at test (x ∷ xs) (suc i) d within all = all_at test xs i d (omega arith) (
 
 -- one section more behind those that have their places
 pub placed_more : (before new : List PlacedSection) (ends after : Ends) (placed : PlacedSection) (sections : List SectionHeader) (i : ℕ) (d : SectionHeader) → i < length sections
-    → new ≡ before ++ placed ∷ [] → placed ≡ placed_behind ends (get_or sections i d) → after ≡ ends_behind ends (get_or sections i d)
+    → new ≡ before ++ placed ∷ [] → placed ≡ placed_after ends (get_or sections i d) → after ≡ ends_after ends (get_or sections i d)
     → new ++ placed_from after (drop (i + 1) sections) ≡ before ++ placed_from ends (drop i sections)
 placed_more before new ends after placed sections i d within now is moved =
     let section = get_or sections i d in
     let rest = drop (i + 1) sections in
     ap (λ (ps : List PlacedSection). ps ++ placed_from after rest) (now ∙ ap (λ (p : PlacedSection). before ++ p ∷ []) is)
-    ∙ append_assoc before (placed_behind ends section ∷ []) (placed_from after rest)
-    ∙ ap (λ (e : Ends). before ++ placed_behind ends section ∷ placed_from e rest) moved
+    ∙ append_assoc before (placed_after ends section ∷ []) (placed_from after rest)
+    ∙ ap (λ (e : Ends). before ++ placed_after ends section ∷ placed_from e rest) moved
     ∙ ap (λ (l : List SectionHeader). before ++ placed_from ends l) (sym (drop_more sections i d within))
 
 pub ends_more : (ends after : Ends) (sections : List SectionHeader) (i : ℕ) (d : SectionHeader) → i < length sections
-    → after ≡ ends_behind ends (get_or sections i d)
+    → after ≡ ends_after ends (get_or sections i d)
     → ends_from after (drop (i + 1) sections) ≡ ends_from ends (drop i sections)
 ends_more ends after sections i d within moved =
     ap (λ (e : Ends). ends_from e (drop (i + 1) sections)) moved

@@ -1,7 +1,7 @@
 -- A module that is read is within the limits: its text is whole pages, at most 1,024, and its fields stand in it, in the
 -- order of their places, under bases that there are.
 use Rattle.std.proofs.Common.{◌≡◌, ℕ, ◌+◌, ◌-◌, ◌*◌, ◌/◌, ◌%◌, ◌^◌, ◌<◌, ◌≤◌, Bool, true, false, List, [], ◌∷◌, ◌++◌, length, map, Option, Some, None, Ok, Err, Ordering, Less, Equal, Greater, refl, ap, sym, subst, ◌∙◌, arith, length-append}
-use Rattle.processor.specs.Bytes.{page_size}
+use Rattle.spec_processor.specs.Bytes.{page_size}
 use Rattle.std.specs.Prelude.{◌&&◌, ◌||◌, ◌==◌, nat_le, nat_lt, if◌then◌else◌, Result, IfOk, slice_get}
 use Rattle.std.specs.BTreeMap.{insert_entry}
 use Rattle.std.specs.List.{list_all}
@@ -11,7 +11,7 @@ use Rattle.std.proofs.lemmas.Bool.Decides.{nat_tests}
 use Rattle.std.proofs.lemmas.List.{length-replicate, length-map}
 use Rattle.sv_types.specs.ApprovedPages.{numbers_from}
 use Rattle.sv_types.specs.Kernel.{first_refusal, file_checks}
-use Rattle.sv_types.specs.Policies.{is_low_part, site_size, module_pages_within, sites_count_within, place_within, is_aligned, base_within, anchor_within, site_within, site_end, field_end, sites_end, is_behind, next_site_within, each_within, sites_within}
+use Rattle.sv_types.specs.Policies.{is_low_part, site_size, module_pages_within, sites_count_within, place_within, is_aligned, base_within, anchor_within, site_within, site_end, field_end, sites_end, is_after, next_site_within, each_within, sites_within}
 use Rattle.sv_types.specs.declared.image_fault.HeaderFault.{HeaderFault}
 use Rattle.sv_types.specs.declared.module.Site.{Site}
 use Rattle.sv_types.specs.declared.policy.Export.{Export}
@@ -22,7 +22,7 @@ use Rattle.elf64_sections.proofs.Steps.{ok_same}
 use Rattle.elf64_reloc.specs.Layouts.{is_good_alignment, padding, no_ends, placed_sections, text_size}
 use Rattle.elf64_reloc.specs.Modules.{Module, ordered_from, ordered_sites, some_touch, is_too_large, fields_overlap, module_with, module_of, module_judged, sites_of, text_of, text_from, whole_pages, zeros, pages_of, module_fits}
 use Rattle.elf64_reloc.specs.ModuleViews.{module_view}
-use Rattle.elf64_reloc.specs.Objects.{Object, is_good_part, object_with, object_of, object_behind, object_judged}
+use Rattle.elf64_reloc.specs.Objects.{Object, is_good_part, object_with, object_of, object_after, object_judged}
 use Rattle.elf64_reloc.specs.Refusals.{Judged}
 use Rattle.elf64_reloc.specs.declared.fault.ObjectFault.{ObjectFault}
 use Rattle.elf64_reloc.specs.declared.read.ModuleImage.{ModuleImage}
@@ -96,18 +96,18 @@ end_of_last before site =
     let last : length (before ++ site ∷ []) - 1 ≡ length before = omega (arith, long) in
     ap (λ (n : ℕ). site_end (slice_get (before ++ site ∷ []) n)) last ∙ ap site_end (last_got before site)
 
-begins_behind : (place end : ℕ) → nat_lt place end ≡ false → nat_le end place ≡ true
-begins_behind place end test = grind (arith, nat_tests)
+begins_after : (place end : ℕ) → nat_lt place end ≡ false → nat_le end place ≡ true
+begins_after place end test = grind (arith, nat_tests)
 
 in_order : (pages exports : ℕ) (before sites : List Site) → Each (λ site. site_within pages exports site ≡ true) sites → some_touch (sites_end before) sites ≡ false
     → each_within (next_site_within pages exports) before sites ≡ true
 in_order pages exports before [] good apart = refl
 in_order pages exports before (site ∷ sites) good apart =
     let tests = or_parts (nat_lt site.offset (sites_end before)) (some_touch (field_end site) sites) apart in
-    let behind : is_behind before site ≡ true = begins_behind site.offset (sites_end before) tests.0 in
+    let behind : is_after before site ≡ true = begins_after site.offset (sites_end before) tests.0 in
     let rest : some_touch (sites_end (before ++ site ∷ [])) sites ≡ false = subst (λ (end : ℕ). some_touch end sites ≡ false) (sym (end_of_last before site)) tests.1 in
     and_from (next_site_within pages exports before site) (each_within (next_site_within pages exports) (before ++ site ∷ []) sites)
-    (and_from (site_within pages exports site) (is_behind before site) good.0 behind) (in_order pages exports (before ++ site ∷ []) sites good.1 rest)
+    (and_from (site_within pages exports site) (is_after before site) good.0 behind) (in_order pages exports (before ++ site ∷ []) sites good.1 rest)
 
 -- ---- the pages of the text
 
@@ -268,7 +268,7 @@ with_sections file true o test e short =
     with_parts file (list_all (is_good_part file) (sections_of file)) o refl e short (table_fits _ (sections_place file) (sections_count file) (length file) test)
 with_sections file false o test e short = absurd (cc e)
 
-behind : (fault : Option HeaderFault) (file : List ℕ) (o : Object) → object_behind fault file ≡ Ok o → length file ≤ 2 ^ 32 → IsShort o
+behind : (fault : Option HeaderFault) (file : List ℕ) (o : Object) → object_after fault file ≡ Ok o → length file ≤ 2 ^ 32 → IsShort o
 behind (Some fault) file o e short = absurd (cc e)
 behind None file o e short = with_sections file (sections_in_file file) o refl e short
 

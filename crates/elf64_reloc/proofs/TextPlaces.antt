@@ -1,16 +1,16 @@
 -- The sections of text stand in the text, one behind the other. In a short file no place goes beyond 64 bits.
 use Rattle.std.proofs.Common.{◌≡◌, ℕ, zero, suc, ◌+◌, ◌*◌, ◌%◌, ◌^◌, ◌<◌, ◌≤◌, Bool, true, false, List, [], ◌∷◌, ◌++◌, length, take, drop, Option, Some, None, refl, ap, sym, subst, ◌∙◌, arith, length-append, length-take, length-drop}
-use Rattle.processor.specs.Bytes.{page_size}
+use Rattle.spec_processor.specs.Bytes.{page_size}
 use Rattle.std.specs.Prelude.{◌&&◌, ◌||◌, ◌==◌, if◌then◌else◌, flat_map, slice_get}
 use Rattle.std.specs.List.{list_all}
 use Rattle.std.proofs.lemmas.Bool.{and_parts, eqb-true, leb-true}
 use Rattle.std.proofs.lemmas.List.{length-replicate}
-use Rattle.processor.specs.Bits.{bit}
+use Rattle.spec_processor.specs.Bits.{bit}
 use Rattle.sv_types.specs.ApprovedPages.{numbers_from}
-use Rattle.processor.specs.Effects.{plus}
+use Rattle.spec_processor.specs.Effects.{plus}
 use Rattle.elf64_sections.specs.Sections.{part_in_file, section_bytes}
 use Rattle.elf64_sections.specs.declared.sections.SectionHeader.{SectionHeader}
-use Rattle.elf64_reloc.specs.Layouts.{is_good_alignment, space_of, padding, place_behind, ends_with, placed_behind, ends_behind, placed_from, ends_from}
+use Rattle.elf64_reloc.specs.Layouts.{is_good_alignment, space_of, padding, place_after, ends_with, placed_after, ends_after, placed_from, ends_from}
 use Rattle.elf64_reloc.specs.Modules.{zeros, text_behind, text_from}
 use Rattle.elf64_reloc.specs.Objects.{is_good_part}
 use Rattle.elf64_reloc.specs.Relocations.{is_text, relocation_at, kept_at, relocations_in, relocations_of_home, relocations_of, all_relocations}
@@ -76,23 +76,23 @@ text_in_file file s is good =
 -- ---- one section more
 
 -- the most that a section adds to a text, with the zeros in front of it
-abbrev pub most_added : ℕ
-most_added = 2 ^ 32 + page_size
+abbrev pub max_added : ℕ
+max_added = 2 ^ 32 + page_size
 
 -- the end of the text behind a section
-abbrev end_behind : Ends → SectionHeader → Space → ℕ
-end_behind ends s Text = ends.text + padding ends.text s.alignment + s.size
-end_behind ends s Data = ends.text
-end_behind ends s Elsewhere = ends.text
+abbrev end_after : Ends → SectionHeader → Space → ℕ
+end_after ends s Text = ends.text + padding ends.text s.alignment + s.size
+end_after ends s Data = ends.text
+end_after ends s Elsewhere = ends.text
 
-sum_is_whole : (end gap size : ℕ) → gap ≤ page_size → size ≤ 2 ^ 32 → end + most_added < 2 ^ 64 → ((end + gap) % 2 ^ 64 + size) % 2 ^ 64 ≡ end + gap + size
+sum_is_whole : (end gap size : ℕ) → gap ≤ page_size → size ≤ 2 ^ 32 → end + max_added < 2 ^ 64 → ((end + gap) % 2 ^ 64 + size) % 2 ^ 64 ≡ end + gap + size
 sum_is_whole end gap size few small room = omega arith
 
-place_is_whole : (end gap : ℕ) → gap ≤ page_size → end + most_added < 2 ^ 64 → (end + gap) % 2 ^ 64 ≡ end + gap
+place_is_whole : (end gap : ℕ) → gap ≤ page_size → end + max_added < 2 ^ 64 → (end + gap) % 2 ^ 64 ≡ end + gap
 place_is_whole end gap few room = omega arith
 
-end_by : (ends : Ends) (s : SectionHeader) (space : Space) → (space ≡ Text → s.size ≤ 2 ^ 32) → padding ends.text s.alignment ≤ page_size → ends.text + most_added < 2 ^ 64
-    → (ends_with ends space (plus (place_behind ends space s) s.size)).text ≡ end_behind ends s space
+end_by : (ends : Ends) (s : SectionHeader) (space : Space) → (space ≡ Text → s.size ≤ 2 ^ 32) → padding ends.text s.alignment ≤ page_size → ends.text + max_added < 2 ^ 64
+    → (ends_with ends space (plus (place_after ends space s) s.size)).text ≡ end_after ends s space
 end_by ends s Text small few room = sum_is_whole ends.text (padding ends.text s.alignment) s.size few (small refl) room
 end_by ends s Data small few room = refl
 end_by ends s Elsewhere small few room = refl
@@ -101,18 +101,18 @@ size_small : (file : List ℕ) (s : SectionHeader) → length file ≤ 2 ^ 32 �
 size_small file s short good is =
     let inside = text_in_file file s is good.in_file in omega (arith, inside, short)
 
-end_is : (file : List ℕ) (ends : Ends) (s : SectionHeader) → length file ≤ 2 ^ 32 → IsGood file s → ends.text + most_added < 2 ^ 64
-    → (ends_behind ends s).text ≡ end_behind ends s (space_of s)
-unfolding ends_behind
+end_is : (file : List ℕ) (ends : Ends) (s : SectionHeader) → length file ≤ 2 ^ 32 → IsGood file s → ends.text + max_added < 2 ^ 64
+    → (ends_after ends s).text ≡ end_after ends s (space_of s)
+unfolding ends_after
 end_is file ends s short good room =
     end_by ends s (space_of s) (size_small file s short good) (padding_small ends.text s.alignment good.alignment) room
 
 -- it is not in front of the end before it, nor far behind it
 record IsNear (before after : ℕ) : Type 0 where
   behind : before ≤ after
-  near : after ≤ before + most_added
+  near : after ≤ before + max_added
 
-near_by : (ends : Ends) (s : SectionHeader) (space : Space) → (space ≡ Text → s.size ≤ 2 ^ 32) → padding ends.text s.alignment ≤ page_size → IsNear ends.text (end_behind ends s space)
+near_by : (ends : Ends) (s : SectionHeader) (space : Space) → (space ≡ Text → s.size ≤ 2 ^ 32) → padding ends.text s.alignment ≤ page_size → IsNear ends.text (end_after ends s space)
 near_by ends s Text small few =
     let size : s.size ≤ 2 ^ 32 = small refl in
     text_near ends.text (padding ends.text s.alignment) s.size few size
@@ -122,24 +122,24 @@ near_by ends s Text small few =
 near_by ends s Data small few = record { behind = omega arith; near = omega arith }
 near_by ends s Elsewhere small few = record { behind = omega arith; near = omega arith }
 
-end_near : (file : List ℕ) (ends : Ends) (s : SectionHeader) → length file ≤ 2 ^ 32 → IsGood file s → ends.text + most_added < 2 ^ 64 → IsNear ends.text (ends_behind ends s).text
+end_near : (file : List ℕ) (ends : Ends) (s : SectionHeader) → length file ≤ 2 ^ 32 → IsGood file s → ends.text + max_added < 2 ^ 64 → IsNear ends.text (ends_after ends s).text
 end_near file ends s short good room =
     subst (λ (n : ℕ). IsNear ends.text n) (sym (end_is file ends s short good room))
     (near_by ends s (space_of s) (size_small file s short good) (padding_small ends.text s.alignment good.alignment))
 
 -- there is room for the sections that are left
-here_room : (end n : ℕ) → end + most_added * suc n < 2 ^ 64 → end + most_added < 2 ^ 64
+here_room : (end n : ℕ) → end + max_added * suc n < 2 ^ 64 → end + max_added < 2 ^ 64
 here_room end n room = omega arith
 
-rest_room : (before after n : ℕ) → IsNear before after → before + most_added * suc n < 2 ^ 64 → after + most_added * n < 2 ^ 64
+rest_room : (before after n : ℕ) → IsNear before after → before + max_added * suc n < 2 ^ 64 → after + max_added * n < 2 ^ 64
 rest_room before after n near room =
     let most = near.near in omega (arith, most, room)
 
 -- ---- the text has the length that its sections give it
 
-behind_by : (file text : List ℕ) (ends : Ends) (s : SectionHeader) (space : Space) → (space ≡ Text → s.offset + s.size ≤ length file) → length text ≡ ends.text
-    → length (if is_text space then (text ++ zeros (padding (length text) s.alignment)) ++ section_bytes file s else text) ≡ end_behind ends s space
-behind_by file text ends s Text inside same =
+after_by : (file text : List ℕ) (ends : Ends) (s : SectionHeader) (space : Space) → (space ≡ Text → s.offset + s.size ≤ length file) → length text ≡ ends.text
+    → length (if is_text space then (text ++ zeros (padding (length text) s.alignment)) ++ section_bytes file s else text) ≡ end_after ends s space
+after_by file text ends s Text inside same =
     let filled : length (zeros (padding (length text) s.alignment)) ≡ padding (length text) s.alignment = length-replicate (padding (length text) s.alignment) 0 in
     let bytes : length (section_bytes file s) ≡ s.size = whole_part file s.offset s.size (inside refl) in
     length-append (text ++ zeros (padding (length text) s.alignment)) (section_bytes file s)
@@ -149,52 +149,52 @@ behind_by file text ends s Text inside same =
   where
     whole_part : (list : List ℕ) (at n : ℕ) → at + n ≤ length list → length (take n (drop at list)) ≡ n
     whole_part list at n inside = length-take n (drop at list) ∙ omega (arith, length-drop at list, inside)
-behind_by file text ends s Data inside same = same
-behind_by file text ends s Elsewhere inside same = same
+after_by file text ends s Data inside same = same
+after_by file text ends s Elsewhere inside same = same
 
-pub text_length : (file text : List ℕ) (ends : Ends) (ss : List SectionHeader) → length file ≤ 2 ^ 32 → Each (IsGood file) ss → ends.text + most_added * length ss < 2 ^ 64
+pub text_length : (file text : List ℕ) (ends : Ends) (ss : List SectionHeader) → length file ≤ 2 ^ 32 → Each (IsGood file) ss → ends.text + max_added * length ss < 2 ^ 64
     → length text ≡ ends.text → length (text_from file text ss) ≡ (ends_from ends ss).text
 text_length file text ends [] short good room same = same
 text_length file text ends (s ∷ ss) short good room same =
     let here = here_room ends.text (length ss) room in
-    let behind : length (text_behind file text s) ≡ (ends_behind ends s).text =
-    behind_by file text ends s (space_of s) (λ is. text_in_file file s is good.0.in_file) same ∙ sym (end_is file ends s short good.0 here) in
-    text_length file (text_behind file text s) (ends_behind ends s) ss short good.1
-    (rest_room ends.text (ends_behind ends s).text (length ss) (end_near file ends s short good.0 here) room) behind
+    let behind : length (text_behind file text s) ≡ (ends_after ends s).text =
+    after_by file text ends s (space_of s) (λ is. text_in_file file s is good.0.in_file) same ∙ sym (end_is file ends s short good.0 here) in
+    text_length file (text_behind file text s) (ends_after ends s) ss short good.1
+    (rest_room ends.text (ends_after ends s).text (length ss) (end_near file ends s short good.0 here) room) behind
 
 -- ---- each section of text stands in it
 
-end_rises : (file : List ℕ) (ends : Ends) (ss : List SectionHeader) → length file ≤ 2 ^ 32 → Each (IsGood file) ss → ends.text + most_added * length ss < 2 ^ 64
+end_rises : (file : List ℕ) (ends : Ends) (ss : List SectionHeader) → length file ≤ 2 ^ 32 → Each (IsGood file) ss → ends.text + max_added * length ss < 2 ^ 64
     → ends.text ≤ (ends_from ends ss).text
 end_rises file ends [] short good room = omega arith
 end_rises file ends (s ∷ ss) short good room =
     let near = end_near file ends s short good.0 (here_room ends.text (length ss) room) in
     let here = near.behind in
-    let rest = end_rises file (ends_behind ends s) ss short good.1 (rest_room ends.text (ends_behind ends s).text (length ss) near room) in
+    let rest = end_rises file (ends_after ends s) ss short good.1 (rest_room ends.text (ends_after ends s).text (length ss) near room) in
     omega (arith, here, rest)
 
 abbrev IsInside : ℕ → PlacedSection → Type 0
 IsInside total p = p.space ≡ Text → p.place + p.size ≤ total
 
-inside_by : (total : ℕ) (ends : Ends) (s : SectionHeader) (space : Space) → padding ends.text s.alignment ≤ page_size → ends.text + most_added < 2 ^ 64 → end_behind ends s space ≤ total
-    → space ≡ Text → place_behind ends space s + s.size ≤ total
+inside_by : (total : ℕ) (ends : Ends) (s : SectionHeader) (space : Space) → padding ends.text s.alignment ≤ page_size → ends.text + max_added < 2 ^ 64 → end_after ends s space ≤ total
+    → space ≡ Text → place_after ends space s + s.size ≤ total
 inside_by total ends s Text few room most is =
     let place = place_is_whole ends.text (padding ends.text s.alignment) few room in
     subst (λ (n : ℕ). n + s.size ≤ total) (sym place) most
 inside_by total ends s Data few room most is = cc is
 inside_by total ends s Elsewhere few room most is = cc is
 
-pub all_inside : (file : List ℕ) (total : ℕ) (ends : Ends) (ss : List SectionHeader) → length file ≤ 2 ^ 32 → Each (IsGood file) ss → ends.text + most_added * length ss < 2 ^ 64
+pub all_inside : (file : List ℕ) (total : ℕ) (ends : Ends) (ss : List SectionHeader) → length file ≤ 2 ^ 32 → Each (IsGood file) ss → ends.text + max_added * length ss < 2 ^ 64
     → (ends_from ends ss).text ≤ total → Each (IsInside total) (placed_from ends ss)
-unfolding placed_behind
+unfolding placed_after
 all_inside file total ends [] short good room most = tt
 all_inside file total ends (s ∷ ss) short good room most =
     let here = here_room ends.text (length ss) room in
-    let rest = rest_room ends.text (ends_behind ends s).text (length ss) (end_near file ends s short good.0 here) room in
-    let rises = end_rises file (ends_behind ends s) ss short good.1 rest in
-    let ended : end_behind ends s (space_of s) ≤ total = subst (λ (n : ℕ). n ≤ total) (end_is file ends s short good.0 here) (omega (arith, rises, most)) in (
+    let rest = rest_room ends.text (ends_after ends s).text (length ss) (end_near file ends s short good.0 here) room in
+    let rises = end_rises file (ends_after ends s) ss short good.1 rest in
+    let ended : end_after ends s (space_of s) ≤ total = subst (λ (n : ℕ). n ≤ total) (end_is file ends s short good.0 here) (omega (arith, rises, most)) in (
       inside_by total ends s (space_of s) (padding_small ends.text s.alignment good.0.alignment) here ended,
-      all_inside file total (ends_behind ends s) ss short good.1 rest most,
+      all_inside file total (ends_after ends s) ss short good.1 rest most,
     )
 
 -- ---- each relocation belongs to a section of text

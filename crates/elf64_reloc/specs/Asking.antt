@@ -1,6 +1,6 @@
 -- What a relocation asks for. RISC-V ELF psABI, "Relocations".
 use Rattle.std.specs.Prelude.{ℕ, Bool, true, false, ◌*◌, ◌||◌, ◌==◌, if◌then◌else◌, Option, Some, None, option_map}
-use Rattle.processor.specs.Bytes.{instruction_size}
+use Rattle.spec_processor.specs.Bytes.{instruction_size}
 use Rattle.sv_types.specs.Policies.{site_size}
 use Rattle.sv_types.specs.RelocationKinds.{kind_of}
 use Rattle.sv_types.specs.declared.relocation_kind.RelocationKind.{RelocationKind}

@@ -6,7 +6,7 @@ use Rattle.std.specs.BTreeSet.{replace_key}
 use Rattle.std.specs.Cmp.Lexicographic.{slice_cmp}
 use Rattle.std.specs.List.{list_all}
 use Rattle.std.specs.Ordering.{nat_cmp}
-use Rattle.processor.specs.Effects.{plus, signed_word}
+use Rattle.spec_processor.specs.Effects.{plus, signed_word}
 use Rattle.sv_types.specs.Policies.{is_low_part, field_end, module_pages_within, sites_count_within, sites_within}
 use Rattle.sv_types.specs.declared.module.Site.{Site}
 use Rattle.sv_types.specs.declared.policy.Export.{Export}
@@ -27,9 +27,9 @@ use Rattle.elf64_reloc.specs.declared.fault.ObjectFault.{ObjectFault}
 use Rattle.elf64_reloc.specs.declared.relocations.Relocation.{Relocation}
 use Rattle.elf64_reloc.specs.declared.sites.Found.{Found}
 use Rattle.elf64_reloc.specs.declared.symbols.Target.{Target}
-use Rattle.processor.specs.Bytes.{page_size, instruction_size}
+use Rattle.spec_processor.specs.Bytes.{page_size, instruction_size}
 use Rattle.sv_types.specs.Elf.{shn_undef}
-use Rattle.sv_types.specs.Limits.{most_module_pages, most_module_sites, text_base, no_base}
+use Rattle.sv_types.specs.Limits.{max_module_pages, max_module_sites, text_base, no_base}
 
 -- ---- wanted names
 
@@ -191,7 +191,7 @@ module_fits exports m =
     module_pages_within (pages_of m.text) && sites_count_within 0 (length m.sites) && sites_within (pages_of m.text) exports m.sites
 
 abbrev pub is_too_large : List SectionHeader → List Site → Bool
-is_too_large sections sites = nat_lt most_module_sites (length sites) || nat_lt (page_size * most_module_pages) (text_size sections)
+is_too_large sections sites = nat_lt max_module_sites (length sites) || nat_lt (page_size * max_module_pages) (text_size sections)
 
 abbrev pub module_with : Object → List Site → Judged Module
 module_with o sites =

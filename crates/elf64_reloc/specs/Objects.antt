@@ -30,10 +30,10 @@ abbrev pub object_of : List ℕ → List SectionHeader → Judged Object
 object_of file sections =
     if list_all (is_good_part file) sections then object_with file sections (tables_of file sections) else Err ObjectFault.OutsideFile
 
-abbrev pub object_behind : Option HeaderFault → List ℕ → Judged Object
-object_behind (Some fault) file = Err (ObjectFault.Header fault)
-object_behind None file = if sections_in_file file then object_of file (sections_of file) else Err ObjectFault.SectionHeaders
+abbrev pub object_after : Option HeaderFault → List ℕ → Judged Object
+object_after (Some fault) file = Err (ObjectFault.Header fault)
+object_after None file = if sections_in_file file then object_of file (sections_of file) else Err ObjectFault.SectionHeaders
 
 -- a relocatable file
 unfoldable pub object_judged : List ℕ → Judged Object
-object_judged file = object_behind (first_refusal (file_checks et_rel file)) file
+object_judged file = object_after (first_refusal (file_checks et_rel file)) file

@@ -1,7 +1,7 @@
 -- The relocations of an object's text. ELF-64 Object File Format, "Relocations"; RISC-V ELF psABI, "Relocations".
 use Rattle.std.specs.Prelude.{ℕ, ◌*◌, ◌+◌, ◌/◌, Bool, true, false, List, [], ◌∷◌, length, flat_map, ◌==◌, if◌then◌else◌, Option, Some, None, slice_get}
-use Rattle.processor.specs.Bytes.{word}
-use Rattle.processor.specs.Effects.{plus}
+use Rattle.spec_processor.specs.Bytes.{word}
+use Rattle.spec_processor.specs.Effects.{plus}
 use Rattle.sv_types.specs.ApprovedPages.{numbers_from}
 use Rattle.elf64_sections.specs.Sections.{section_bytes}
 use Rattle.elf64_sections.specs.declared.sections.SectionHeader.{SectionHeader}

@@ -2,7 +2,7 @@
 use Rattle.std.specs.Prelude.{ℕ, List, ◌==◌, if◌then◌else◌, nat_le, nat_lt, Option, Some, None, slice_get}
 use Rattle.std.specs.List.{position_from}
 use Rattle.std.specs.Str.{bytes_eq}
-use Rattle.processor.specs.Effects.{plus}
+use Rattle.spec_processor.specs.Effects.{plus}
 use Rattle.sv_types.specs.declared.policy.Export.{Export}
 use Rattle.elf64_sections.specs.Sections.{Tables, symbol_count, symbol_at, name_at}
 use Rattle.elf64_sections.specs.declared.tables.Symbol.{Symbol}

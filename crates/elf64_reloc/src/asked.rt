@@ -5,7 +5,7 @@ ghost use Rattle.elf64_reloc.specs.Asking as spec;
 
 use elf64_sections::elf::{R_RISCV_CALL, R_RISCV_CALL_PLT};
 use policy_limits::site_size;
-use processor::INSTRUCTION_BYTES;
+use spec_processor::INSTRUCTION_BYTES;
 use sv_types::RelocationKind;
 
 /// The bytes of a call: two instructions.

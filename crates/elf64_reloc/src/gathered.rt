@@ -4,7 +4,7 @@ ghost use Rattle.std.specs.Prelude.{◌≡◌, ◌≤◌, ℕ, List, length, fin
 ghost use Rattle.std.specs.BTreeMap.{get};
 ghost use Rattle.std.specs.List.{list_all};
 ghost use Rattle.std.specs.Ordering.{nat_cmp};
-ghost use Rattle.sv_types.specs.Limits.{most_exports};
+ghost use Rattle.sv_types.specs.Limits.{max_exports};
 ghost use Rattle.elf64_sections.specs.NameTables.{number_by_name};
 ghost use Rattle.elf64_reloc.specs.Modules.{is_high_at};
 ghost use Rattle.elf64_reloc.specs.Objects.{is_good_part};
@@ -35,7 +35,7 @@ pub(crate) fn gather<'n>(
     placed: &[PlacedSection],
     exports: &'n [Export],
 ) -> Result<Gathered<'n>, AllocError>
-    requires few { length exports.now ≤ most_exports }
+    requires few { length exports.now ≤ max_exports }
     requires parts { IsTrue (list_all (is_good_part object.now.file.now) object.now.sections.items) }
     ensures relocations { IfOk result (λ gathered. gathered.relocations.items ≡ spec.all_relocations object.now.file.now placed.now object.now.sections.items) }
     ensures highs { IfOk result (λ gathered. (place : ℕ) → get nat_cmp gathered.highs place ≡ find (is_high_at place) gathered.relocations.items) }

@@ -6,11 +6,11 @@ ghost use Rattle.elf64_reloc.specs.Layouts as spec;
 
 use elf64_sections::SectionHeader;
 use elf64_sections::elf::{SHF_ALLOC_BIT, SHF_EXECINSTR_BIT, SHT_PROGBITS};
-use processor::{PAGE_BYTES, has_bit};
+use spec_processor::{PAGE_BYTES, has_bit};
 use std::alloc::{AllocError, Global};
 
 /// The largest alignment.
-const MOST_ALIGNMENT: u64 = PAGE_BYTES;
+const MAX_ALIGNMENT: u64 = PAGE_BYTES;
 
 /// What a section belongs to.
 #[derive(Clone, Copy, PartialEq, Eq, Drop)]
@@ -46,7 +46,7 @@ pub(crate) fn is_good_alignment(section: &SectionHeader) -> bool
     ensures { result ≡ spec.is_good_alignment section.now }
 {
     section.alignment == 0
-        || (section.alignment <= MOST_ALIGNMENT && MOST_ALIGNMENT % section.alignment == 0)
+        || (section.alignment <= MAX_ALIGNMENT && MAX_ALIGNMENT % section.alignment == 0)
 }
 
 /// Whether each section's alignment is a power of two up to the size of a page.
@@ -86,8 +86,8 @@ fn align_up(end: u64, alignment: u64) -> u64
     end.wrapping_add(padding(end, alignment))
 }
 
-fn place_behind(ends: Ends, space: Space, section: &SectionHeader) -> u64
-    ensures { result ≡ spec.place_behind ends space section.now }
+fn place_after(ends: Ends, space: Space, section: &SectionHeader) -> u64
+    ensures { result ≡ spec.place_after ends space section.now }
 {
     match space {
         Space::Text => align_up(ends.text, section.alignment),
@@ -109,24 +109,24 @@ fn ends_with(ends: Ends, space: Space, end: u64) -> Ends
     }
 }
 
-#[tactic(auto, unfolding(crate::specs::Layouts::placed_behind))]
-fn placed_behind(ends: Ends, section: &SectionHeader) -> PlacedSection
-    ensures { result ≡ spec.placed_behind ends section.now }
+#[tactic(auto, unfolding(crate::specs::Layouts::placed_after))]
+fn placed_after(ends: Ends, section: &SectionHeader) -> PlacedSection
+    ensures { result ≡ spec.placed_after ends section.now }
 {
     let space = space_of(section);
     PlacedSection {
         space,
-        place: place_behind(ends, space, section),
+        place: place_after(ends, space, section),
         size: section.size,
     }
 }
 
-#[tactic(auto, unfolding(crate::specs::Layouts::ends_behind))]
-fn ends_behind(ends: Ends, section: &SectionHeader) -> Ends
-    ensures { result ≡ spec.ends_behind ends section.now }
+#[tactic(auto, unfolding(crate::specs::Layouts::ends_after))]
+fn ends_after(ends: Ends, section: &SectionHeader) -> Ends
+    ensures { result ≡ spec.ends_after ends section.now }
 {
     let space = space_of(section);
-    let end = place_behind(ends, space, section).wrapping_add(section.size);
+    let end = place_after(ends, space, section).wrapping_add(section.size);
     ends_with(ends, space, end)
 }
 
@@ -141,8 +141,8 @@ pub(crate) fn lay_out(alloc: Global, sections: &[SectionHeader]) -> Result<Layou
     };
     let mut placed = Vec::new(alloc);
     'sections: for section in sections {
-        placed.push(placed_behind(ends, section))?;
-        ends = ends_behind(ends, section);
+        placed.push(placed_after(ends, section))?;
+        ends = ends_after(ends, section);
     }
     Ok(Layout {
         sections: placed,

@@ -2,7 +2,7 @@
 
 ghost use Rattle.std.specs.Prelude.{◌≤◌, length, IsTrue};
 ghost use Rattle.std.specs.List.{list_all};
-ghost use Rattle.sv_types.specs.Limits.{most_exports};
+ghost use Rattle.sv_types.specs.Limits.{max_exports};
 ghost use Rattle.elf64_reloc.specs.Objects.{is_good_part};
 
 use crate::gathered::gather;
@@ -26,7 +26,7 @@ pub fn refused_place(
     bytes: &[u8],
     exports: &[Export],
 ) -> Result<Option<String>, AllocError>
-    requires { length exports.now ≤ most_exports }
+    requires { length exports.now ≤ max_exports }
 {
     match read_object(alloc, bytes) {
         Ok(object) => object_place(alloc, &object, exports),
@@ -40,7 +40,7 @@ fn object_place(
     object: &Object,
     exports: &[Export],
 ) -> Result<Option<String>, AllocError>
-    requires few { length exports.now ≤ most_exports }
+    requires few { length exports.now ≤ max_exports }
     requires parts { IsTrue (list_all (is_good_part object.now.file.now) object.now.sections.items) }
 {
     let unaligned = object
@@ -60,7 +60,7 @@ fn relocation_place(
     placed: &[PlacedSection],
     exports: &[Export],
 ) -> Result<Option<String>, AllocError>
-    requires few { length exports.now ≤ most_exports }
+    requires few { length exports.now ≤ max_exports }
     requires parts { IsTrue (list_all (is_good_part object.now.file.now) object.now.sections.items) }
 {
     match refused_relocation(alloc, object, placed, exports)? {
@@ -76,7 +76,7 @@ fn refused_relocation(
     placed: &[PlacedSection],
     exports: &[Export],
 ) -> Result<Option<Relocation>, AllocError>
-    requires few { length exports.now ≤ most_exports }
+    requires few { length exports.now ≤ max_exports }
     requires parts { IsTrue (list_all (is_good_part object.now.file.now) object.now.sections.items) }
 {
     let gathered = gather(alloc, object, placed, exports)?;

@@ -4,7 +4,7 @@ ghost use Rattle.std.specs.Prelude.{◌≡◌, ◌≤◌, ◌^◌, [], Ok, IsTru
 ghost use Rattle.std.specs.BTreeMap.{get};
 ghost use Rattle.std.specs.Ordering.{nat_cmp};
 ghost use Rattle.std.specs.List.{list_all};
-ghost use Rattle.sv_types.specs.Limits.{most_exports};
+ghost use Rattle.sv_types.specs.Limits.{max_exports};
 ghost use Rattle.elf64_reloc.specs.Layouts.{is_good_alignment, placed_sections, text_size};
 ghost use Rattle.elf64_reloc.specs.Modules as spec;
 ghost use Rattle.elf64_reloc.specs.ModuleViews.{module_view};
@@ -22,8 +22,8 @@ use crate::relocations::Relocation;
 use crate::sites::{Judging, all_fields};
 use crate::symbols::Names;
 use crate::text::text_of;
-use policy_limits::{MOST_MODULE_PAGES, MOST_MODULE_SITES};
-use processor::PAGE_BYTES;
+use policy_limits::{MAX_MODULE_PAGES, MAX_MODULE_SITES};
+use spec_processor::PAGE_BYTES;
 use std::alloc::Global;
 use std::collections::BTreeMap;
 use sv_types::{Export, Site};
@@ -58,7 +58,7 @@ fn sites_of(
     placed: &[PlacedSection],
     exports: &[Export],
 ) -> Result<Vec<Site>, RelocRefusal>
-    requires few { length exports.now ≤ most_exports }
+    requires few { length exports.now ≤ max_exports }
     requires parts { IsTrue (list_all (is_good_part object.now.file.now) object.now.sections.items) }
     requires placed { placed.now ≡ placed_sections object.now.sections.items }
     ensures ok { IfOk result (λ sites. spec.sites_of exports.now (object_view object.now) ≡ Ok sites.items) }
@@ -86,7 +86,7 @@ fn module_with(
     ensures ok { IfOk result (λ image. spec.module_with (object_view object.now) sites.now ≡ Ok (module_view image)) }
     ensures refused { IfErr result (Refuses (spec.module_with (object_view object.now) sites.now)) }
 {
-    if sites.len() > MOST_MODULE_SITES || size > PAGE_BYTES * u64::from(MOST_MODULE_PAGES) {
+    if sites.len() > MAX_MODULE_SITES || size > PAGE_BYTES * u64::from(MAX_MODULE_PAGES) {
         return Err(RelocRefusal::Fault(ObjectFault::TooLarge));
     }
     let ordered = ordered_sites(alloc, sites)?;
@@ -109,7 +109,7 @@ fn module_of(
     object: &Object,
     exports: &[Export],
 ) -> Result<ModuleImage, RelocRefusal>
-    requires few { length exports.now ≤ most_exports }
+    requires few { length exports.now ≤ max_exports }
     requires parts { IsTrue (list_all (is_good_part object.now.file.now) object.now.sections.items) }
     ensures ok { IfOk result (λ image. spec.module_of exports.now (object_view object.now) ≡ Ok (module_view image)) }
     ensures refused { IfErr result (Refuses (spec.module_of exports.now (object_view object.now))) }
@@ -132,7 +132,7 @@ pub fn read_module(
     bytes: &[u8],
     exports: &[Export],
 ) -> Result<ModuleImage, RelocRefusal>
-    requires { length exports.now ≤ most_exports }
+    requires { length exports.now ≤ max_exports }
     ensures module { IfOk result (λ image. spec.module_judged bytes.now exports.now ≡ Ok (module_view image)) }
     ensures fits { length bytes.now ≤ 2 ^ 32 → IfOk result (λ image. spec.module_fits (length exports.now) (module_view image) ≡ true) }
     ensures refused { IfErr result (Refuses (spec.module_judged bytes.now exports.now)) }

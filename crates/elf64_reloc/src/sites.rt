@@ -14,7 +14,7 @@ use crate::refusal::RelocRefusal;
 use crate::relocations::Relocation;
 use crate::symbols::{Names, Target, symbol_target};
 use policy_limits::is_low_part;
-use processor::INSTRUCTION_BYTES;
+use spec_processor::INSTRUCTION_BYTES;
 use std::alloc::{AllocError, Global};
 use std::collections::BTreeMap;
 use sv_types::{NO_BASE, RelocationKind, Site, TEXT_BASE};

@@ -1,7 +1,7 @@
 // What symbols stand for.
 
 ghost use Rattle.std.specs.Prelude.{◌≡◌, ◌≤◌, ◌<◌, ℕ, List, length, Some, IfOk, option_map};
-ghost use Rattle.sv_types.specs.Limits.{most_exports};
+ghost use Rattle.sv_types.specs.Limits.{max_exports};
 ghost use Rattle.elf64_reloc.specs.Symbols as spec;
 ghost use Rattle.elf64_sections.specs.NameTables.{number_by_name};
 ghost use Rattle.elf64_reloc.specs.Views.{names_view};
@@ -33,7 +33,7 @@ pub(crate) fn export_bases<'a>(
     alloc: Global,
     exports: &'a [Export],
 ) -> Result<BTreeMap<&'a str, u16>, AllocError>
-    requires { length exports.now ≤ most_exports }
+    requires { length exports.now ≤ max_exports }
     ensures { IfOk result (λ bases. (name : List ℕ) → number_by_name bases name ≡ spec.export_base exports.now name) }
 {
     let mut bases = BTreeMap::new(alloc);

@@ -10,7 +10,7 @@ ghost use Rattle.elf64_reloc.specs.Views.{object_view};
 use crate::layout::{Space, padding, space_of};
 use crate::object::Object;
 use elf64_sections::{SectionHeader, part, push_zeros};
-use processor::PAGE_BYTES;
+use spec_processor::PAGE_BYTES;
 use std::alloc::{AllocError, Global};
 
 // Puts a section of text behind the text so far, at the next multiple of its alignment.

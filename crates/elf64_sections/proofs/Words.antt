@@ -3,7 +3,7 @@ use Rattle.std.proofs.Common.{◌≡◌, ℕ, zero, suc, ◌+◌, ◌-◌, ◌*�
 use Rattle.std.proofs.lemmas.List.{take_all}
 use Rattle.byteorder.specs.Endian.{little_from, little_number}
 use Rattle.byteorder.specs.Numbers.{little_from-cons}
-use Rattle.processor.specs.Bytes.{word, little_endian}
+use Rattle.spec_processor.specs.Bytes.{word, little_endian}
 
 number_of_front : (n : ℕ) (xs : List ℕ) → n ≤ length xs → little_from 0 n xs ≡ little_endian (take n xs)
 number_of_front zero xs h = refl

@@ -2,13 +2,13 @@
 use Rattle.std.specs.Prelude.{ℕ, ◌+◌, ◌*◌, ◌/◌, Bool, ◌&&◌, List, length, take, drop, map, find, ◌==◌, if◌then◌else◌, nat_le, nat_lt, Option, Some, None, slice_get}
 use Rattle.std.specs.List.{position_or_len}
 use Rattle.std.specs.Str.{is_utf8}
-use Rattle.processor.specs.Bytes.{word, part}
+use Rattle.spec_processor.specs.Bytes.{word, part}
 use Rattle.sv_types.specs.Policies.{is_between}
 use Rattle.sv_types.specs.ApprovedPages.{numbers_from}
 use Rattle.elf64_sections.specs.declared.sections.SectionHeader.{SectionHeader}
 use Rattle.elf64_sections.specs.declared.tables.Symbol.{Symbol}
 use Rattle.sv_types.specs.Elf.{e_shoff, e_shentsize, e_shnum, section_header_size, sh_type, sh_flags, sh_offset, sh_size, sh_link, sh_info, sh_addralign, sh_entsize, sht_symtab, sht_strtab, symbol_size, st_info, st_shndx, st_value}
-use Rattle.sv_types.specs.Limits.{most_name_bytes}
+use Rattle.sv_types.specs.Limits.{max_name_bytes}
 
 -- ---- section headers
 
@@ -101,7 +101,7 @@ symbols_of symbols = symbols_from symbols 0 (symbol_count symbols)
 
 -- 1 to 64 bytes of UTF-8 text
 abbrev pub is_name : List ℕ → Bool
-is_name bytes = is_between 1 most_name_bytes (length bytes) && is_utf8 bytes
+is_name bytes = is_between 1 max_name_bytes (length bytes) && is_utf8 bytes
 
 -- how many bytes stand in front of the first zero byte
 abbrev pub front_length : List ℕ → ℕ

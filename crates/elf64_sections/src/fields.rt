@@ -1,7 +1,7 @@
 // Fields of a file, the lowest byte first.
 
 ghost use Rattle.std.specs.Prelude.{◌≡◌, ◌+◌, ◌≤◌, length};
-ghost use Rattle.processor.specs.Bytes.{word};
+ghost use Rattle.spec_processor.specs.Bytes.{word};
 
 use byteorder::{ByteOrder, LittleEndian};
 

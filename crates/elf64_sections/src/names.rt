@@ -2,14 +2,14 @@
 
 ghost use Rattle.std.specs.Prelude.{◌≡◌, ◌≤◌, ◌==◌, Some, None, if◌then◌else◌, ◌<◌, IfSome, length, position, option_map};
 ghost use Rattle.std.specs.Str.{is_utf8};
-ghost use Rattle.sv_types.specs.Limits.{most_name_bytes};
+ghost use Rattle.sv_types.specs.Limits.{max_name_bytes};
 ghost use Rattle.elf64_sections.specs.Sections as spec;
 
 use std::str;
-use sv_types::MOST_NAME_BYTES;
+use sv_types::MAX_NAME_BYTES;
 
 /// The most bytes of a name, with the zero byte behind it.
-const MOST_BYTES: usize = MOST_NAME_BYTES + 1;
+const MAX_BYTES: usize = MAX_NAME_BYTES + 1;
 
 // Where the first zero byte stands.
 fn zero_byte(bytes: &[u8]) -> Option<usize>
@@ -31,9 +31,9 @@ fn text_of(bytes: &[u8]) -> Option<&str>
 fn name_in(bytes: &[u8]) -> Option<&str>
     ensures name { option_map (λ name. name.now) result ≡ spec.name_of bytes.now }
     ensures some { IfSome result (λ name. 0 < length name.now) }
-    ensures most { IfSome result (λ name. length name.now ≤ most_name_bytes) }
+    ensures most { IfSome result (λ name. length name.now ≤ max_name_bytes) }
 {
-    let most = bytes.len().min(MOST_BYTES);
+    let most = bytes.len().min(MAX_BYTES);
     let Some(length) = zero_byte(&bytes[..most]) else {
         return None;
     };
@@ -48,7 +48,7 @@ fn name_in(bytes: &[u8]) -> Option<&str>
 pub fn name_at(strings: &[u8], at: u32) -> Option<&str>
     ensures name { option_map (λ name. name.now) result ≡ spec.name_at strings.now at }
     ensures some { IfSome result (λ name. 0 < length name.now) }
-    ensures most { IfSome result (λ name. length name.now ≤ most_name_bytes) }
+    ensures most { IfSome result (λ name. length name.now ≤ max_name_bytes) }
 {
     name_in(&strings[strings.len().min(at as usize)..])
 }

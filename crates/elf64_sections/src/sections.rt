@@ -2,7 +2,7 @@
 
 ghost use Rattle.std.specs.Prelude.{◌≡◌, ◌+◌, ◌*◌, ◌≤◌, ◌++◌, length, replicate, IfOk, OnOk};
 ghost use Rattle.elf64_sections.specs.Sections as spec;
-ghost use Rattle.processor.specs.Bytes.{page_size, part};
+ghost use Rattle.spec_processor.specs.Bytes.{page_size, part};
 ghost use Rattle.sv_types.specs.Elf.{file_header_size, section_header_size};
 
 use crate::elf::{

@@ -1,22 +1,22 @@
 -- Lines of a cache: what they answer, and how they are filled.
 use Rattle.std.proofs.Common.{◌≡◌, ℕ, ◌+◌, ◌-◌, ◌*◌, ◌/◌, ◌%◌, ◌^◌, ◌<◌, ◌⊎◌, inl, inr, List, length, get_or, set, refl, sym, ◌∙◌, ap, subst, arith, Bool, true, false, ◌&&◌}
-use Rattle.processor.specs.Bytes.{page_size}
+use Rattle.spec_processor.specs.Bytes.{page_size}
 use Rattle.std.specs.Prelude.{Option, Some, None, IfSome, if◌then◌else◌, ◌==◌}
 use Rattle.std.proofs.lemmas.Bool.Decides.{nat_tests, eqb_tells}
 use Rattle.std.proofs.lemmas.List.{get_or-set_same, get_or-set_other}
-use Rattle.processor.specs.Regions.{Region}
-use Rattle.processor.specs.Translation.{Destination, At, PageFault, Unreadable}
-use Rattle.processor.specs.SecondStage.{walk_guest, address_at, entry_in_region, entry_in_tables, guest_destination, permits_guest, WalksApart, guest_address_bits}
-use Rattle.processor.specs.CachedWalks.{line_permits, line_leads, line_at, LineAgrees, CacheAgrees, FilledUnder, no_lines}
-use Rattle.processor.specs.declared.cached.CacheLine.{CacheLine}
-use Rattle.processor.specs.declared.access.Access.{Access}
-use Rattle.processor.specs.declared.access.Access.TheVariants.{Fetch, Load, Store}
-use Rattle.processor_laws.proofs.Walks.{walk_guest_fits, address_chosen}
+use Rattle.spec_processor.specs.Regions.{Region}
+use Rattle.spec_processor.specs.Translation.{Destination, At, PageFault, Unreadable}
+use Rattle.spec_processor.specs.GStage.{walk_guest, address_at, entry_in_region, entry_in_tables, guest_destination, permits_guest, WalksApart, guest_address_bits}
+use Rattle.spec_processor.specs.CachedWalks.{line_permits, line_leads, line_at, LineAgrees, CacheAgrees, FilledUnder, no_lines}
+use Rattle.spec_processor.specs.declared.cached.CacheLine.{CacheLine}
+use Rattle.spec_processor.specs.declared.access.Access.{Access}
+use Rattle.spec_processor.specs.declared.access.Access.TheVariants.{Fetch, Load, Store}
+use Rattle.laws_processor.proofs.Walks.{walk_guest_fits, address_chosen}
 use Rattle.sv39_walk.specs.Mappings.{mapping_answer}
-use Rattle.sv39_walk.specs.declared.second_stage.Mapping.{Mapping}
+use Rattle.sv39_walk.specs.declared.g_stage.Mapping.{Mapping}
 use Rattle.gstage_cache.specs.Lookup.{line_with_tag, line_for, is_held, IsPlaced, line_of_mapping, IsKept}
 use Rattle.gstage_cache.proofs.Walks.{IsReadable, destination_at, leads_in_region, region_readable, page_moves, answer_near, answer_is}
-use Rattle.processor_laws.proofs.EmptyLines.{none_at}
+use Rattle.laws_processor.proofs.EmptyLines.{none_at}
 
 -- ---- what a line answers
 

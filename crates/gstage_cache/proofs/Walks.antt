@@ -2,11 +2,11 @@
 use Rattle.std.proofs.Common.{◌≡◌, ℕ, zero, suc, ◌+◌, ◌-◌, ◌*◌, ◌/◌, ◌%◌, ◌^◌, ◌<◌, ◌≤◌, List, [], ◌∷◌, length, refl, ◌∙◌, ap, arith, lit≤, Bool, true, false, ◌&&◌}
 use Rattle.std.specs.Prelude.{Option, Some, None, if◌then◌else◌, ◌==◌, nat_le, nat_lt}
 use Rattle.std.proofs.lemmas.Bool.Decides.{nat_tests}
-use Rattle.processor.specs.Bytes.{word, page_size}
-use Rattle.processor.specs.Regions.{Region, host_word}
-use Rattle.processor.specs.Translation.{walk, is_pointer, is_leaf, entry_page, leaf_address, at_leaf, at_entry, root_of, Destination, At, PageFault, Unreadable}
-use Rattle.processor.specs.SecondStage.{walk_guest, address_at, entry_in_region, entry_in_tables, host_entry, permits_guest, sv39x4_indices, guest_destination, guest_address_bits}
-use Rattle.processor.specs.declared.access.Access.{Access}
+use Rattle.spec_processor.specs.Bytes.{word, page_size}
+use Rattle.spec_processor.specs.Regions.{Region, host_word}
+use Rattle.spec_processor.specs.Translation.{walk, is_pointer, is_leaf, entry_page, leaf_address, at_leaf, at_entry, root_of, Destination, At, PageFault, Unreadable}
+use Rattle.spec_processor.specs.GStage.{walk_guest, address_at, entry_in_region, entry_in_tables, host_entry, permits_guest, sv39x4_indices, guest_destination, guest_address_bits}
+use Rattle.spec_processor.specs.declared.access.Access.{Access}
 
 -- ---- a reader that reads more
 

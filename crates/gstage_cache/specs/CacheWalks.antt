@@ -1,14 +1,14 @@
 -- Walks through a cache. This project's own.
 use Rattle.std.specs.Prelude.{◌≡◌, ℕ, ◌/◌, true, List, Option, Result, IfOk}
 use Rattle.std.specs.Option.{ok_or}
-use Rattle.processor.specs.Bytes.{page_size}
-use Rattle.processor.specs.Regions.{Region}
-use Rattle.processor.specs.Roots.{IsSv39x4}
-use Rattle.processor.specs.SecondStage.{walk_guest, WalksApart}
-use Rattle.processor.specs.CachedWalks.{CacheAgrees, FilledUnder}
-use Rattle.processor.specs.declared.access.Access.{Access}
-use Rattle.processor.specs.declared.cached.CacheLine.{CacheLine}
-use Rattle.processor.specs.declared.translation.GuestFault.{GuestFault}
+use Rattle.spec_processor.specs.Bytes.{page_size}
+use Rattle.spec_processor.specs.Regions.{Region}
+use Rattle.spec_processor.specs.Roots.{IsSv39x4}
+use Rattle.spec_processor.specs.GStage.{walk_guest, WalksApart}
+use Rattle.spec_processor.specs.CachedWalks.{CacheAgrees, FilledUnder}
+use Rattle.spec_processor.specs.declared.access.Access.{Access}
+use Rattle.spec_processor.specs.declared.cached.CacheLine.{CacheLine}
+use Rattle.spec_processor.specs.declared.translation.GuestFault.{GuestFault}
 use Rattle.gstage_cache.specs.Lookup.{line_for, is_held}
 
 -- Walks under an hgatp value may go through a cache: it has mode 8 (Sv39x4), they read the tables alone and lead to RAM, and every

@@ -1,8 +1,8 @@
 -- Walks one after another. This project's own.
 use Rattle.std.specs.Prelude.{Option}
 use Rattle.std.proofs.Common.{◌≡◌, ℕ, ◌⊎◌, inl, inr, List, refl, ◌∙◌, sym, subst}
-use Rattle.processor.specs.CachedWalks.{line_at, IsFilled, FilledUnder}
-use Rattle.processor.specs.declared.cached.CacheLine.{CacheLine}
+use Rattle.spec_processor.specs.CachedWalks.{line_at, IsFilled, FilledUnder}
+use Rattle.spec_processor.specs.declared.cached.CacheLine.{CacheLine}
 
 pub nothing_filled : (tables : List ℕ) (hgatp : ℕ) (lines : List (Option CacheLine)) → FilledUnder tables hgatp lines lines
 nothing_filled tables hgatp lines = record { lines = λ i. inl refl }

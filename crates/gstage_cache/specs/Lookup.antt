@@ -1,12 +1,12 @@
 -- Where a cache keeps the line of a page. This project's own.
 use Rattle.std.specs.Prelude.{◌≡◌, ℕ, ◌+◌, ◌-◌, ◌/◌, ◌%◌, Bool, true, false, ◌&&◌, ◌==◌, if◌then◌else◌, List, length, Option, Some, None, slice_set}
-use Rattle.processor.specs.Bytes.{page_size}
-use Rattle.processor.specs.SecondStage.{permits_guest}
-use Rattle.processor.specs.CachedWalks.{line_at, line_permits, lines_of_cache}
-use Rattle.processor.specs.declared.cached.CacheLine.{CacheLine}
-use Rattle.processor.specs.declared.access.Access.{Access}
-use Rattle.processor.specs.declared.access.Access.TheVariants.{Fetch, Load, Store}
-use Rattle.sv39_walk.specs.declared.second_stage.Mapping.{Mapping}
+use Rattle.spec_processor.specs.Bytes.{page_size}
+use Rattle.spec_processor.specs.GStage.{permits_guest}
+use Rattle.spec_processor.specs.CachedWalks.{line_at, line_permits, lines_of_cache}
+use Rattle.spec_processor.specs.declared.cached.CacheLine.{CacheLine}
+use Rattle.spec_processor.specs.declared.access.Access.{Access}
+use Rattle.spec_processor.specs.declared.access.Access.TheVariants.{Fetch, Load, Store}
+use Rattle.sv39_walk.specs.declared.g_stage.Mapping.{Mapping}
 
 -- the line, where it is of this hgatp value and this page
 abbrev pub line_with_tag : ℕ → ℕ → Option CacheLine → Option CacheLine

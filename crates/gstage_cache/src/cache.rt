@@ -2,19 +2,19 @@
 
 ghost use Rattle.std.specs.Prelude.{◌≡◌, ◌+◌, ◌/◌, ◌%◌, ◌<◌, ◌≤◌, Some, None, IfSome, true};
 ghost use Rattle.std.specs.Option.{ok_or};
-ghost use Rattle.processor.specs.SecondStage.{walk_guest, WalksApart};
-ghost use Rattle.processor.specs.CachedWalks.{line_permits, no_lines, LineAgrees, CacheAgrees, FilledUnder};
-ghost use Rattle.processor.specs.Bytes.{page_size};
-ghost use Rattle.processor.specs.Translation.{table_levels};
+ghost use Rattle.spec_processor.specs.GStage.{walk_guest, WalksApart};
+ghost use Rattle.spec_processor.specs.CachedWalks.{line_permits, no_lines, LineAgrees, CacheAgrees, FilledUnder};
+ghost use Rattle.spec_processor.specs.Bytes.{page_size};
+ghost use Rattle.spec_processor.specs.Translation.{table_levels};
 ghost use Rattle.gstage_cache.specs.Lookup.{line_for, is_held, place_by, place_held, line_of_mapping, IsKept};
 ghost use Rattle.gstage_cache.specs.Fills.{nothing_filled, filled_further};
 ghost use Rattle.gstage_cache.specs.CacheWalks.{MayWalk, Led};
 
 use host_mem::{HostMem, Steps};
-use processor::{Access, CacheLine, GuestFault, PAGE_BYTES};
+use spec_processor::{Access, CacheLine, GuestFault, PAGE_BYTES};
 use std::marker::{Brand, Model};
 use std::sync::ledger::{Blank, Ledger};
-use sv39_walk::{Mapping, SecondStage, find_mapping};
+use sv39_walk::{GStage, Mapping, find_mapping};
 
 /// The lines of a cache.
 const LINES: usize = 256;
@@ -27,7 +27,7 @@ pub struct Cache {
 
 impl Model for Cache {
     ghost use Rattle.std.specs.Prelude.{List, Option};
-    ghost use Rattle.processor.specs.declared.cached.CacheLine.{CacheLine as Line};
+    ghost use Rattle.spec_processor.specs.declared.cached.CacheLine.{CacheLine as Line};
 
     ghost Value = { List (Option Line) };
 
@@ -243,7 +243,7 @@ fn hit(mem: &HostMem, line: &CacheLine, gpa: u64, access: Access) -> Result<u64,
     }
 }
 
-impl SecondStage for Cache {
+impl GStage for Cache {
     ghost serves = { λ lines r hgatp. CacheAgrees r.tables lines × WalksApart r hgatp };
 
     ghost walked = { λ r hgatp before after. FilledUnder r.tables hgatp before after };

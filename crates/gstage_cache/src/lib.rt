@@ -6,4 +6,4 @@ mod laws;
 
 pub use cache::Cache;
 pub use laws::law_write_keeps_tables;
-pub use processor::GuestFault;
+pub use spec_processor::GuestFault;

@@ -1,13 +1,13 @@
 -- What the entries of the trees give, bit by bit.
 use Rattle.std.proofs.Common.{◌≡◌, ℕ, ◌+◌, ◌*◌, ◌/◌, ◌%◌, ◌^◌, ◌<◌, Bool, true, false, refl, ap, ◌∙◌, arith, lit<}
-use Rattle.processor.specs.Bytes.{page_size}
+use Rattle.spec_processor.specs.Bytes.{page_size}
 use Rattle.std.specs.Prelude.{◌&&◌, ◌||◌, not, Some, if◌then◌else◌}
-use Rattle.processor.specs.Bits.{bit}
-use Rattle.processor.specs.Translation.{well_formed, is_pointer, is_leaf, at_entry, Destination, At, PageFault}
-use Rattle.processor.specs.SecondStage.{permits_guest}
+use Rattle.spec_processor.specs.Bits.{bit}
+use Rattle.spec_processor.specs.Translation.{well_formed, is_pointer, is_leaf, at_entry, Destination, At, PageFault}
+use Rattle.spec_processor.specs.GStage.{permits_guest}
 use Rattle.sv_types.specs.Views.{view_permits, Sight}
-use Rattle.processor.specs.declared.access.Access.{Access}
-use Rattle.processor.specs.declared.access.Access.TheVariants.{Fetch, Load, Store}
+use Rattle.spec_processor.specs.declared.access.Access.{Access}
+use Rattle.spec_processor.specs.declared.access.Access.TheVariants.{Fetch, Load, Store}
 use Rattle.sv_types.specs.declared.protection.Protection.{Protection}
 use Rattle.gstage_tables.specs.Layout.{pointer, flags, leaf}
 

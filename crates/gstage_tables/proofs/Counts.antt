@@ -6,7 +6,7 @@ use Rattle.std.proofs.lemmas.Bool.{leb-true}
 use Rattle.sv_types.specs.Views.{OfKernel, protect, all_free}
 use Rattle.sv_types.specs.declared.protection.Protection.{Protection}
 use Rattle.sv_types.specs.declared.protection.Protection.TheVariants.{Free, Held, Approved}
-use Rattle.processor_laws.proofs.ByteLemmas.{lt_or_le}
+use Rattle.laws_processor.proofs.ByteLemmas.{lt_or_le}
 use Rattle.gstage_tables.specs.Layout.{leaf}
 use Rattle.sv_types.specs.Protections.{is_free}
 use Rattle.gstage_tables.specs.Blocks.{lies_in_ram, one_if_taken, taken_among, taken_pages, is_whole, is_whole_by, count_after, CountsTaken}

@@ -5,19 +5,19 @@ use borrow.Author.Tests.{le-leb, lt-ltb, le-ltb, ne_eqb}
 use Rattle.std.proofs.lemmas.Bool.{lt-leb, leb-true, eqb-true, and_parts}
 use Rattle.std.proofs.lemmas.Bool.Decides.{nat_tests}
 use Rattle.std.proofs.lemmas.Option.{same_Some}
-use Rattle.processor.specs.Bytes.{word, page_of, ram_place, page_size, ram_base}
-use Rattle.processor.specs.Regions.{host_word}
-use Rattle.processor.specs.Instructions.{bits}
-use Rattle.processor.specs.Translation.{walk, root_of, Destination, At, PageFault}
+use Rattle.spec_processor.specs.Bytes.{word, page_of, ram_offset, page_size, ram_base}
+use Rattle.spec_processor.specs.Regions.{host_word}
+use Rattle.spec_processor.specs.Instructions.{bits}
+use Rattle.spec_processor.specs.Translation.{walk, root_of, Destination, At, PageFault}
 use Rattle.sv_types.specs.Views.{IsView, AreViews, Sight, OfKernel, OfUser, OfEntry, sight_of, view_hgatp, view_answer, view_permits, page_in_ram, with_ram}
-use Rattle.processor.specs.SecondStage.{walk_guest, address_at, guest_destination, entry_in_tables, entry_in_region, host_entry, permits_guest, guest_address_bits}
-use Rattle.processor.specs.declared.access.Access.{Access}
-use Rattle.processor.specs.declared.access.Access.TheVariants.{Fetch, Load, Store}
+use Rattle.spec_processor.specs.GStage.{walk_guest, address_at, guest_destination, entry_in_tables, entry_in_region, host_entry, permits_guest, guest_address_bits}
+use Rattle.spec_processor.specs.declared.access.Access.{Access}
+use Rattle.spec_processor.specs.declared.access.Access.TheVariants.{Fetch, Load, Store}
 use Rattle.sv_types.specs.declared.protection.Protection.{Protection}
 use Rattle.sv_types.specs.declared.protection.Protection.TheVariants.{Free}
 use Rattle.sv_types.specs.declared.view.View.{View}
-use Rattle.processor_laws.proofs.ByteLemmas.{lt_or_le}
-use Rattle.processor_laws.proofs.Walks.{address_chosen}
+use Rattle.laws_processor.proofs.ByteLemmas.{lt_or_le}
+use Rattle.laws_processor.proofs.Walks.{address_chosen}
 use Rattle.gstage_tables.specs.Blocks.{is_whole, taken_pages}
 use Rattle.gstage_tables.specs.Layout.{leaf_tables, table_pages, table_size, tree_count, sight_in, pointer, leaf, root_word, middle_word, leaf_word, HoldsTrees}
 use Rattle.gstage_tables.proofs.Bits.{pointer_gives, zero_gives, leaf_gives}
@@ -82,7 +82,7 @@ within pages gpa above l =
 
 abbrev pub leads : ℕ → ℕ → Sight → (ℕ → Protection) → ℕ → Access → Destination
 leads table_bytes pages sight ps gpa access =
-    if page_in_ram pages gpa && view_permits sight (page_of gpa) (ps (page_of gpa)) access then At (table_bytes + ram_place gpa) else PageFault
+    if page_in_ram pages gpa && view_permits sight (page_of gpa) (ps (page_of gpa)) access then At (table_bytes + ram_offset gpa) else PageFault
 
 outside : (table_bytes pages : ℕ) (sight : Sight) (ps : ℕ → Protection) (gpa : ℕ) (access : Access) → page_in_ram pages gpa ≡ false
     → PageFault ≡ leads table_bytes pages sight ps gpa access
@@ -317,7 +317,7 @@ module _ (tables : List ℕ) (pages : ℕ) (bound : List ℕ) (ps : ℕ → Prot
   near ram gpa access l =
       let test : gpa / 2 ^ guest_address_bits ≡ 0 = omega arith in
       rw (test, h.size) (ap address_at (by_region ram gpa access l)
-      ∙ address_chosen (page_in_ram pages gpa && view_permits sight (page_of gpa) (ps (page_of gpa)) access) (table_size pages (length bound) + ram_place gpa))
+      ∙ address_chosen (page_in_ram pages gpa && view_permits sight (page_of gpa) (ps (page_of gpa)) access) (table_size pages (length bound) + ram_offset gpa))
 
   far : (ram : List ℕ) (gpa : ℕ) (access : Access) → 2 ^ guest_address_bits ≤ gpa → walk_guest (with_ram tables ram) hgatp gpa access ≡ view_answer (length tables) pages sight ps gpa access
   unfolding walk_guest view_answer

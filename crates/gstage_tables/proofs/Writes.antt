@@ -2,11 +2,11 @@
 use Rattle.std.proofs.Common.{◌≡◌, ◌≢◌, ℕ, ◌+◌, ◌*◌, ◌/◌, ◌%◌, ◌^◌, ◌<◌, ◌≤◌, inl, inr, true, false, List, length, refl, sym, ap, subst, ◌∙◌, arith}
 use Rattle.std.specs.Prelude.{Bool, ◌==◌, ◌&&◌}
 use borrow.Author.Tests.{ne_eqb, eq-eqb}
-use Rattle.processor.specs.Bytes.{word, write_word, page_size}
-use Rattle.processor.specs.Regions.{Region}
+use Rattle.spec_processor.specs.Bytes.{word, write_word, page_size}
+use Rattle.spec_processor.specs.Regions.{Region}
 use Rattle.sv_types.specs.Views.{Sight, protect, all_free}
 use Rattle.sv_types.specs.declared.protection.Protection.{Protection}
-use Rattle.processor_laws.proofs.ByteLemmas.{lt_or_le, word_written, word_elsewhere, length_write_word}
+use Rattle.laws_processor.proofs.ByteLemmas.{lt_or_le, word_written, word_elsewhere, length_write_word}
 use Rattle.gstage_tables.specs.Blocks.{is_whole, lies_in_ram}
 use Rattle.gstage_tables.specs.Layout.{leaf_tables, table_pages, tree_count, sight_in, leaf, root_word, middle_word, leaf_word, HoldsTrees}
 use Rattle.gstage_tables.specs.Written.{Wrote}

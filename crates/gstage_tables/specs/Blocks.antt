@@ -3,7 +3,7 @@
 use Rattle.std.specs.Prelude.{◌≡◌, ℕ, zero, suc, ◌+◌, ◌-◌, ◌*◌, ◌≤◌, min, Bool, true, false, ◌&&◌, ◌==◌, if◌then◌else◌, nat_le, List, slice_index_or}
 use Rattle.sv_types.specs.Protections.{is_free}
 use Rattle.sv_types.specs.declared.protection.Protection.{Protection}
-use Rattle.processor.specs.Translation.{table_entries}
+use Rattle.spec_processor.specs.Translation.{table_entries}
 
 -- the words of a table, each an entry
 abbrev pub table_words : ℕ
@@ -41,13 +41,13 @@ abbrev pub is_whole_by : (counts : List ℕ) → (ram_pages block : ℕ) → Boo
 is_whole_by counts ram_pages block = lies_in_ram ram_pages block && slice_index_or counts block 0 == 0
 
 -- the most that a count of 16 bits holds
-abbrev pub most_count : ℕ
-most_count = 65535
+abbrev pub max_count : ℕ
+max_count = 65535
 
 -- a count where a page was free before or not, and now is or isn't
 abbrev pub count_after : (count : ℕ) → (before after : Bool) → ℕ
 count_after count true true = count
-count_after count true false = min (count + 1) most_count
+count_after count true false = min (count + 1) max_count
 count_after count false true = count - 1
 count_after count false false = count
 

@@ -4,22 +4,22 @@
 -- level-0 table is kept right while it isn't used.
 -- RISC-V Privileged manual, H extension, "Guest Physical Address Translation"; the places are this project's own.
 use Rattle.std.specs.Prelude.{◌≡◌, ℕ, ◌+◌, ◌-◌, ◌*◌, ◌/◌, ◌^◌, ◌<◌, ◌≤◌, ◌==◌, Bool, if◌then◌else◌, nat_lt, List, length, slice_index_or}
-use Rattle.processor.specs.Bytes.{word, page_size}
-use Rattle.processor.specs.Regions.{most_ram_pages}
-use Rattle.processor.specs.Translation.{is_leaf, entry_size, page_number_place, valid_place, readable_place, writable_place, executable_place, user_place, accessed_place, dirty_place}
+use Rattle.spec_processor.specs.Bytes.{word, page_size}
+use Rattle.spec_processor.specs.Regions.{max_ram_pages}
+use Rattle.spec_processor.specs.Translation.{is_leaf, entry_size, page_number_shift, valid_place, readable_place, writable_place, executable_place, user_place, accessed_place, dirty_place}
 use Rattle.sv_types.specs.Views.{Sight, OfKernel, OfUser, OfEntry, view_permits}
-use Rattle.processor.specs.declared.access.Access.TheVariants.{Fetch, Store}
-use Rattle.sv_types.specs.Limits.{most_entries}
+use Rattle.spec_processor.specs.declared.access.Access.TheVariants.{Fetch, Store}
+use Rattle.sv_types.specs.Limits.{max_entries}
 use Rattle.sv_types.specs.declared.protection.Protection.{Protection}
 use Rattle.sv_types.specs.declared.protection.Protection.TheVariants.{Free}
 use Rattle.gstage_tables.specs.Blocks.{is_whole, taken_pages, CountsTaken, table_words, block_pages}
-use Rattle.processor.specs.Roots.{root_pages}
+use Rattle.spec_processor.specs.Roots.{root_pages}
 
 -- ---- the trees
 
 -- the most entries that are bound to a page
-abbrev pub most_bound : ℕ
-most_bound = most_entries
+abbrev pub max_bound : ℕ
+max_bound = max_entries
 
 -- what contracts see of trees: the pages of RAM, the page that each entry is bound to, and how many pages of each block are
 -- taken
@@ -39,8 +39,8 @@ abbrev pub first_entry_tree : ℕ
 first_entry_tree = 2
 
 -- the most trees
-abbrev pub most_trees : ℕ
-most_trees = first_entry_tree + most_bound
+abbrev pub max_trees : ℕ
+max_trees = first_entry_tree + max_bound
 
 -- the trees for so many entries
 abbrev pub tree_count : ℕ → ℕ
@@ -95,17 +95,17 @@ abbrev pub table_size : (ram_pages bound : ℕ) → ℕ
 table_size ram_pages bound = page_size * table_pages ram_pages bound
 
 -- the most pages of all tables, and the most with those behind them up to a whole block
-abbrev pub most_table_pages : ℕ
-most_table_pages = upper_pages * most_trees + most_trees * table_words
+abbrev pub max_table_pages : ℕ
+max_table_pages = upper_pages * max_trees + max_trees * table_words
 
-abbrev pub most_block_pages : ℕ
-most_block_pages = block_pages * ((most_table_pages + last_in_block) / block_pages)
+abbrev pub max_block_pages : ℕ
+max_block_pages = block_pages * ((max_table_pages + last_in_block) / block_pages)
 
 -- ---- entries
 
 -- what the number of a page counts in an entry
 abbrev pub page_number_unit : ℕ
-page_number_unit = 2 ^ page_number_place
+page_number_unit = 2 ^ page_number_shift
 
 -- the flags of an entry, by their letters in the Privileged manual, "Sv39: Page-Based 39-bit Virtual-Memory System"
 abbrev pub flag_v : ℕ
@@ -172,8 +172,8 @@ leaf_word ram_pages table_pages sight protections p =
 -- the trees for these protections lie in the tables
 pub record HoldsTrees (tables : List ℕ) (ram_pages : ℕ) (bound : List ℕ) (protections : ℕ → Protection) : Type 0 where
   pub size : length tables ≡ table_size ram_pages (length bound)
-  pub most : ram_pages ≤ most_ram_pages
-  pub few : length bound ≤ most_bound
+  pub most : ram_pages ≤ max_ram_pages
+  pub few : length bound ≤ max_bound
   pub roots : (tree i : ℕ) → tree < tree_count (length bound) → i < root_words
       → word tables (entry_size * (table_words * root_table tree + i)) entry_size ≡ root_word (tree_count (length bound)) tree i
   pub middles : (tree i : ℕ) → tree < tree_count (length bound) → i < table_words

@@ -1,6 +1,6 @@
 -- What protecting a page asks and does. This project's own.
 use Rattle.std.specs.Prelude.{◌≡◌, ◌<◌, ℕ, List, length}
-use Rattle.processor.specs.Regions.{Region}
+use Rattle.spec_processor.specs.Regions.{Region}
 use Rattle.sv_types.specs.Views.{AreViews, protect}
 use Rattle.sv_types.specs.declared.protection.Protection.{Protection}
 use Rattle.gstage_tables.specs.Layout.{Shape, AreDrawn, MapsBlocks, table_size}

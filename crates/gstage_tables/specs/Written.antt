@@ -1,7 +1,7 @@
 -- Words of the tables that were written. This project's own.
 use Rattle.std.specs.Prelude.{◌≡◌, ◌≢◌, ℕ, ◌*◌, ◌<◌, List, length}
-use Rattle.processor.specs.Bytes.{word}
-use Rattle.processor.specs.Translation.{entry_size}
+use Rattle.spec_processor.specs.Bytes.{word}
+use Rattle.spec_processor.specs.Translation.{entry_size}
 
 -- so many words were written, number n at place n with value n, and no other. Places are counted in words
 pub record Wrote (before after : List ℕ) (count : ℕ) (place value : ℕ → ℕ) : Type 0 where

@@ -1,15 +1,15 @@
 // Words of the table part, written one by one or row by row.
 
 ghost use Rattle.std.specs.Prelude.{◌≡◌, ◌+◌, ◌*◌, ◌/◌, ◌%◌, ◌≤◌, length};
-ghost use Rattle.processor.specs.Bytes.{word, write_word, page_size};
-ghost use Rattle.gstage_tables.specs.Layout.{root_word, root_words, most_trees};
+ghost use Rattle.spec_processor.specs.Bytes.{word, write_word, page_size};
+ghost use Rattle.gstage_tables.specs.Layout.{root_word, root_words, max_trees};
 ghost use Rattle.gstage_tables.specs.Written.{Wrote};
-ghost use Rattle.processor.specs.Translation.{entry_size};
-ghost use Rattle.processor.specs.Roots.{root_pages};
+ghost use Rattle.spec_processor.specs.Translation.{entry_size};
+ghost use Rattle.spec_processor.specs.Roots.{root_pages};
 
 use crate::words::{ROOT_WORDS, root_word};
 use host_mem::{HostMem, Steps};
-use processor::{ENTRY_BYTES, ENTRY_WIDTH};
+use spec_processor::{ENTRY_BYTES, ENTRY_WIDTH};
 use std::sync::ledger::Ledger;
 
 /// Word `k` of the table part.
@@ -42,7 +42,7 @@ pub(crate) fn put_counted<L: Ledger>(mem: &mut HostMem, k: u64, value: u64, step
 
 /// Writes the roots.
 pub(crate) fn fill_roots(mem: &mut HostMem, trees: u64)
-    requires trees { trees ≤ most_trees }
+    requires trees { trees ≤ max_trees }
     requires size { page_size * root_pages * trees ≤ length mem.old.tables }
     ensures ram { mem.new.ram ≡ mem.old.ram }
     ensures words { Wrote mem.old.tables mem.new.tables (root_words * trees) (λ k. k) (λ k. root_word trees (k / root_words) (k % root_words)) }

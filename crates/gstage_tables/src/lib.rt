@@ -3,17 +3,17 @@
 #![tactic(auto)]
 
 ghost use Rattle.std.specs.Prelude.{◌≡◌, ℕ, ◌+◌, ◌*◌, ◌/◌, ◌%◌, ◌<◌, ◌≤◌, ◌^◌, ◌≢◌, ◌==◌, ◌&&◌, length, replicate, true};
-ghost use Rattle.processor.specs.Bytes.{page_size, word};
-ghost use Rattle.processor.specs.Regions.{most_ram_pages};
+ghost use Rattle.spec_processor.specs.Bytes.{page_size, word};
+ghost use Rattle.spec_processor.specs.Regions.{max_ram_pages};
 ghost use Rattle.sv_types.specs.Views.{AreViews, view_hgatp, view_permits, all_free};
-ghost use Rattle.processor.specs.declared.access.Access.TheVariants.{Fetch};
+ghost use Rattle.spec_processor.specs.declared.access.Access.TheVariants.{Fetch};
 ghost use Rattle.sv_types.specs.declared.protection.Protection.{Protection as Kind};
 ghost use Rattle.sv_types.specs.Protections.{is_free};
 ghost use Rattle.gstage_tables.specs.Blocks.{lies_in_ram, is_whole_by, count_after, table_words, block_pages};
-ghost use Rattle.gstage_tables.specs.Layout.{most_bound, tree_count, sight_in, leaf_tables, middle_table, leaf_table, table_pages, table_size, leaf, middle_word, leaf_word, HoldsTrees, AreDrawn, MapsBlocks, root_words, most_trees, most_table_pages, most_block_pages, upper_words};
+ghost use Rattle.gstage_tables.specs.Layout.{max_bound, tree_count, sight_in, leaf_tables, middle_table, leaf_table, table_pages, table_size, leaf, middle_word, leaf_word, HoldsTrees, AreDrawn, MapsBlocks, root_words, max_trees, max_table_pages, max_block_pages, upper_words};
 ghost use Rattle.gstage_tables.specs.Written.{Wrote};
 ghost use Rattle.gstage_tables.specs.Protecting.{MayProtect, Protects};
-ghost use Rattle.processor.specs.Translation.{entry_size};
+ghost use Rattle.spec_processor.specs.Translation.{entry_size};
 
 mod fill;
 mod words;
@@ -25,13 +25,13 @@ use crate::words::{
 };
 use arrayvec::ArrayVec;
 use host_mem::{HostMem, Steps};
-use processor::{PAGE_SIZE, ROOT_MODE_PLACE, ROOT_PAGE_BITS, SV39X4};
+use spec_processor::{PAGE_SIZE, ROOT_MODE_SHIFT, ROOT_PAGE_BITS, SV39X4};
 use std::marker::{Brand, Model};
 use std::sync::ledger::{Blank, Ledger};
-use sv_types::{MOST_ENTRIES, Protection, View};
+use sv_types::{MAX_ENTRIES, Protection, View};
 
 /// The blocks of a gigabyte: one for each word of a level-1 table.
-const MOST_BLOCKS: usize = TABLE_WORDS as usize;
+const MAX_BLOCKS: usize = TABLE_WORDS as usize;
 
 /// The trees of the two modes, and the first of those of entries.
 const KERNEL_TREE: u64 = 0;
@@ -41,7 +41,7 @@ const USER_TREE: u64 = 1;
 const FIRST_ENTRY_TREE: u64 = 2;
 
 /// The mode of `hgatp`, whose VMID begins behind the number of the root's page.
-const GUEST_MODE: u64 = SV39X4 << ROOT_MODE_PLACE;
+const GUEST_MODE: u64 = SV39X4 << ROOT_MODE_SHIFT;
 
 const NEXT_VMID: u64 = 1 << ROOT_PAGE_BITS;
 
@@ -71,8 +71,8 @@ pub fn view_hgatp(view: View) -> u64
 #[derive(Drop)]
 pub struct Trees {
     ram_pages: u64,
-    bound: ArrayVec<u32, MOST_ENTRIES>,
-    counts: [u16; MOST_BLOCKS],
+    bound: ArrayVec<u32, MAX_ENTRIES>,
+    counts: [u16; MAX_BLOCKS],
 }
 
 impl Model for Trees {
@@ -81,20 +81,20 @@ impl Model for Trees {
     ghost Value = { Shape };
 
     ghost use Rattle.std.specs.Prelude.{◌≡◌, ◌≤◌, length};
-    ghost use Rattle.processor.specs.Regions.{most_ram_pages};
+    ghost use Rattle.spec_processor.specs.Regions.{max_ram_pages};
     ghost use Rattle.gstage_tables.specs.Blocks.{table_words};
-    ghost use Rattle.gstage_tables.specs.Layout.{most_bound};
+    ghost use Rattle.gstage_tables.specs.Layout.{max_bound};
 
     ghost view = { λ t. record { ram_pages = t.ram_pages; bound = t.bound.items; counts = t.counts } };
 
-    ghost invariant = { λ t. (t.ram_pages ≤ most_ram_pages) × ((length t.bound.items ≤ most_bound) × (length t.counts ≡ table_words)) };
+    ghost invariant = { λ t. (t.ram_pages ≤ max_ram_pages) × ((length t.bound.items ≤ max_bound) × (length t.counts ≡ table_words)) };
 }
 
 impl Trees {
     /// The bytes of the table part for so many pages of RAM and so many entries.
     pub fn table_bytes(ram_pages: usize, bound: usize) -> usize
-        requires pages { ram_pages ≤ most_ram_pages }
-        requires bound { bound ≤ most_bound }
+        requires pages { ram_pages ≤ max_ram_pages }
+        requires bound { bound ≤ max_bound }
         ensures { result ≡ table_size ram_pages bound }
     {
         let trees = FIRST_ENTRY_TREE + bound as u64;
@@ -105,7 +105,7 @@ impl Trees {
     /// Trees in which all pages are free, one for each entry beside those of the two modes: `bound` has the pages that the
     /// entries are bound to. The table part has the size that `table_bytes` gives for the pages of RAM and the entries.
     pub fn new(mem: &mut HostMem, bound: &[u32]) -> Trees
-        requires few { length bound.now ≤ most_bound }
+        requires few { length bound.now ≤ max_bound }
         requires size { length mem.old.tables ≡ table_size (length mem.old.ram / page_size) (length bound.now) }
         ensures pages { page_size * result.ram_pages ≡ length mem.new.ram }
         ensures bound { result.bound ≡ bound.now }
@@ -123,8 +123,8 @@ impl Trees {
     }
 
     fn of_pages(ram_pages: u64, bound: &[u32]) -> Trees
-        requires most { ram_pages ≤ most_ram_pages }
-        requires few { length bound.now ≤ most_bound }
+        requires most { ram_pages ≤ max_ram_pages }
+        requires few { length bound.now ≤ max_bound }
         ensures pages { result.ram_pages ≡ ram_pages }
         ensures bound { result.bound ≡ bound.now }
         ensures counts { result.counts ≡ replicate table_words 0 }
@@ -191,7 +191,7 @@ impl Trees {
     // How many trees there are.
     fn count(&self) -> u64
         ensures value { result ≡ tree_count (length self.now.bound) }
-        ensures few { result ≤ most_trees }
+        ensures few { result ≤ max_trees }
     {
         FIRST_ENTRY_TREE + self.bound.len() as u64
     }
@@ -208,7 +208,7 @@ impl Trees {
     fn leaf_table(&self, tree: u64) -> u64
         requires { tree ≤ tree_count (length self.now.bound) }
         ensures value { result ≡ leaf_table (tree_count (length self.now.bound)) (leaf_tables self.now.ram_pages) tree }
-        ensures few { result ≤ most_table_pages }
+        ensures few { result ≤ max_table_pages }
     {
         leaf_table(self.count(), self.leaf_tables(), tree)
     }
@@ -216,7 +216,7 @@ impl Trees {
     // The pages of the table part.
     fn table_pages(&self) -> u64
         ensures value { result ≡ table_pages self.now.ram_pages (length self.now.bound) }
-        ensures few { result ≤ most_block_pages }
+        ensures few { result ≤ max_block_pages }
     {
         up_to_blocks(self.leaf_table(self.count()))
     }
@@ -461,8 +461,8 @@ fn count_after(count: u16, before: bool, after: bool) -> u16
     }
 }
 
-fn none_taken() -> [u16; MOST_BLOCKS]
+fn none_taken() -> [u16; MAX_BLOCKS]
     ensures { result ≡ replicate table_words 0 }
 {
-    [0; MOST_BLOCKS]
+    [0; MAX_BLOCKS]
 }

@@ -1,13 +1,13 @@
 // Entries of the tables, and where the tables lie.
 
 ghost use Rattle.std.specs.Prelude.{◌≡◌, ◌+◌, ◌*◌, ◌/◌, ◌<◌, ◌≤◌, ◌^◌};
-ghost use Rattle.processor.specs.Regions.{most_ram_pages};
+ghost use Rattle.spec_processor.specs.Regions.{max_ram_pages};
 ghost use Rattle.gstage_tables.specs.Blocks.{table_words, block_pages};
-ghost use Rattle.gstage_tables.specs.Layout.{leaf_tables, leaf_table, pointer, flags, readable_flags, written_flags, root_word, last_in_block, most_trees, most_table_pages, most_block_pages, page_number_unit};
-ghost use Rattle.processor.specs.Roots.{root_page_bits};
+ghost use Rattle.gstage_tables.specs.Layout.{leaf_tables, leaf_table, pointer, flags, readable_flags, written_flags, root_word, last_in_block, max_trees, max_table_pages, max_block_pages, page_number_unit};
+ghost use Rattle.spec_processor.specs.Roots.{root_page_bits};
 
 use bitflags::Flags;
-use processor::{INDEX_BITS, PAGE_BITS, PAGE_NUMBER_PLACE, PteBits, RAM_BASE, TABLE_ENTRIES};
+use spec_processor::{INDEX_BITS, PAGE_BITS, PAGE_NUMBER_SHIFT, PteBits, RAM_BASE, TABLE_ENTRIES};
 
 /// The words of a table.
 pub(crate) const TABLE_WORDS: u64 = TABLE_ENTRIES;
@@ -24,16 +24,16 @@ pub(crate) const ROOT_WORDS: u64 = ROOT_PAGES * TABLE_WORDS;
 const UPPER_PAGES: u64 = ROOT_PAGES + 1;
 
 /// What the number of a page counts in an entry.
-const PAGE_NUMBER_UNIT: u64 = 1 << PAGE_NUMBER_PLACE;
+const PAGE_NUMBER_UNIT: u64 = 1 << PAGE_NUMBER_SHIFT;
 
 /// The place of a gigabyte's number in an address, and the gigabyte in which RAM lies.
-const GIGABYTE_PLACE: u32 = PAGE_BITS + 2 * INDEX_BITS;
+const GIGABYTE_SHIFT: u32 = PAGE_BITS + 2 * INDEX_BITS;
 
-const RAM_GIGABYTE: u64 = RAM_BASE >> GIGABYTE_PLACE;
+const RAM_GIGABYTE: u64 = RAM_BASE >> GIGABYTE_SHIFT;
 
 /// The level-0 tables of one tree.
 pub(crate) fn leaf_tables(ram_pages: u64) -> u64
-    requires { ram_pages ≤ most_ram_pages }
+    requires { ram_pages ≤ max_ram_pages }
     ensures value { result ≡ leaf_tables ram_pages }
     ensures few { result ≤ table_words }
     ensures covers { ram_pages ≤ block_pages * result }
@@ -43,20 +43,20 @@ pub(crate) fn leaf_tables(ram_pages: u64) -> u64
 
 /// The first level-0 table of a tree, or where the last tree's end, in pages of the table part.
 pub(crate) fn leaf_table(trees: u64, tables: u64, tree: u64) -> u64
-    requires trees { trees ≤ most_trees }
+    requires trees { trees ≤ max_trees }
     requires tables { tables ≤ table_words }
     requires tree { tree ≤ trees }
     ensures value { result ≡ leaf_table trees tables tree }
-    ensures few { result ≤ most_table_pages }
+    ensures few { result ≤ max_table_pages }
 {
     UPPER_PAGES * trees + tree * tables
 }
 
 /// So many pages and those behind them up to a whole number of blocks.
 pub(crate) fn up_to_blocks(pages: u64) -> u64
-    requires { pages ≤ most_table_pages }
+    requires { pages ≤ max_table_pages }
     ensures value { result ≡ block_pages * ((pages + last_in_block) / block_pages) }
-    ensures few { result ≤ most_block_pages }
+    ensures few { result ≤ max_block_pages }
 {
     BLOCK_PAGES * pages.div_ceil(BLOCK_PAGES)
 }
@@ -110,7 +110,7 @@ pub(crate) fn pointer(page: u64) -> u64
 /// Entry `i` of a tree's root.
 #[tactic(auto, unfolding(crate::specs::Layout::root_word))]
 pub(crate) fn root_word(trees: u64, tree: u64, i: u64) -> u64
-    requires trees { trees ≤ most_trees }
+    requires trees { trees ≤ max_trees }
     requires tree { tree < trees }
     ensures { result ≡ root_word trees tree i }
 {

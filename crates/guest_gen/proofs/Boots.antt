@@ -1,7 +1,7 @@
 -- The generated guest is never refused.
 use Rattle.std.proofs.Common.{◌≡◌, ◌==◌, ℕ, None, refl, ap}
 use Rattle.std.specs.List.{list_any}
-use Rattle.processor.specs.Bytes.{word}
+use Rattle.spec_processor.specs.Bytes.{word}
 use Rattle.sv_types.specs.Kernel.{kernel_refusal, file_checks, header_checks, header_at, loaded_among, segment_checks, image_checks, kernel_segments, text_of, header_entry}
 use Rattle.sv_types.specs.Measure.{measure}
 use Rattle.guest_gen.specs.Booting.{IsBootable}

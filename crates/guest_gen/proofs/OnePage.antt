@@ -1,7 +1,7 @@
 -- The measure of one page.
 use Rattle.std.proofs.Common.{◌≡◌, ℕ, List, [], ◌∷◌, ◌/◌, length, take, sym, ap, ◌∙◌}
 use Rattle.std.proofs.Math.Seq.{take-length}
-use Rattle.processor.specs.Bytes.{page_size}
+use Rattle.spec_processor.specs.Bytes.{page_size}
 use Rattle.sv_types.specs.Measure.{page_digest, page_digests, joined_digests, measure}
 
 pub measure_of_page : (page : List ℕ) → length page ≡ page_size → measure page ≡ joined_digests (page_digest page ∷ [])

@@ -1,15 +1,15 @@
 -- The generated guest as a file, and its policy. This project's own.
 use Rattle.std.specs.Prelude.{ℕ, ◌+◌, List, [], ◌∷◌, ◌++◌, None}
-use Rattle.processor.specs.Bytes.{with_padding, page_size}
+use Rattle.spec_processor.specs.Bytes.{with_padding, page_size}
 use Rattle.sv_types.specs.Limits.{plain_format}
 use Rattle.sv_types.specs.Measure.{measure}
 use Rattle.sv_types.specs.Policies.{Rules}
 use Rattle.guest_gen.specs.Images.{code_bytes, laid_out, text_address}
-use Rattle.guest_gen.specs.GuestCode.{setup, trap_handler, trap_place, user_loop}
+use Rattle.guest_gen.specs.GuestCode.{setup, trap_handler, trap_offset, user_loop}
 
 -- the page of text, with zeros between its two parts and behind them
 unfoldable pub generated_text : ℕ → List ℕ
-generated_text n = with_padding (with_padding (code_bytes (setup n)) trap_place ++ code_bytes trap_handler) page_size
+generated_text n = with_padding (with_padding (code_bytes (setup n)) trap_offset ++ code_bytes trap_handler) page_size
 
 unfoldable pub generated_image : ℕ → List ℕ
 generated_image n = laid_out (generated_text n) (code_bytes user_loop)
@@ -24,7 +24,7 @@ policy_of_text text = record {
   format = plain_format;
   harts = 1;
   ram_pages = generated_pages;
-  entries = text_address ∷ (text_address + trap_place) ∷ [];
+  entries = text_address ∷ (text_address + trap_offset) ∷ [];
   bound = [];
   exports = [];
   kernel = measure text;

@@ -3,26 +3,26 @@
 -- RISC-V Unprivileged manual, "Integer Register-Immediate Instructions"; RISC-V ELF psABI, "Integer Register
 -- Convention".
 use Rattle.std.specs.Prelude.{ℕ, ◌+◌, ◌*◌, ◌/◌, ℤ, pos, neg_ℤ, ◌-ℤ◌, List, [], ◌∷◌}
-use Rattle.processor.specs.Bytes.{page_size}
-use Rattle.processor.specs.IntegerRegisters.{x0, t0, t1, t2, t3, t4, s0, s1, a0, a7}
-use Rattle.processor.specs.Registers.{csr_number}
-use Rattle.processor.specs.declared.csr.Csr.{Csr}
-use Rattle.processor.specs.declared.csr.Csr.TheVariants.{Stvec, Sepc}
-use Rattle.processor.specs.declared.instruction.Instr.{Instr}
-use Rattle.processor.specs.declared.instruction.BranchOp.TheVariants.{Beq}
-use Rattle.processor.specs.declared.instruction.StoreOp.TheVariants.{Sw, Sd}
-use Rattle.processor.specs.declared.instruction.OpImmOp.TheVariants.{Addi}
-use Rattle.processor.specs.declared.instruction.OpImm32Op.TheVariants.{Addiw}
-use Rattle.processor.specs.declared.instruction.OpOp.TheVariants.{Add}
-use Rattle.processor.specs.declared.instruction.CsrOp.TheVariants.{Csrrw}
+use Rattle.spec_processor.specs.Bytes.{page_size}
+use Rattle.spec_processor.specs.IntegerRegisters.{x0, t0, t1, t2, t3, t4, s0, s1, a0, a7}
+use Rattle.spec_processor.specs.Registers.{csr_number}
+use Rattle.spec_processor.specs.declared.csr.Csr.{Csr}
+use Rattle.spec_processor.specs.declared.csr.Csr.TheVariants.{Stvec, Sepc}
+use Rattle.spec_processor.specs.declared.instruction.Instr.{Instr}
+use Rattle.spec_processor.specs.declared.instruction.BranchOp.TheVariants.{Beq}
+use Rattle.spec_processor.specs.declared.instruction.StoreOp.TheVariants.{Sw, Sd}
+use Rattle.spec_processor.specs.declared.instruction.OpImmOp.TheVariants.{Addi}
+use Rattle.spec_processor.specs.declared.instruction.OpImm32Op.TheVariants.{Addiw}
+use Rattle.spec_processor.specs.declared.instruction.OpOp.TheVariants.{Add}
+use Rattle.spec_processor.specs.declared.instruction.CsrOp.TheVariants.{Csrrw}
 use Rattle.sv_types.specs.BlockNumbers.{address_offset, count_offset, command_offset, command_number}
 use Rattle.sv_types.specs.DevicePlaces.{disk_base}
 use Rattle.sv_types.specs.declared.block.BlockCommand.TheVariants.{DiskToMemory}
 use Rattle.sv_types.specs.SbiExtensions.{put_char_extension, shut_down_extension}
 
 -- the most calls of the user
-abbrev pub most_calls : ℕ
-most_calls = 1000000
+abbrev pub max_calls : ℕ
+max_calls = 1000000
 
 -- ---- instructions, with their operands in the assembler's order
 
@@ -61,8 +61,8 @@ lower n = pos n -ℤ upper n
 -- ---- the kernel
 
 -- the trap vector's place in the text
-abbrev pub trap_place : ℕ
-trap_place = 0x100
+abbrev pub trap_offset : ℕ
+trap_offset = 0x100
 
 -- the byte that is printed
 abbrev pub letter_k : ℕ
@@ -73,7 +73,7 @@ letter_k = 75
 -- entered
 unfoldable pub setup : (calls : ℕ) → List Instr
 setup calls =
-    Instr.Auipc t0 (pos 0) ∷ addi t0 t0 (pos trap_place) ∷ csrw Stvec t0
+    Instr.Auipc t0 (pos 0) ∷ addi t0 t0 (pos trap_offset) ∷ csrw Stvec t0
     ∷ Instr.Auipc s1 (pos page_size) ∷ addi s1 s1 (minus 12)
     ∷ Instr.Lui s0 (upper calls) ∷ addiw s0 s0 (lower calls)
     ∷ Instr.Lui t2 (pos disk_base) ∷ addi t3 t0 (minus 768) ∷ sd t3 (pos address_offset) t2

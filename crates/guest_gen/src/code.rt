@@ -2,14 +2,14 @@
 
 ghost use Rattle.std.specs.Prelude.{◌≡◌, ◌≤◌, IsTrue};
 ghost use Rattle.std.specs.List.{list_all};
-ghost use Rattle.processor.specs.Encoding.{fits, is_immediate};
+ghost use Rattle.spec_processor.specs.Encoding.{fits, is_immediate};
 ghost use Rattle.guest_gen.specs.GuestCode as spec;
 
-use processor::{
+use rv64_encode::Instr;
+use spec_processor::{
     A0, A7, BranchOp, Csr, CsrOp, OpImm32Op, OpImmOp, OpOp, PAGE_BYTES, S0, S1, StoreOp, T0, T1,
     T2, T3, T4, X0,
 };
-use rv64_encode::Instr;
 use sv_types::{
     BLOCK_ADDRESS, BLOCK_COMMAND, BLOCK_COUNT, BlockCommand, DISK_BASE, LOW_VALUES,
     PUT_CHAR_EXTENSION, SHUT_DOWN_EXTENSION,
@@ -26,15 +26,15 @@ const SHUTDOWN_CALL: i64 = SHUT_DOWN_EXTENSION as i64;
 const LETTER_K: i64 = 75;
 
 /// The most calls of the user.
-pub const MOST_CALLS: u64 = 1_000_000;
+pub const MAX_CALLS: u64 = 1_000_000;
 
 /// The trap vector's place in the text.
-pub const TRAP_PLACE: usize = 256;
+pub const TRAP_OFFSET: usize = 256;
 
 // The upper bits of a number, rounded so that the rest is one of 12 bits with a sign.
 #[tactic(auto, unfolding(crate::specs::GuestCode::upper))]
 fn upper(n: u64) -> i64
-    requires { n ≤ spec.most_calls }
+    requires { n ≤ spec.max_calls }
     ensures value { result ≡ spec.upper n }
     ensures fits { IsTrue (is_immediate 32 spec.low_values result) }
 {
@@ -43,7 +43,7 @@ fn upper(n: u64) -> i64
 
 #[tactic(auto, unfolding(crate::specs::GuestCode::upper, crate::specs::GuestCode::lower))]
 fn lower(n: u64) -> i64
-    requires { n ≤ spec.most_calls }
+    requires { n ≤ spec.max_calls }
     ensures value { result ≡ spec.lower n }
     ensures fits { IsTrue (is_immediate 12 1 result) }
 {
@@ -108,15 +108,15 @@ fn csrw(csr: Csr, rs1: u8) -> Instr
 }
 
 /// The kernel's begin, for so many calls.
-#[tactic(auto, unfolding(crate::specs::GuestCode::setup, processor::specs::Encoding::fits, processor::specs::Encoding::is_shift, processor::specs::Encoding::is_shift_32))]
+#[tactic(auto, unfolding(crate::specs::GuestCode::setup, spec_processor::specs::Encoding::fits, spec_processor::specs::Encoding::is_shift, spec_processor::specs::Encoding::is_shift_32))]
 pub fn setup(calls: u64) -> [Instr; 16]
-    requires { calls ≤ spec.most_calls }
+    requires { calls ≤ spec.max_calls }
     ensures code { result ≡ spec.setup calls }
     ensures fits { IsTrue (list_all fits result) }
 {
     [
         Instr::Auipc { rd: T0, imm: 0 },
-        addi(T0, T0, TRAP_PLACE as i64),
+        addi(T0, T0, TRAP_OFFSET as i64),
         csrw(Csr::Stvec, T0),
         Instr::Auipc { rd: S1, imm: PAGE },
         addi(S1, S1, -12),
@@ -141,7 +141,7 @@ pub fn setup(calls: u64) -> [Instr; 16]
 }
 
 /// The trap vector.
-#[tactic(auto, unfolding(crate::specs::GuestCode::trap_handler, processor::specs::Encoding::fits, processor::specs::Encoding::is_shift))]
+#[tactic(auto, unfolding(crate::specs::GuestCode::trap_handler, spec_processor::specs::Encoding::fits, spec_processor::specs::Encoding::is_shift))]
 pub fn trap_handler() -> [Instr; 12]
     ensures code { result ≡ spec.trap_handler }
     ensures fits { IsTrue (list_all fits result) }
@@ -173,7 +173,7 @@ pub fn trap_handler() -> [Instr; 12]
 }
 
 /// The user's loop.
-#[tactic(auto, unfolding(crate::specs::GuestCode::user_loop, processor::specs::Encoding::fits))]
+#[tactic(auto, unfolding(crate::specs::GuestCode::user_loop, spec_processor::specs::Encoding::fits))]
 pub fn user_loop() -> [Instr; 2]
     ensures code { result ≡ spec.user_loop }
     ensures fits { IsTrue (list_all fits result) }

@@ -2,8 +2,8 @@
 
 ghost use Rattle.std.specs.Prelude.{◌≡◌, ◌+◌, ◌*◌, ◌<◌, ◌≤◌, ◌^◌, IsTrue, IfOk, length};
 ghost use Rattle.std.specs.List.{list_all};
-ghost use Rattle.processor.specs.Bytes.{page_size};
-ghost use Rattle.processor.specs.Encoding.{fits};
+ghost use Rattle.spec_processor.specs.Bytes.{page_size};
+ghost use Rattle.spec_processor.specs.Encoding.{fits};
 ghost use Rattle.guest_gen.specs.Images as spec;
 
 use crate::fields::{Field, pad, push_code, push_fields};
@@ -11,8 +11,8 @@ use elf64_sections::elf::{
     ELF_MAGIC, ELFCLASS64, ELFDATA2LSB, EM_RISCV, ET_EXEC, EV_CURRENT, FILE_HEADER_BYTES, PF_R_BIT,
     PF_W_BIT, PF_X_BIT, PROGRAM_HEADER_BYTES, PT_LOAD,
 };
-use processor::{PAGE_BYTES, PAGE_SIZE, RAM_BASE};
 use rv64_encode::Instr;
+use spec_processor::{PAGE_BYTES, PAGE_SIZE, RAM_BASE};
 use std::alloc::{AllocError, Global};
 use sv_types::ProgramHeader;
 

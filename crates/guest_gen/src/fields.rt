@@ -2,8 +2,8 @@
 
 ghost use Rattle.std.specs.Prelude.{◌≡◌, ◌+◌, ◌*◌, ◌≤◌, ◌++◌, OnOk, IsTrue, flat_map, length, vec_len};
 ghost use Rattle.std.specs.List.{list_all};
-ghost use Rattle.processor.specs.Bytes.{with_padding};
-ghost use Rattle.processor.specs.Encoding.{fits};
+ghost use Rattle.spec_processor.specs.Bytes.{with_padding};
+ghost use Rattle.spec_processor.specs.Encoding.{fits};
 ghost use Rattle.guest_gen.specs.Images as spec;
 
 use rv64_encode::{Instr, encode};
@@ -18,7 +18,7 @@ pub enum Field {
     Double(u64),
 }
 
-#[tactic(auto, using(processor_laws::proofs::LibraryBytes::low_bytes_2, processor_laws::proofs::LibraryBytes::low_bytes_4, processor_laws::proofs::LibraryBytes::low_bytes_8))]
+#[tactic(auto, using(laws_processor::proofs::LibraryBytes::low_bytes_2, laws_processor::proofs::LibraryBytes::low_bytes_4, laws_processor::proofs::LibraryBytes::low_bytes_8))]
 fn push_field(file: &mut Vec<u8>, field: Field) -> Result<(), AllocError>
     ensures { OnOk result (file.new.items ≡ file.old.items ++ spec.field_bytes field) }
 {

@@ -1,17 +1,17 @@
 // The guest's file and policy.
 
 ghost use Rattle.std.specs.Prelude.{◌≡◌, ◌≤◌, IsTrue, IfOk, length, vec_len};
-ghost use Rattle.processor.specs.Bytes.{page_size};
+ghost use Rattle.spec_processor.specs.Bytes.{page_size};
 ghost use Rattle.sv_types.specs.Measure.{measure};
 ghost use Rattle.sv_types.specs.Policies.{rules_of, rules_within};
 ghost use Rattle.guest_gen.specs.Generated as spec;
-ghost use Rattle.guest_gen.specs.GuestCode.{most_calls};
+ghost use Rattle.guest_gen.specs.GuestCode.{max_calls};
 
-use crate::code::{TRAP_PLACE, setup, trap_handler, user_loop};
+use crate::code::{TRAP_OFFSET, setup, trap_handler, user_loop};
 use crate::elf::{TEXT_ADDRESS, laid_out};
 use crate::fields::{pad, push_code};
 use page_measure::{join_digests, page_digest};
-use processor::PAGE_SIZE;
+use spec_processor::PAGE_SIZE;
 use std::alloc::{AllocError, Global};
 use sv_types::{Digest, PLAIN_FORMAT, Policy};
 
@@ -21,13 +21,13 @@ const RAM_PAGES: u32 = 64;
 // The page of text, for so many calls.
 #[tactic(auto, unfolding(crate::specs::Generated::generated_text))]
 fn text(alloc: Global, n: u64) -> Result<Vec<u8>, AllocError>
-    requires { n ≤ most_calls }
+    requires { n ≤ max_calls }
     ensures text { IfOk result (λ text. text.items ≡ spec.generated_text n) }
     ensures page { IfOk result (λ text. vec_len text ≡ page_size) }
 {
     let mut text = Vec::new(alloc);
     push_code(&mut text, &setup(n))?;
-    pad(&mut text, TRAP_PLACE)?;
+    pad(&mut text, TRAP_OFFSET)?;
     push_code(&mut text, &trap_handler())?;
     pad(&mut text, PAGE_SIZE)?;
     Ok(text)
@@ -50,7 +50,7 @@ fn policy(alloc: Global, text: &[u8]) -> Result<Policy, AllocError>
 {
     let mut entries = Vec::new(alloc);
     entries.push(TEXT_ADDRESS)?;
-    entries.push(TEXT_ADDRESS + TRAP_PLACE as u64)?;
+    entries.push(TEXT_ADDRESS + TRAP_OFFSET as u64)?;
     Ok(Policy {
         format: PLAIN_FORMAT,
         harts: 1,
@@ -68,7 +68,7 @@ fn policy(alloc: Global, text: &[u8]) -> Result<Policy, AllocError>
 #[tactic(auto, unfolding(crate::specs::Generated::generated_image))]
 pub fn generate(alloc: Global, n: u64) -> Result<(Vec<u8>, Policy), AllocError>
     requires some { 1 ≤ n }
-    requires most { n ≤ most_calls }
+    requires most { n ≤ max_calls }
     ensures image { IfOk result (λ made. made.0.items ≡ spec.generated_image n) }
     ensures policy { IfOk result (λ made. rules_of made.1 ≡ spec.generated_policy n) }
     ensures within { IfOk result (λ made. IsTrue (rules_within (rules_of made.1))) }

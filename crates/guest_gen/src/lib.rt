@@ -7,7 +7,7 @@ mod fields;
 mod guest;
 mod laws;
 
-pub use code::MOST_CALLS;
+pub use code::MAX_CALLS;
 pub use elf::image;
 pub use guest::generate;
 pub use laws::law_guest_boots;

@@ -1,18 +1,18 @@
 -- Where both stages lead, a word of a width that divides the virtual address may be read and written.
 use Rattle.std.proofs.Common.{◌≡◌, ◌∙◌, ℕ, ◌+◌, ◌%◌, ◌^◌, ◌<◌, ◌≤◌, length, refl}
-use Rattle.processor.specs.Bytes.{page_size}
+use Rattle.spec_processor.specs.Bytes.{page_size}
 use Rattle.std.specs.Prelude.{Option, Some, None, IfSome, Ok}
-use Rattle.processor.specs.declared.translation.Place.{Place}
-use Rattle.processor.specs.declared.access.Access.{Access}
-use Rattle.processor.specs.declared.mode.Mode.{Mode}
-use Rattle.processor.specs.Regions.{Region, IsRegion, IsWidth, IsHostPlace}
-use Rattle.processor.specs.Translation.{Destination, At, PageFault, Unreadable, Settings, first_stage}
-use Rattle.processor.specs.SecondStage.{walk_guest, place_through, after_first_stage, two_stages, entry_through, WalksInside, WalksApart}
-use Rattle.processor.specs.Hardware.{Core}
-use Rattle.processor.specs.HardwareMemory.{settings_at, translation_result}
-use Rattle.processor.specs.Roots.{IsBare}
-use Rattle.processor_laws.proofs.RegionLemmas.{keeps_width, ends_inside, whole_sum}
-use Rattle.processor_laws.proofs.Walks.{Fits, first_stage_fits, walk_guest_fits}
+use Rattle.spec_processor.specs.declared.translation.Place.{Place}
+use Rattle.spec_processor.specs.declared.access.Access.{Access}
+use Rattle.spec_processor.specs.declared.mode.Mode.{Mode}
+use Rattle.spec_processor.specs.Regions.{Region, IsRegion, IsWidth, IsHostPlace}
+use Rattle.spec_processor.specs.Translation.{Destination, At, PageFault, Unreadable, Settings, first_stage}
+use Rattle.spec_processor.specs.GStage.{walk_guest, place_through, after_first_stage, two_stages, entry_through, WalksInside, WalksApart}
+use Rattle.spec_processor.specs.Hardware.{Core}
+use Rattle.spec_processor.specs.HardwareMemory.{settings_at, translation_result}
+use Rattle.spec_processor.specs.Roots.{IsBare}
+use Rattle.laws_processor.proofs.RegionLemmas.{keeps_width, ends_inside, whole_sum}
+use Rattle.laws_processor.proofs.Walks.{Fits, first_stage_fits, walk_guest_fits}
 
 pub second_leads : (gpa : ℕ) (o : Option ℕ) (place : Place) → place_through gpa o ≡ Ok place → o ≡ Some place.hpa
 second_leads gpa None place e = absurd (cc)
@@ -45,20 +45,20 @@ stages_place r hgatp va n s mode access place region inside small e width aligne
     first_leads r hgatp va n access (first_stage (entry_through r hgatp) s mode va access) place region inside width aligned
     (first_stage_fits (entry_through r hgatp) s mode va access small) e
 
-first_behind : (r : Region) (hgatp : ℕ) (access : Access) (d : Destination) (place : Place) → WalksApart r hgatp
+first_after : (r : Region) (hgatp : ℕ) (access : Access) (d : Destination) (place : Place) → WalksApart r hgatp
     → after_first_stage r hgatp access d ≡ Ok place → length r.tables ≤ place.hpa
 unfolding after_first_stage
-first_behind r hgatp access (At gpa) place apart e =
+first_after r hgatp access (At gpa) place apart e =
     (apart.leads gpa place.hpa access (second_leads gpa (walk_guest r hgatp gpa access) place e)).0
-first_behind r hgatp access PageFault place apart e = absurd (cc)
-first_behind r hgatp access (Unreadable entry) place apart e = absurd (cc)
+first_after r hgatp access PageFault place apart e = absurd (cc)
+first_after r hgatp access (Unreadable entry) place apart e = absurd (cc)
 
 -- and the place lies behind the tables
-pub stages_behind : (r : Region) (hgatp va : ℕ) (s : Settings) (mode : Mode) (access : Access) (place : Place) → WalksApart r hgatp
+pub stages_after : (r : Region) (hgatp va : ℕ) (s : Settings) (mode : Mode) (access : Access) (place : Place) → WalksApart r hgatp
     → two_stages r hgatp s mode va access ≡ Ok place → length r.tables ≤ place.hpa
 unfolding two_stages
-stages_behind r hgatp va s mode access place apart e =
-    first_behind r hgatp access (first_stage (entry_through r hgatp) s mode va access) place apart e
+stages_after r hgatp va s mode access place apart e =
+    first_after r hgatp access (first_stage (entry_through r hgatp) s mode va access) place apart e
 
 -- ---- without a first stage
 

@@ -1,12 +1,12 @@
 -- What an attempt asks of a core, its cache and the host's memory, and what it keeps of them. This project's own.
 use Rattle.std.specs.Prelude.{◌≡◌, ◌%◌, List, Option, true}
-use Rattle.processor.specs.Regions.{Region}
-use Rattle.processor.specs.declared.cached.CacheLine.{CacheLine}
-use Rattle.processor.specs.declared.hregs.HRegs.{HRegs}
-use Rattle.processor.specs.declared.mode.Mode.TheVariants.{User}
+use Rattle.spec_processor.specs.Regions.{Region}
+use Rattle.spec_processor.specs.declared.cached.CacheLine.{CacheLine}
+use Rattle.spec_processor.specs.declared.hregs.HRegs.{HRegs}
+use Rattle.spec_processor.specs.declared.mode.Mode.TheVariants.{User}
 use Rattle.gstage_cache.specs.CacheWalks.{MayWalk, Walked}
 use Rattle.hart.specs.declared.hart.Core.{Core as Kept}
-use Rattle.processor.specs.Bytes.{instruction_size}
+use Rattle.spec_processor.specs.Bytes.{instruction_size}
 
 -- ---- what is asked
 

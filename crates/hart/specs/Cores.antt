@@ -1,9 +1,9 @@
 -- What a hart keeps and its hypervisor registers, as the hardware's attempt sees them. This project's own.
 use Rattle.std.specs.Prelude.{ℕ, ◌^◌}
-use Rattle.processor.specs.Regions.{Region}
-use Rattle.processor.specs.Hardware.{Core, Step, Attempted}
-use Rattle.processor.specs.declared.outcome.Outcome.{Outcome}
-use Rattle.processor.specs.declared.hregs.HRegs.{HRegs}
+use Rattle.spec_processor.specs.Regions.{Region}
+use Rattle.spec_processor.specs.Hardware.{Core, Step, Attempted}
+use Rattle.spec_processor.specs.declared.outcome.Outcome.{Outcome}
+use Rattle.spec_processor.specs.declared.hregs.HRegs.{HRegs}
 use Rattle.hart.specs.declared.hart.Core.{Core as Kept}
 
 abbrev pub core_of : Kept → HRegs → Core

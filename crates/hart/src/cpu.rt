@@ -1,22 +1,22 @@
 // The count of the attempts that were made.
 
 ghost use Rattle.std.specs.Prelude.{◌≡◌, ◌+◌, ◌%◌, IfOk};
-ghost use Rattle.processor.specs.Counters.{CanCount};
-ghost use Rattle.processor.specs.SecondStage.{WalksApart};
-ghost use Rattle.processor.specs.CachedWalks.{CacheAgrees, FilledUnder};
-ghost use Rattle.processor.specs.HardwareAttempt.{attempt, OnlyWrites};
-ghost use Rattle.processor.specs.Roots.{IsSv39x4};
+ghost use Rattle.spec_processor.specs.Counters.{CanCount};
+ghost use Rattle.spec_processor.specs.GStage.{WalksApart};
+ghost use Rattle.spec_processor.specs.CachedWalks.{CacheAgrees, FilledUnder};
+ghost use Rattle.spec_processor.specs.HardwareAttempt.{attempt, OnlyWrites};
+ghost use Rattle.spec_processor.specs.Roots.{IsSv39x4};
 ghost use Rattle.hart.specs.Cores.{core_of, attempted_of};
 ghost use Rattle.hart.specs.Conditions.{KeepsMode};
-ghost use Rattle.processor.specs.Bytes.{instruction_size};
+ghost use Rattle.spec_processor.specs.Bytes.{instruction_size};
 
+use crate::decode_cache::DecodeCache;
 use crate::execution::attempt;
 use crate::hart::Core;
-use crate::wires::Wires;
-use crate::words::Words;
+use crate::interrupt_lines::InterruptLines;
 use gstage_cache::Cache;
 use host_mem::HostMem;
-use processor::{HRegs, Outcome};
+use spec_processor::{HRegs, Outcome};
 use std::alloc::{AllocError, Global};
 use std::marker::Model;
 
@@ -24,7 +24,7 @@ use std::marker::Model;
 #[derive(Drop)]
 pub struct Cpu {
     count: u64,
-    words: Words,
+    words: DecodeCache,
 }
 
 impl Model for Cpu {
@@ -40,7 +40,7 @@ impl Cpu {
     pub fn new(alloc: Global) -> Result<Cpu, AllocError>
         ensures { IfOk result (λ count. count ≡ 0) }
     {
-        let words = Words::new(alloc)?;
+        let words = DecodeCache::new(alloc)?;
         Ok(Cpu { count: 0, words })
     }
 
@@ -57,13 +57,13 @@ impl Cpu {
     /// `hgatp` has mode 8 (Sv39x4). Walks under it read the tables alone and lead to RAM, and every line of the cache
     /// agrees with the tables.
     #[inline(always)]
-    pub fn attempt<W: Wires>(
+    pub fn attempt<W: InterruptLines>(
         &mut self,
         core: &mut Core,
         regs: &HRegs,
         cache: &mut Cache,
         mem: &mut HostMem,
-        wires: &W,
+        interrupt_lines: &W,
     ) -> Outcome
         requires count { CanCount self.old }
         requires aligned { core.old.pc % instruction_size ≡ 0 }
@@ -72,7 +72,7 @@ impl Cpu {
         requires apart { WalksApart mem.old regs.now.hgatp }
         requires agrees { CacheAgrees mem.old.tables cache.old }
         ensures counted { self.new ≡ self.old + 1 }
-        ensures attempted { attempted_of mem.new core.new regs.now result ≡ attempt mem.old (core_of core.old regs.now) (W.seen wires.now) }
+        ensures attempted { attempted_of mem.new core.new regs.now result ≡ attempt mem.old (core_of core.old regs.now) (W.seen interrupt_lines.now) }
         ensures pc { core.new.pc % instruction_size ≡ 0 }
         ensures tables { mem.new.tables ≡ mem.old.tables }
         ensures filled { FilledUnder mem.old.tables regs.now.hgatp cache.old cache.new }
@@ -80,6 +80,6 @@ impl Cpu {
         ensures written { OnlyWrites mem.old mem.new result }
     {
         self.count += 1;
-        attempt(&mut self.words, core, regs, cache, mem, wires)
+        attempt(&mut self.words, core, regs, cache, mem, interrupt_lines)
     }
 }

@@ -1,16 +1,18 @@
 // One attempt of a hart.
 
 ghost use Rattle.std.specs.Prelude.{◌≡◌, ◌<◌, Some, None};
-ghost use Rattle.processor.specs.Effects.{set_register};
-ghost use Rattle.processor.specs.HypervisorRegisters.{pending};
-ghost use Rattle.processor.specs.HardwareMemory.{translation_result};
-ghost use Rattle.processor.specs.declared.access.Access.TheVariants as Access;
-ghost use Rattle.processor.specs.HardwareAttempt.{after_word, after_fetch, attempt, OnlyWrites};
-ghost use Rattle.processor.specs.IntegerRegisters.{register_count};
+ghost use Rattle.spec_processor.specs.Effects.{set_register};
+ghost use Rattle.spec_processor.specs.HypervisorRegisters.{pending};
+ghost use Rattle.spec_processor.specs.HardwareMemory.{translation_result};
+ghost use Rattle.spec_processor.specs.declared.access.Access.TheVariants as Access;
+ghost use Rattle.spec_processor.specs.HardwareAttempt.{after_word, after_fetch, attempt, OnlyWrites};
+ghost use Rattle.spec_processor.specs.IntegerRegisters.{register_count};
 ghost use Rattle.hart.specs.Cores.{core_of, attempted_of};
 ghost use Rattle.hart.specs.Conditions.{MayAttempt, StaysReady};
 
+use crate::decode_cache::{DecodeCache, Decoded};
 use crate::hart::Core;
+use crate::interrupt_lines::InterruptLines;
 use crate::memory::{Request, aligned_place, translation_result};
 use crate::requests::{
     Format, Operation, Stored, atomic, load, load_reserved, retire, store, store_conditional,
@@ -19,68 +21,70 @@ use crate::system::{
     CsrAccess, call, csr, csr_reached, illegal, sret, supervisor_only, virtual_instruction,
 };
 use crate::trap::{interrupt, plain_exception, raise};
-use crate::wires::Wires;
-use crate::words::{Decoded, Words};
 use csr_file::pending;
 use gstage_cache::Cache;
 use host_mem::HostMem;
-use processor::{Access, Cause, Effect, HRegs, INSTRUCTION_BYTES, Interrupt, Outcome};
 use rv64_exec::effect;
+use spec_processor::{Access, Cause, Effect, HRegs, INSTRUCTION_BYTES, Interrupt, Outcome};
 
 /// What `Cpu::attempt` does, without the count.
-#[tactic(auto, using(gstage_cache::specs::Fills::nothing_filled, gstage_cache::specs::Fills::filled_further), unfolding(processor::specs::HardwareAttempt::attempt, processor::specs::HardwareAttempt::after_pending))]
+#[tactic(auto, using(gstage_cache::specs::Fills::nothing_filled, gstage_cache::specs::Fills::filled_further), unfolding(spec_processor::specs::HardwareAttempt::attempt, spec_processor::specs::HardwareAttempt::after_pending))]
 #[inline(always)]
-pub(crate) fn attempt<W: Wires>(
-    words: &mut Words,
+pub(crate) fn attempt<W: InterruptLines>(
+    words: &mut DecodeCache,
     core: &mut Core,
     regs: &HRegs,
     cache: &mut Cache,
     mem: &mut HostMem,
-    wires: &W,
+    interrupt_lines: &W,
 ) -> Outcome
     requires ready { MayAttempt mem.old core.old regs.now cache.old }
-    ensures attempted { attempted_of mem.new core.new regs.now result ≡ attempt mem.old (core_of core.old regs.now) (W.seen wires.now) }
+    ensures attempted { attempted_of mem.new core.new regs.now result ≡ attempt mem.old (core_of core.old regs.now) (W.seen interrupt_lines.now) }
     ensures kept { StaysReady mem.old mem.new core.new regs.now cache.old cache.new }
     ensures written { OnlyWrites mem.old mem.new result }
 {
-    match interrupt_due(core, regs, wires) {
+    match interrupt_due(core, regs, interrupt_lines) {
         Some(taken) => interrupt(core, regs, taken),
-        None => fetch(words, core, regs, cache, mem, wires),
+        None => fetch(words, core, regs, cache, mem, interrupt_lines),
     }
 }
 
 // The interrupt that is taken. Where none is enabled, no wire is read.
-#[tactic(auto, unfolding(processor::specs::HypervisorRegisters::pending, processor::specs::HypervisorRegisters::is_taken))]
+#[tactic(auto, unfolding(spec_processor::specs::HypervisorRegisters::pending, spec_processor::specs::HypervisorRegisters::is_taken))]
 #[inline(always)]
-fn interrupt_due<W: Wires>(core: &Core, regs: &HRegs, wires: &W) -> Option<Interrupt>
-    ensures { result ≡ pending regs.now core.now.csrs (W.seen wires.now) }
+fn interrupt_due<W: InterruptLines>(
+    core: &Core,
+    regs: &HRegs,
+    interrupt_lines: &W,
+) -> Option<Interrupt>
+    ensures { result ≡ pending regs.now core.now.csrs (W.seen interrupt_lines.now) }
 {
     if core.csrs.hie == 0 {
         return None;
     }
-    pending(&core.csrs, regs, &wires.lines())
+    pending(&core.csrs, regs, &interrupt_lines.lines())
 }
 
 // What the pc leads to, carried out.
-#[tactic(auto, using(gstage_cache::specs::Fills::nothing_filled, gstage_cache::specs::Fills::filled_further), unfolding(processor::specs::HardwareAttempt::after_fetch))]
+#[tactic(auto, using(gstage_cache::specs::Fills::nothing_filled, gstage_cache::specs::Fills::filled_further), unfolding(spec_processor::specs::HardwareAttempt::after_fetch))]
 #[inline(always)]
-fn fetch<W: Wires>(
-    words: &mut Words,
+fn fetch<W: InterruptLines>(
+    words: &mut DecodeCache,
     core: &mut Core,
     regs: &HRegs,
     cache: &mut Cache,
     mem: &mut HostMem,
-    wires: &W,
+    interrupt_lines: &W,
 ) -> Outcome
     requires ready { MayAttempt mem.old core.old regs.now cache.old }
-    ensures attempted { attempted_of mem.new core.new regs.now result ≡ after_fetch mem.old (core_of core.old regs.now) (W.seen wires.now) (translation_result mem.old (core_of core.old regs.now) Access.Fetch core.old.pc 0) }
+    ensures attempted { attempted_of mem.new core.new regs.now result ≡ after_fetch mem.old (core_of core.old regs.now) (W.seen interrupt_lines.now) (translation_result mem.old (core_of core.old regs.now) Access.Fetch core.old.pc 0) }
     ensures kept { StaysReady mem.old mem.new core.new regs.now cache.old cache.new }
 {
     match translation_result(core, regs, cache, mem, Request::fetch(core.pc)) {
         Ok(hpa) => {
             let word = mem.read(hpa as usize, INSTRUCTION_BYTES as u8) as u32;
             let decoded = words.decoded_word(core.pc, word);
-            carry_out(core, regs, cache, mem, wires, decoded)
+            carry_out(core, regs, cache, mem, interrupt_lines, decoded)
         }
         Err(exception) => raise(core, regs, exception),
     }
@@ -98,18 +102,18 @@ fn set(core: &mut Core, rd: u8, value: u64, next: u64) -> Outcome
 }
 
 // A word that was decoded, carried out.
-#[tactic(auto, using(gstage_cache::specs::Fills::nothing_filled, processor_laws::proofs::EffectRequests::is_request), unfolding(processor::specs::HardwareAttempt::after_word, processor::specs::HardwareAttempt::after_instruction, processor::specs::HardwareAttempt::after_effect))]
+#[tactic(auto, using(gstage_cache::specs::Fills::nothing_filled, laws_processor::proofs::EffectRequests::is_request), unfolding(spec_processor::specs::HardwareAttempt::after_word, spec_processor::specs::HardwareAttempt::after_instruction, spec_processor::specs::HardwareAttempt::after_effect))]
 #[inline(always)]
-fn carry_out<W: Wires>(
+fn carry_out<W: InterruptLines>(
     core: &mut Core,
     regs: &HRegs,
     cache: &mut Cache,
     mem: &mut HostMem,
-    wires: &W,
+    interrupt_lines: &W,
     decoded: &Decoded,
 ) -> Outcome
     requires ready { MayAttempt mem.old core.old regs.now cache.old }
-    ensures attempted { attempted_of mem.new core.new regs.now result ≡ after_word mem.old (core_of core.old regs.now) (W.seen wires.now) decoded.now.word }
+    ensures attempted { attempted_of mem.new core.new regs.now result ≡ after_word mem.old (core_of core.old regs.now) (W.seen interrupt_lines.now) decoded.now.word }
     ensures kept { StaysReady mem.old mem.new core.new regs.now cache.old cache.new }
 {
     let word = decoded.word;
@@ -171,7 +175,7 @@ fn carry_out<W: Wires>(
         } => {
             let reached = csr_reached(core, regs, word, number, writes);
             let access = CsrAccess { op, value, writes };
-            csr(core, regs, &wires.lines(), rd, access, reached)
+            csr(core, regs, &interrupt_lines.lines(), rd, access, reached)
         }
         Effect::Ecall => call(core, regs),
         Effect::Ebreak => raise(core, regs, plain_exception(Cause::Breakpoint, core.pc)),

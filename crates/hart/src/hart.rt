@@ -1,13 +1,13 @@
 // The hart's state.
 
 ghost use Rattle.std.specs.Prelude.{◌≡◌, replicate, None, false};
-ghost use Rattle.processor.specs.HypervisorRegisters.{registers_at_boot};
-ghost use Rattle.processor.specs.Requests.{touches, after_write};
-ghost use Rattle.processor.specs.IntegerRegisters.{register_count};
+ghost use Rattle.spec_processor.specs.HypervisorRegisters.{registers_at_boot};
+ghost use Rattle.spec_processor.specs.Requests.{touches, after_write};
+ghost use Rattle.spec_processor.specs.IntegerRegisters.{register_count};
 
 use csr_file::Csrs;
-use processor::RESERVED_BYTES;
 use rv64_exec::Regs;
+use spec_processor::RESERVED_BYTES;
 
 /// What an attempt sees and changes of a hart. Its reservation is the host place of the 8 aligned bytes; its mode is that of
 /// its hypervisor registers.
@@ -33,7 +33,7 @@ impl Core {
     }
 
     /// Clears a reservation of which some bytes are among the `width` bytes from a host place on.
-    #[tactic(auto, unfolding(processor::specs::Requests::after_write))]
+    #[tactic(auto, unfolding(spec_processor::specs::Requests::after_write))]
     pub fn forget(&mut self, hpa: u64, width: u64)
         ensures { self.new ≡ record self.old { reservation = after_write hpa width self.old.reservation } }
     {
@@ -64,7 +64,7 @@ impl Hart {
     }
 }
 
-#[tactic(auto, unfolding(processor::specs::Requests::touches))]
+#[tactic(auto, unfolding(spec_processor::specs::Requests::touches))]
 fn touches(reserved: u64, hpa: u64, width: u64) -> bool
     ensures { result ≡ touches reserved hpa width }
 {

@@ -1,23 +1,23 @@
 // Where an access to memory goes.
 
 ghost use Rattle.std.specs.Prelude.{◌≡◌, ◌≤◌, ℕ, ◌/◌, ◌%◌, length, IfOk, IfSome, Ok};
-ghost use Rattle.processor.specs.Regions.{IsWidth, IsHostPlace};
-ghost use Rattle.processor.specs.SecondStage.{WalksApart};
-ghost use Rattle.processor.specs.CachedWalks.{CacheAgrees};
-ghost use Rattle.processor.specs.HardwareMemory.{misaligned_cause, page_fault, guest_page_fault, fault_exception, settings_at, translation_result, aligned_translation, load_htinst, store_htinst, atomic_htinst};
-ghost use Rattle.processor.specs.Roots.{IsFirstStageRoot};
-ghost use Rattle.processor.specs.declared.access.Access.TheVariants as Access;
+ghost use Rattle.spec_processor.specs.Regions.{IsWidth, IsHostPlace};
+ghost use Rattle.spec_processor.specs.GStage.{WalksApart};
+ghost use Rattle.spec_processor.specs.CachedWalks.{CacheAgrees};
+ghost use Rattle.spec_processor.specs.HardwareMemory.{misaligned_cause, page_fault, guest_page_fault, fault_exception, settings_at, translation_result, aligned_translation, load_htinst, store_htinst, atomic_htinst};
+ghost use Rattle.spec_processor.specs.Roots.{IsFirstStageRoot};
+ghost use Rattle.spec_processor.specs.declared.access.Access.TheVariants as Access;
 ghost use Rattle.hart.specs.Cores.{core_of};
 ghost use Rattle.gstage_cache.specs.CacheWalks.{MayWalk, Walked};
 ghost use Rattle.sv39_walk.specs.Regimes.{settings_of};
 
 use crate::hart::Core;
 use crate::trap::plain_exception;
-use csr_file::{MXR_PLACE, SUM_PLACE};
+use csr_file::{MXR_BIT, SUM_BIT};
 use gstage_cache::Cache;
 use host_mem::HostMem;
-use processor::{
-    Access, BARE, Cause, Exception, Fault, HRegs, HTVAL_UNIT, ROOT_MODE_PLACE, has_bit,
+use spec_processor::{
+    Access, BARE, Cause, Exception, Fault, HRegs, HTVAL_UNIT, ROOT_MODE_SHIFT, has_bit,
 };
 use sv39_walk::{Regime, translate_through};
 
@@ -156,13 +156,13 @@ pub fn regime(core: &Core, regs: &HRegs) -> Regime
         hgatp: regs.hgatp,
         vsatp: core.csrs.vsatp,
         mode: regs.mode,
-        sum: has_bit(status, SUM_PLACE),
-        mxr: has_bit(status, MXR_PLACE),
+        sum: has_bit(status, SUM_BIT),
+        mxr: has_bit(status, MXR_BIT),
     }
 }
 
 // `translation_result` by a walk, kept out of the way of addresses whose translation is held.
-#[tactic(auto, unfolding(processor::specs::HardwareMemory::translation_result))]
+#[tactic(auto, unfolding(spec_processor::specs::HardwareMemory::translation_result))]
 #[inline(never)]
 fn walked_translation(
     core: &Core,
@@ -206,7 +206,7 @@ fn held_place(
     ensures ram { IfSome result (λ hpa. length mem.now.tables ≤ hpa) }
 {
     let _table_bytes = mem.table_bytes();
-    if core.csrs.vsatp >> ROOT_MODE_PLACE == BARE {
+    if core.csrs.vsatp >> ROOT_MODE_SHIFT == BARE {
         cache.held_place(mem, regs.hgatp, request.address, request.access)
     } else {
         None
@@ -214,7 +214,7 @@ fn held_place(
 }
 
 /// The host place of a virtual address, or the exception of an access there.
-#[tactic(auto, unfolding(processor::specs::HardwareMemory::translation_result))]
+#[tactic(auto, unfolding(spec_processor::specs::HardwareMemory::translation_result))]
 #[inline(always)]
 pub(crate) fn translation_result(
     core: &Core,
@@ -237,7 +237,7 @@ pub(crate) fn translation_result(
 
 /// The host place of `width` bytes at an address, or the exception of an access there: first that it is no multiple of
 /// the width, then those of its translation.
-#[tactic(auto, unfolding(processor::specs::HardwareMemory::aligned_translation))]
+#[tactic(auto, unfolding(spec_processor::specs::HardwareMemory::aligned_translation))]
 #[inline(always)]
 pub(crate) fn aligned_place(
     core: &Core,

@@ -1,20 +1,20 @@
 // Loads, stores and atomic instructions, by the host place that they reached.
 
 ghost use Rattle.std.specs.Prelude.{true, ◌≡◌, ◌⊎◌, ◌<◌, ◌≤◌, ◌%◌, length, IfOk};
-ghost use Rattle.processor.specs.Effects.{set_register, next_pc};
-ghost use Rattle.processor.specs.Regions.{IsWidth, IsHostPlace};
-ghost use Rattle.processor.specs.Requests.{loaded_value, covers};
-ghost use Rattle.processor.specs.HardwareMemory.{retire, retire_with, after_load, after_load_reserved, after_store, after_store_conditional, after_amo};
-ghost use Rattle.processor.specs.IntegerRegisters.{register_count};
+ghost use Rattle.spec_processor.specs.Effects.{set_register, next_pc};
+ghost use Rattle.spec_processor.specs.Regions.{IsWidth, IsHostPlace};
+ghost use Rattle.spec_processor.specs.Requests.{loaded_value, covers};
+ghost use Rattle.spec_processor.specs.HardwareMemory.{retire, retire_with, after_load, after_load_reserved, after_store, after_store_conditional, after_amo};
+ghost use Rattle.spec_processor.specs.IntegerRegisters.{register_count};
 ghost use Rattle.hart.specs.Cores.{core_of, step_of, attempted_of};
 ghost use Rattle.hart.specs.Conditions.{MayStep};
-ghost use Rattle.processor.specs.Bytes.{instruction_size};
+ghost use Rattle.spec_processor.specs.Bytes.{instruction_size};
 
 use crate::hart::Core;
 use crate::trap::raise;
 use host_mem::HostMem;
-use processor::{AmoOp, Exception, HRegs, INSTRUCTION_BYTES, Outcome, RESERVED_BYTES, Wrote};
 use rv64_exec::{amo, loaded_value};
+use spec_processor::{AmoOp, Exception, HRegs, INSTRUCTION_BYTES, Outcome, RESERVED_BYTES, Wrote};
 
 /// The hart goes on behind an instruction that is done.
 #[inline(always)]
@@ -45,7 +45,7 @@ pub(crate) struct Format {
 }
 
 /// A load.
-#[tactic(auto, unfolding(processor::specs::HardwareMemory::after_load))]
+#[tactic(auto, unfolding(spec_processor::specs::HardwareMemory::after_load))]
 #[inline(always)]
 pub(crate) fn load(
     core: &mut Core,
@@ -77,7 +77,7 @@ pub(crate) fn load(
 }
 
 /// A load that reserves its place.
-#[tactic(auto, unfolding(processor::specs::HardwareMemory::after_load_reserved))]
+#[tactic(auto, unfolding(spec_processor::specs::HardwareMemory::after_load_reserved))]
 #[inline(always)]
 pub(crate) fn load_reserved(
     core: &mut Core,
@@ -112,7 +112,7 @@ pub(crate) struct Stored {
 }
 
 /// A store.
-#[tactic(auto, using(gstage_cache::proofs::WritesAndWalks::write_behind), unfolding(processor::specs::HardwareMemory::after_store))]
+#[tactic(auto, using(gstage_cache::proofs::WritesAndWalks::write_after), unfolding(spec_processor::specs::HardwareMemory::after_store))]
 #[inline(always)]
 pub(crate) fn store(
     core: &mut Core,
@@ -144,7 +144,7 @@ pub(crate) fn store(
     }
 }
 
-#[tactic(auto, unfolding(processor::specs::Requests::covers))]
+#[tactic(auto, unfolding(spec_processor::specs::Requests::covers))]
 fn covers(reservation: Option<u64>, hpa: u64, width: u8) -> bool
     ensures { result ≡ covers reservation hpa width }
 {
@@ -158,7 +158,7 @@ fn covers(reservation: Option<u64>, hpa: u64, width: u8) -> bool
 }
 
 /// A store that is carried out where its bytes lie in the hart's reservation, which goes in both cases.
-#[tactic(auto, using(gstage_cache::proofs::WritesAndWalks::write_behind), unfolding(processor::specs::HardwareMemory::after_store_conditional))]
+#[tactic(auto, using(gstage_cache::proofs::WritesAndWalks::write_after), unfolding(spec_processor::specs::HardwareMemory::after_store_conditional))]
 #[inline(always)]
 pub(crate) fn store_conditional(
     core: &mut Core,
@@ -208,7 +208,7 @@ pub(crate) struct Operation {
 }
 
 /// An atomic instruction: a load, and a store of what the operation makes of the loaded word.
-#[tactic(auto, using(gstage_cache::proofs::WritesAndWalks::write_behind), unfolding(processor::specs::HardwareMemory::after_amo))]
+#[tactic(auto, using(gstage_cache::proofs::WritesAndWalks::write_after), unfolding(spec_processor::specs::HardwareMemory::after_amo))]
 #[inline(always)]
 pub(crate) fn atomic(
     core: &mut Core,

@@ -1,18 +1,18 @@
 // Register accesses and instructions of the system.
 
 ghost use Rattle.std.specs.Prelude.{◌≡◌, ◌<◌, ◌%◌, if◌then◌else◌};
-ghost use Rattle.processor.specs.Requests.{csr_value};
-ghost use Rattle.processor.specs.Hardware.{plain_exception, raise};
-ghost use Rattle.processor.specs.HardwareAttempt.{illegal, virtual_instruction, csr_exception, csr_reached, csr_read, with_csr, after_csr, after_supervisor_only, after_sret, call_cause};
-ghost use Rattle.processor.specs.IntegerRegisters.{register_count};
+ghost use Rattle.spec_processor.specs.Requests.{csr_value};
+ghost use Rattle.spec_processor.specs.Hardware.{plain_exception, raise};
+ghost use Rattle.spec_processor.specs.HardwareAttempt.{illegal, virtual_instruction, csr_exception, csr_reached, csr_read, with_csr, after_csr, after_supervisor_only, after_sret, call_cause};
+ghost use Rattle.spec_processor.specs.IntegerRegisters.{register_count};
 ghost use Rattle.hart.specs.Cores.{core_of, step_of};
 ghost use Rattle.hart.specs.Conditions.{MayStep};
-ghost use Rattle.processor.specs.Bytes.{instruction_size};
+ghost use Rattle.spec_processor.specs.Bytes.{instruction_size};
 
 use crate::hart::Core;
 use crate::requests::{retire, retire_with};
 use crate::trap::{plain_exception, raise};
-use processor::{Cause, Csr, CsrFault, CsrOp, Exception, HRegs, Lines, Mode, Outcome};
+use spec_processor::{Cause, Csr, CsrFault, CsrOp, Exception, HRegs, Lines, Mode, Outcome};
 
 /// The exception of a word that isn't carried out.
 pub(crate) fn illegal(word: u32) -> Exception
@@ -38,7 +38,7 @@ fn csr_exception(word: u32, fault: CsrFault) -> Exception
 }
 
 /// The register that an access reaches, or the exception. An access that also writes is judged as a write.
-#[tactic(auto, unfolding(processor::specs::HardwareAttempt::csr_reached))]
+#[tactic(auto, unfolding(spec_processor::specs::HardwareAttempt::csr_reached))]
 pub(crate) fn csr_reached(
     core: &Core,
     regs: &HRegs,
@@ -55,7 +55,7 @@ pub(crate) fn csr_reached(
 }
 
 /// What an access makes of the old value and its operand.
-#[tactic(auto, unfolding(processor::specs::Requests::csr_value))]
+#[tactic(auto, unfolding(spec_processor::specs::Requests::csr_value))]
 pub fn csr_value(op: CsrOp, old: u64, operand: u64) -> u64
     ensures { result ≡ csr_value op old operand }
 {
@@ -88,7 +88,7 @@ fn exchange(core: &mut Core, regs: &HRegs, lines: &Lines, access: CsrAccess, csr
 }
 
 /// An access to a register.
-#[tactic(auto, unfolding(processor::specs::HardwareAttempt::after_csr))]
+#[tactic(auto, unfolding(spec_processor::specs::HardwareAttempt::after_csr))]
 #[inline(always)]
 pub(crate) fn csr(
     core: &mut Core,
@@ -113,7 +113,7 @@ pub(crate) fn csr(
 }
 
 /// An instruction of supervisor mode that changes the pc alone.
-#[tactic(auto, unfolding(processor::specs::HardwareAttempt::after_supervisor_only))]
+#[tactic(auto, unfolding(spec_processor::specs::HardwareAttempt::after_supervisor_only))]
 #[inline(always)]
 pub(crate) fn supervisor_only(core: &mut Core, regs: &HRegs, word: u32) -> Outcome
     requires ready { MayStep core.old regs.now }

@@ -1,16 +1,16 @@
 // The two ways of a trap.
 
 ghost use Rattle.std.specs.Prelude.{◌≡◌, ◌%◌};
-ghost use Rattle.processor.specs.Hardware.{raise, after_interrupt, leave, guest_trap, plain_exception};
-ghost use Rattle.processor.specs.Traps.{is_interrupt, guest_number};
-ghost use Rattle.processor.specs.declared.mode.Mode.TheVariants as Mode;
+ghost use Rattle.spec_processor.specs.Hardware.{raise, after_interrupt, leave, guest_trap, plain_exception};
+ghost use Rattle.spec_processor.specs.Traps.{is_interrupt, guest_number};
+ghost use Rattle.spec_processor.specs.declared.mode.Mode.TheVariants as Mode;
 ghost use Rattle.hart.specs.Cores.{core_of, step_of};
 ghost use Rattle.hart.specs.Conditions.{MayStep};
-ghost use Rattle.processor.specs.Bytes.{instruction_size};
+ghost use Rattle.spec_processor.specs.Bytes.{instruction_size};
 
 use crate::hart::Core;
 use csr_file::{into_guest, into_hypervisor};
-use processor::{Cause, Exception, Exit, ExitCause, HRegs, Interrupt, Mode, Outcome, has_bit};
+use spec_processor::{Cause, Exception, Exit, ExitCause, HRegs, Interrupt, Mode, Outcome, has_bit};
 
 /// An exception that is no guest-page fault.
 pub(crate) fn plain_exception(cause: Cause, tval: u64) -> Exception
@@ -25,7 +25,7 @@ pub(crate) fn plain_exception(cause: Cause, tval: u64) -> Exception
 }
 
 /// An exception is taken by the guest's kernel where `hedeleg` has its bit, and else by the hypervisor.
-#[tactic(auto, unfolding(processor::specs::Hardware::raise))]
+#[tactic(auto, unfolding(spec_processor::specs::Hardware::raise))]
 #[inline(always)]
 pub(crate) fn raise(core: &mut Core, regs: &HRegs, exception: Exception) -> Outcome
     requires ready { MayStep core.old regs.now }
@@ -48,7 +48,7 @@ pub(crate) fn raise(core: &mut Core, regs: &HRegs, exception: Exception) -> Outc
 }
 
 /// An interrupt is taken by the guest's kernel where `hideleg` has its bit, and else by the hypervisor.
-#[tactic(auto, unfolding(processor::specs::Hardware::after_interrupt))]
+#[tactic(auto, unfolding(spec_processor::specs::Hardware::after_interrupt))]
 #[inline(always)]
 pub(crate) fn interrupt(core: &mut Core, regs: &HRegs, interrupt: Interrupt) -> Outcome
     requires ready { MayStep core.old regs.now }
@@ -71,7 +71,7 @@ pub(crate) fn interrupt(core: &mut Core, regs: &HRegs, interrupt: Interrupt) -> 
 }
 
 // Only kernel mode has a trap delegated, so the mode stays.
-#[tactic(auto, unfolding(processor::specs::Hardware::guest_trap))]
+#[tactic(auto, unfolding(spec_processor::specs::Hardware::guest_trap))]
 #[inline(always)]
 fn guest_trap(core: &mut Core, regs: &HRegs, cause: ExitCause, tval: u64) -> Outcome
     requires aligned { core.old.pc % instruction_size ≡ 0 }
@@ -84,7 +84,7 @@ fn guest_trap(core: &mut Core, regs: &HRegs, cause: ExitCause, tval: u64) -> Out
     Outcome::GuestTrap
 }
 
-#[tactic(auto, unfolding(processor::specs::Hardware::leave))]
+#[tactic(auto, unfolding(spec_processor::specs::Hardware::leave))]
 #[inline(always)]
 fn leave(core: &mut Core, regs: &HRegs, exit: Exit) -> Outcome
     requires aligned { core.old.pc % instruction_size ≡ 0 }

@@ -2,10 +2,10 @@
 use Rattle.std.proofs.Common.{◌≡◌, ℕ, ◌+◌, ◌-◌, ◌*◌, ◌%◌, ◌≤◌, List, length, take, drop, replicate, length-take, refl, sym, ◌∙◌, ap, arith}
 use Rattle.std.proofs.lemmas.List.{drop-drop, take-replicate, drop-replicate}
 use borrow.Rule.Slice.PartMut.{put_mid}
-use Rattle.processor.specs.Bytes.{word, write_word, overwrite, page_bytes, page_size}
-use Rattle.processor.specs.Regions.{Region, IsHostPlace, host_bytes, region_of, host_word, write_host}
-use Rattle.processor_laws.proofs.ByteLemmas.{overwrite_behind}
-use Rattle.processor_laws.proofs.RegionLemmas.{bytes_of_region, region_of_bytes, word_of_region, write_of_region, tables_of_region}
+use Rattle.spec_processor.specs.Bytes.{word, write_word, overwrite, page_bytes, page_size}
+use Rattle.spec_processor.specs.Regions.{Region, IsHostPlace, host_bytes, region_of, host_word, write_host}
+use Rattle.laws_processor.proofs.ByteLemmas.{overwrite_after}
+use Rattle.laws_processor.proofs.RegionLemmas.{bytes_of_region, region_of_bytes, word_of_region, write_of_region, tables_of_region}
 use Rattle.host_mem.proofs.WordFacts.{part_put}
 
 -- the bytes are those of the region that is seen, and its table part is whole pages
@@ -54,16 +54,16 @@ copy_seen tables bytes copied r at stop seen end =
     ∙ ap (λ (list : List ℕ). overwrite list at copied) (sym (bytes_seen tables bytes r seen))
 
 -- behind the tables it changes RAM alone
-pub copy_behind : (tables : ℕ) (bytes copied : List ℕ) (r : Region) (at stop : ℕ) → Seen tables bytes r → stop ≡ at + length copied → length r.tables ≤ at
+pub copy_after : (tables : ℕ) (bytes copied : List ℕ) (r : Region) (at stop : ℕ) → Seen tables bytes r → stop ≡ at + length copied → length r.tables ≤ at
     → region_of tables (put_mid at (stop - at) bytes copied) ≡ record r { ram = overwrite r.ram (at - length r.tables) copied }
-copy_behind tables bytes copied r at stop seen end behind =
+copy_after tables bytes copied r at stop seen end behind =
     let place : length r.tables + (at - length r.tables) ≡ at = omega arith in
     let after : Region = record r { ram = overwrite r.ram (at - length r.tables) copied } in
     let whole : put_mid at (stop - at) bytes copied ≡ host_bytes after =
     part_put bytes copied at stop end
     ∙ ap (λ (list : List ℕ). overwrite list at copied) (sym (bytes_seen tables bytes r seen))
     ∙ ap (λ (i : ℕ). overwrite (host_bytes r) i copied) (sym place)
-    ∙ overwrite_behind r.tables r.ram copied (at - length r.tables) in
+    ∙ overwrite_after r.tables r.ram copied (at - length r.tables) in
     ap (region_of tables) whole ∙ region_of_bytes after tables (tables_seen tables bytes r seen)
 
 pub zeros_seen : (tables ram size : ℕ) → size ≡ tables + ram

@@ -3,8 +3,8 @@ use Rattle.std.proofs.Common.{◌≡◌, ℕ, suc, ◌+◌, ◌*◌, ◌%◌, �
 use Rattle.std.proofs.lemmas.List.{append-nil, drop_more, drop_all, drop-drop, set_split, take_all}
 use Rattle.std.specs.Int.{from_le_bytes, w16, w32, w64}
 use borrow.Rule.Slice.PartMut.{put_mid}
-use Rattle.processor.specs.Bytes.{word, write_word, overwrite, low_bytes}
-use Rattle.processor_laws.proofs.ByteLemmas.{length_low_bytes}
+use Rattle.spec_processor.specs.Bytes.{word, write_word, overwrite, low_bytes}
+use Rattle.laws_processor.proofs.ByteLemmas.{length_low_bytes}
 
 -- ---- reading
 

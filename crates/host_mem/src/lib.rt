@@ -2,17 +2,17 @@
 #![tactic(auto)]
 
 ghost use Rattle.std.specs.Prelude.{◌≡◌, ◌+◌, ◌-◌, ◌*◌, ◌<◌, ◌≤◌, ◌%◌, ◌^◌, length, Some, None, IfOk, IfSome, if◌then◌else◌, replicate};
-ghost use Rattle.processor.specs.Bytes.{page_size, page_bytes, overwrite, in_ram, ram_base, ram_place};
-ghost use Rattle.processor.specs.Regions.{Region, IsRegion, IsHostPlace, most_ram_pages, host_bytes, host_word, write_host};
-ghost use Rattle.processor.specs.Translation.{entry_size};
+ghost use Rattle.spec_processor.specs.Bytes.{page_size, page_bytes, overwrite, in_ram, ram_base, ram_offset};
+ghost use Rattle.spec_processor.specs.Regions.{Region, IsRegion, IsHostPlace, max_ram_pages, host_bytes, host_word, write_host};
+ghost use Rattle.spec_processor.specs.Translation.{entry_size};
 
 mod steps;
 mod words;
 
 pub use crate::steps::Steps;
 pub use crate::words::{put_word, word_at};
-use processor::{ENTRY_WIDTH, PAGE_BYTES, PAGE_SIZE, is_in_ram, ram_place};
-use raw_bytes::RawBytes;
+use host_bytes::RawBytes;
+use spec_processor::{ENTRY_WIDTH, PAGE_BYTES, PAGE_SIZE, is_in_ram, ram_offset};
 use std::alloc::{AllocError, Global};
 use std::marker::Model;
 use std::sync::ledger::Ledger;
@@ -26,19 +26,19 @@ pub struct HostMem {
 }
 
 impl Model for HostMem {
-    ghost use Rattle.processor.specs.Regions.{Region, region_code};
+    ghost use Rattle.spec_processor.specs.Regions.{Region, region_code};
 
     ghost Value = { Region };
 
     ghost coded = { region_code };
 
     ghost use Rattle.std.specs.Prelude.{◌≡◌, ◌+◌, ◌*◌, ◌<◌, ◌≤◌, ◌%◌, ◌^◌, length};
-    ghost use Rattle.processor.specs.Bytes.{page_size};
-    ghost use Rattle.processor.specs.Regions.{region_of, most_ram_pages};
+    ghost use Rattle.spec_processor.specs.Bytes.{page_size};
+    ghost use Rattle.spec_processor.specs.Regions.{region_of, max_ram_pages};
 
     ghost view = { λ m. region_of m.table_bytes m.bytes };
 
-    ghost invariant = { λ m. (length m.bytes ≡ m.table_bytes + page_size * m.ram_pages) × ((m.table_bytes % page_size ≡ 0) × ((m.ram_pages ≤ most_ram_pages) × (length m.bytes < 2 ^ 63))) };
+    ghost invariant = { λ m. (length m.bytes ≡ m.table_bytes + page_size * m.ram_pages) × ((m.table_bytes % page_size ≡ 0) × ((m.ram_pages ≤ max_ram_pages) × (length m.bytes < 2 ^ 63))) };
 }
 
 impl HostMem {
@@ -46,7 +46,7 @@ impl HostMem {
     /// of them zeros. Fails where memory is wanting.
     pub fn new(alloc: Global, table_bytes: usize, ram_pages: usize) -> Result<HostMem, AllocError>
         requires whole { table_bytes % page_size ≡ 0 }
-        requires few { ram_pages ≤ most_ram_pages }
+        requires few { ram_pages ≤ max_ram_pages }
         ensures { IfOk result (λ m. m ≡ record { tables = replicate table_bytes 0; ram = replicate (page_size * ram_pages) 0 }) }
     {
         let Some(size) = table_bytes.checked_add(PAGE_SIZE * ram_pages) else {
@@ -78,14 +78,14 @@ impl HostMem {
 
     /// The place in RAM of `len` bytes at a guest-physical address, where they all lie in RAM.
     pub fn place_in_ram(&self, gpa: u64, len: u64) -> Option<usize>
-        ensures value { result ≡ (if in_ram self.now.ram gpa len then Some (ram_place gpa) else None) }
+        ensures value { result ≡ (if in_ram self.now.ram gpa len then Some (ram_offset gpa) else None) }
         ensures begins { IfSome result (λ place. ram_base ≤ gpa) }
         ensures ends { IfSome result (λ place. place + len ≤ length self.now.ram) }
         ensures region { IsRegion self.now }
     {
         let ram_bytes = PAGE_BYTES * self.ram_pages() as u64;
         if is_in_ram(gpa, len, ram_bytes) {
-            Some(ram_place(gpa) as usize)
+            Some(ram_offset(gpa) as usize)
         } else {
             None
         }

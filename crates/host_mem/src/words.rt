@@ -1,8 +1,8 @@
 // Words in a row of bytes, the lowest byte first.
 
 ghost use Rattle.std.specs.Prelude.{◌≡◌, ◌+◌, ◌<◌, ◌≤◌, ◌^◌, length};
-ghost use Rattle.processor.specs.Bytes.{word, write_word};
-ghost use Rattle.processor.specs.Regions.{IsWidth};
+ghost use Rattle.spec_processor.specs.Bytes.{word, write_word};
+ghost use Rattle.spec_processor.specs.Regions.{IsWidth};
 
 /// The word of `width` bytes at `at`.
 pub fn word_at(bytes: &[u8], at: usize, width: u8) -> u64

@@ -15,7 +15,7 @@ use Rattle.std.specs.Cmp.{first_so, second_so}
 use Rattle.sv_types.specs.declared.event.Event.{Event}
 use Rattle.sv_types.specs.declared.event.Event.TheVariants.{Key}
 use Rattle.sv_types.specs.Numbers.{decimal_value, is_number, number_within}
-use Rattle.sv_types.specs.Schedule.{Auto, lines, fields, two_fields_events, most_repeats, single, auto_event, random_at}
+use Rattle.sv_types.specs.Schedule.{Auto, lines, fields, two_fields_events, max_repeats, single, auto_event, random_at}
 use Rattle.sv_types.specs.ApprovedPages.{numbers_from}
 use Rattle.script.specs.declared.said.Said.{Said}
 use Rattle.script.specs.declared.said.Said.TheVariants.{This, Drawn}
@@ -105,7 +105,7 @@ auto_said : (n : ℕ) → 1 ≤ n → n ≤ 2 ^ 32 → line_said (auto_line n) �
 unfolding line_said two_fields_said
 auto_said n some few =
     ap fields_said (two_fields (codes "auto") n no_blank_auto (omega arith))
-    ∙ ap (λ (o : Option ℕ). option_map drawn_times o) (number_back 1 most_repeats n (omega arith) some few)
+    ∙ ap (λ (o : Option ℕ). option_map drawn_times o) (number_back 1 max_repeats n (omega arith) some few)
 
 -- ---- the events that are said
 
@@ -122,26 +122,26 @@ drawn_autos harts first (suc n) more =
     ∙ ap (λ (k : ℕ). auto_event harts 0 first ∷ map (auto_event harts 0) (numbers_from (first + 1) n) ++ events_drawn (Auto harts (random_at 0 k)) more) behind
 
 -- the events of lines, behind so many of `auto(0, harts)`
-abbrev events_behind : (harts first : ℕ) → List (List ℕ) → List Event
-events_behind harts first all = events_drawn (Auto harts (random_at 0 first)) (flat_map said_of_line all)
+abbrev events_after : (harts first : ℕ) → List (List ℕ) → List Event
+events_after harts first all = events_drawn (Auto harts (random_at 0 first)) (flat_map said_of_line all)
 
 after_autos : (harts first n : ℕ) (rest : List (List ℕ)) → n ≤ 2 ^ 32 →
-    events_behind harts first (auto_lines n ++ rest) ≡ map (auto_event harts 0) (numbers_from first n) ++ events_behind harts (first + n) rest
+    events_after harts first (auto_lines n ++ rest) ≡ map (auto_event harts 0) (numbers_from first n) ++ events_after harts (first + n) rest
 after_autos harts first zero rest few = drawn_autos harts first 0 (flat_map said_of_line rest)
 after_autos harts first (suc n) rest few =
     ap (λ (o : Option (List Said)). events_drawn (Auto harts (random_at 0 first)) (unwrap_or o [] ++ flat_map said_of_line rest)) (auto_said (suc n) (omega arith) few)
     ∙ drawn_autos harts first (suc n) (flat_map said_of_line rest)
 
-after_key : (harts first byte : ℕ) (rest : List (List ℕ)) → byte ≤ 255 → events_behind harts first (key_line byte ∷ rest) ≡ Key byte ∷ events_behind harts first rest
+after_key : (harts first byte : ℕ) (rest : List (List ℕ)) → byte ≤ 255 → events_after harts first (key_line byte ∷ rest) ≡ Key byte ∷ events_after harts first rest
 after_key harts first byte rest few =
     ap (λ (o : Option (List Said)). events_drawn (Auto harts (random_at 0 first)) (unwrap_or o [] ++ flat_map said_of_line rest)) (key_said byte few)
 
-empty_line : (harts first : ℕ) → events_behind harts first ([] ∷ []) ≡ []
+empty_line : (harts first : ℕ) → events_after harts first ([] ∷ []) ≡ []
 unfolding line_said
 empty_line harts first = refl
 
 reads : (harts first : ℕ) (keys : List LiveKey) (last : ℕ) → is_placed first keys last ≡ true → are_bytes keys ≡ true → last ≤ 2 ^ 32 →
-    events_behind harts first (journal_lines first keys last ++ [] ∷ []) ≡ events_between harts first keys last
+    events_after harts first (journal_lines first keys last ++ [] ∷ []) ≡ events_between harts first keys last
 reads harts first [] last is bytes few =
     let le = placed_le first last [] is in
     after_autos harts first (last - first) ([] ∷ []) (omega arith)
@@ -154,9 +154,9 @@ reads harts first (key ∷ keys) last is bytes few =
     let byte = leb-true key.byte 255 (first_so (nat_le key.byte 255) (are_bytes keys) bytes) in
     let end : first + (key.before - first) ≡ key.before = omega arith in
     let rest : List (List ℕ) = journal_lines key.before keys last ++ [] ∷ [] in
-    ap (λ (ls : List (List ℕ)). events_behind harts first ls) (append_assoc (auto_lines (key.before - first)) (key_line key.byte ∷ journal_lines key.before keys last) ([] ∷ []))
+    ap (λ (ls : List (List ℕ)). events_after harts first ls) (append_assoc (auto_lines (key.before - first)) (key_line key.byte ∷ journal_lines key.before keys last) ([] ∷ []))
     ∙ after_autos harts first (key.before - first) (key_line key.byte ∷ rest) (omega arith)
-    ∙ ap (λ (k : ℕ). autos_between harts first key.before ++ events_behind harts k (key_line key.byte ∷ rest)) end
+    ∙ ap (λ (k : ℕ). autos_between harts first key.before ++ events_after harts k (key_line key.byte ∷ rest)) end
     ∙ ap (λ (es : List Event). autos_between harts first key.before ++ es) (after_key harts key.before key.byte rest byte)
     ∙ ap (λ (es : List Event). autos_between harts first key.before ++ Key key.byte ∷ es)
     (reads harts key.before keys last behind (second_so (nat_le key.byte 255) (are_bytes keys) bytes) few)
@@ -193,7 +193,7 @@ pub journal_reads : (harts : ℕ) (keys : List LiveKey) (last : ℕ) → is_plac
     events_of_text harts (journal_text keys last) ≡ events_between harts 0 keys last
 unfolding journal_text text_said random_at
 journal_reads harts keys last is bytes few =
-    ap (λ (ls : List (List ℕ)). events_behind harts 0 ls) (lines_back (journal_lines 0 keys last) (journal_without 0 keys last is bytes few))
+    ap (λ (ls : List (List ℕ)). events_after harts 0 ls) (lines_back (journal_lines 0 keys last) (journal_without 0 keys last is bytes few))
     ∙ reads harts 0 keys last is bytes few
 
 -- ---- no line is refused

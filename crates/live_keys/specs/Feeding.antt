@@ -2,7 +2,7 @@
 use Rattle.std.specs.Prelude.{◌≡◌, ◌<◌, ◌≤◌, ◌⊎◌, [], Bool, true, false, length, Option, Some, None}
 use Rattle.atomic_table.specs.Seated.{TableId}
 use Rattle.live_keys.specs.Keys.{KeysState, with_front, IsAtEnd}
-use Rattle.live_keys.specs.Line.{Feeding, most_keys}
+use Rattle.live_keys.specs.Line.{Feeding, max_keys}
 
 -- a feeder that came with this line and has sent nothing
 abbrev pub IsFresh : TableId → Option Feeding → Type 0
@@ -13,7 +13,7 @@ IsFresh line (Some feeder) = (feeder.line ≡ line) × (feeder.bytes ≡ [])
 pub record Feeds (own : TableId) (old new : KeysState) (feeder : Feeding) (broke : Bool) : Type 0 where
   pub line : feeder.line ≡ own
   pub taken : old.left ≡ with_front feeder.bytes new.left
-  pub few : length feeder.bytes ≤ most_keys
-  pub all : broke ≡ false → (length feeder.bytes ≡ most_keys) ⊎ IsAtEnd new.left
+  pub few : length feeder.bytes ≤ max_keys
+  pub all : broke ≡ false → (length feeder.bytes ≡ max_keys) ⊎ IsAtEnd new.left
   pub failed : broke ≡ true → old.faults < new.faults
   pub no_fault : broke ≡ false → new.faults ≡ old.faults

@@ -22,11 +22,11 @@ journal_lines first [] last = auto_lines (last - first)
 journal_lines first (key ∷ keys) last = auto_lines (key.before - first) ++ key_line key.byte ∷ journal_lines key.before keys last
 
 -- the most bytes that a key's line takes with the run before it, and the last run
-abbrev pub most_key_bytes : ℕ
-most_key_bytes = 24
+abbrev pub max_key_bytes : ℕ
+max_key_bytes = 24
 
-abbrev pub most_run_bytes : ℕ
-most_run_bytes = 16
+abbrev pub max_run_bytes : ℕ
+max_run_bytes = 16
 
 abbrev pub ended_line : List ℕ → List ℕ
 ended_line line = line ++ line_end

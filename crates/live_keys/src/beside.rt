@@ -1,7 +1,7 @@
 // Keys that a second thread reads.
 ghost use Rattle.std.specs.Prelude.{◌≡◌, ◌<◌, ◌-◌, []};
 ghost use Rattle.live_keys.specs.Feeding.{IsFresh, Feeds};
-ghost use Rattle.processor.specs.Counters.{CanCount};
+ghost use Rattle.spec_processor.specs.Counters.{CanCount};
 
 use crate::keys::{Keys, Pace};
 use crate::line::{Fed, Feeder, KeyLine};

@@ -14,7 +14,7 @@ mod text;
 
 pub use journal::Journal;
 pub use keys::{Keys, Pace, Still};
-pub use line::{Fed, Feeder, KeyLine, MOST_KEYS, Taker};
+pub use line::{Fed, Feeder, KeyLine, MAX_KEYS, Taker};
 pub use live_key::LiveKey;
 pub use memory_keys::MemKeys;
 pub use real_keys::ReaderKeys;

@@ -8,7 +8,7 @@ use std::io::{ErrorKind, Read};
 use sv_types::Failed;
 
 /// How often a read that was interrupted is tried.
-const MOST_TRIES: u32 = 1000;
+const MAX_TRIES: u32 = 1000;
 
 /// The bytes of a reader. Behind its end nothing more is read: a terminal would go on.
 #[derive(Drop)]
@@ -54,7 +54,7 @@ impl<I: Read + Drop> Keys for ReaderKeys<I> {
 // None at the end.
 fn next_byte<I: Read>(reader: &mut I) -> io::Result<Option<u8>> {
     let mut byte = [0u8; 1];
-    for _ in 0..MOST_TRIES {
+    for _ in 0..MAX_TRIES {
         match reader.read(&mut byte) {
             Ok(0) => return Ok(None),
             Ok(_) => return Ok(Some(byte[0])),

@@ -1,10 +1,10 @@
 // How a journal grows, and what its events are. A law takes no argument and does nothing; its clauses are the theorem.
 ghost use Rattle.std.specs.Prelude.{◌≡◌, ◌<◌, ◌+◌, ◌++◌, ◌∷◌, ℕ, List, [], true, vec_len, IfOk};
-ghost use Rattle.processor.specs.Counters.{CanCount};
+ghost use Rattle.spec_processor.specs.Counters.{CanCount};
 ghost use Rattle.sv_types.specs.Schedule.{Schedule, auto_event, first_events};
 ghost use Rattle.sv_types.specs.declared.event.Event.TheVariants.{Key};
 ghost use Rattle.live_keys.specs.declared.live_key.LiveKey.{LiveKey as Placed};
-ghost use Rattle.live_keys.specs.Line.{most_keys};
+ghost use Rattle.live_keys.specs.Line.{max_keys};
 ghost use Rattle.live_keys.specs.Placed.{is_placed, events_between, bytes_of, keys_among, others_among};
 ghost use Rattle.live_keys.specs.Journal.{events_of, key_bytes, HasRoom};
 
@@ -30,7 +30,7 @@ impl Journal {
     #[tactic(auto, using(crate::proofs::Events::placed_key, crate::proofs::Events::bytes_key, crate::proofs::Events::events_key))]
     pub fn add_key(&mut self, byte: u8)
         requires room { HasRoom self.old }
-        requires few { vec_len self.old.keys < most_keys }
+        requires few { vec_len self.old.keys < max_keys }
         ensures events { (harts : ℕ) → events_of harts self.new ≡ events_of harts self.old ++ Key byte ∷ [] }
         ensures bytes { key_bytes self.new ≡ key_bytes self.old ++ byte ∷ [] }
         ensures autos { self.new.autos ≡ self.old.autos }

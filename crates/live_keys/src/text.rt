@@ -1,7 +1,7 @@
 // A journal as the text of a script.
 ghost use Rattle.std.specs.Prelude.{◌≡◌, ◌≤◌, ◌+◌, ◌*◌, ◌-◌, ◌++◌, ℕ, None, IfOk, OnOk, length, string_bytes};
 ghost use Rattle.script.specs.AutoScripts.{events_of_text, first_refused};
-ghost use Rattle.sv_types.specs.Limits.{most_events};
+ghost use Rattle.sv_types.specs.Limits.{max_events};
 ghost use Rattle.live_keys.specs.Journal.{events_of};
 ghost use Rattle.live_keys.specs.JournalText as spec;
 
@@ -35,11 +35,11 @@ fn push_autos(alloc: Global, text: &mut String, first: u64, last: u64) -> Result
 /// bytes.
 #[tactic(auto, unfolding(crate::specs::JournalText::journal_text))]
 pub fn journal_text(alloc: Global, journal: &Journal) -> Result<String, AllocError>
-    requires few { journal.now.autos ≤ most_events }
+    requires few { journal.now.autos ≤ max_events }
     ensures text { IfOk result (λ t. string_bytes t ≡ spec.journal_text journal.now.keys.items journal.now.autos) }
     ensures reads { IfOk result (λ t. (harts : ℕ) → events_of_text harts (string_bytes t) ≡ events_of harts journal.now) }
     ensures accepted { IfOk result (λ t. first_refused (string_bytes t) ≡ None) }
-    ensures size { IfOk result (λ t. length (string_bytes t) ≤ spec.most_key_bytes * length journal.now.keys.items + spec.most_run_bytes) }
+    ensures size { IfOk result (λ t. length (string_bytes t) ≤ spec.max_key_bytes * length journal.now.keys.items + spec.max_run_bytes) }
 {
     let mut text = String::new(alloc);
     let mut made = 0;

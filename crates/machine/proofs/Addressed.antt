@@ -2,49 +2,49 @@
 -- and nothing else moves one.
 use Rattle.std.proofs.Common.{◌≡◌, ℕ, zero, suc, ◌+◌, ◌*◌, ◌%◌, ◌^◌, ◌<◌, ◌≤◌, List, [], ◌∷◌, map, length, refl, sym, subst, Bool, true, false, not, arith, slice_get, slice_set}
 use Rattle.std.specs.Prelude.{Option, Some, None, if◌then◌else◌, ◌==◌}
-use Rattle.processor.specs.Bytes.{in_ram, page_of, page_size, ram_place}
-use Rattle.processor.specs.Causes.{cause_number}
-use Rattle.processor.specs.Effects.{effect_of}
-use Rattle.processor.specs.Instructions.{instruction_of}
-use Rattle.processor.specs.Regions.{most_ram_pages}
-use Rattle.processor.specs.Requests.{after_write, covers, reserved_at, touches}
-use Rattle.processor.specs.Translation.{Destination, At, PageFault, Unreadable, Settings, place}
-use Rattle.processor.specs.Traps.{deliverable, interrupt_number, trap_target}
-use Rattle.processor.specs.declared.cause.Cause.{Cause}
-use Rattle.processor.specs.declared.csr.Csr.{Csr}
-use Rattle.processor.specs.declared.effect.Effect.{Effect}
+use Rattle.spec_processor.specs.Bytes.{in_ram, page_of, page_size, ram_offset}
+use Rattle.spec_processor.specs.Causes.{cause_number}
+use Rattle.spec_processor.specs.Effects.{effect_of}
+use Rattle.spec_processor.specs.Instructions.{instruction_of}
+use Rattle.spec_processor.specs.Regions.{max_ram_pages}
+use Rattle.spec_processor.specs.Requests.{after_write, covers, reserved_at, touches}
+use Rattle.spec_processor.specs.Translation.{Destination, At, PageFault, Unreadable, Settings, place}
+use Rattle.spec_processor.specs.Traps.{deliverable, interrupt_number, trap_target}
+use Rattle.spec_processor.specs.declared.cause.Cause.{Cause}
+use Rattle.spec_processor.specs.declared.csr.Csr.{Csr}
+use Rattle.spec_processor.specs.declared.effect.Effect.{Effect}
 use Rattle.sv_types.specs.declared.event.Event.{Event}
 use Rattle.sv_types.specs.declared.event.Event.TheVariants.{Turn, Beat, Key, Tick, Poke}
 use Rattle.sv_types.specs.declared.event.Verdict.{Verdict}
 use Rattle.sv_types.specs.declared.event.Verdict.TheVariants.{Running, Shutdown, Stopped}
-use Rattle.processor.specs.declared.instruction.AmoOp.{AmoOp}
-use Rattle.processor.specs.declared.instruction.CsrOp.{CsrOp}
-use Rattle.processor.specs.declared.instruction.Instr.{Instr}
-use Rattle.processor.specs.declared.access.Access.TheVariants as Access
-use Rattle.processor.specs.declared.interrupt.Interrupt.{Interrupt}
-use Rattle.processor.specs.declared.mode.Mode.{Mode}
-use Rattle.processor.specs.declared.mode.Mode.TheVariants.{Kernel, User}
-use Rattle.reference.specs.States.{State, Hart, Loading, Binding, is_protected}
-use Rattle.reference.specs.Counting.{count, count_turn, count_beat, count_key, count_tick}
-use Rattle.reference.specs.Answers.{with_reply, harts_beside, state_after_answer}
-use Rattle.reference.specs.Calls.{hart_at, interrupt_harts, with_software, mask_names}
-use Rattle.reference.specs.declared.answers.Answer.{Answer}
-use Rattle.reference.specs.declared.answers.Beside.{Beside}
-use Rattle.reference.specs.declared.answers.Beside.TheVariants.{SendsInterrupts, StartsHart}
-use Rattle.reference.specs.declared.answers.Reply.{Reply}
-use Rattle.reference.specs.declared.answers.Reply.TheVariants.{Gives, Replies, Stays, Stops}
-use Rattle.reference.specs.Devices.{DeviceLoad, DeviceStore, hart_after_write, with_bytes, after_move, may_move_to, beat, poke, key, tick, device_load, device_store, lines_at, with_disk}
-use Rattle.reference.specs.Attacker.{poke_move}
-use Rattle.reference.specs.Disk.{Beaten, disk_beat}
-use Rattle.reference.specs.Move.{Move, Idle, FromRam, IntoRam, DeniedAt, OutsideRam}
-use Rattle.reference.specs.Loads.{decide, load_step_of}
-use Rattle.reference.specs.Requests.{Source, Target, carried_out_writing, load_source, settings_of, source_at, source_of, target_of, csr_asked, carry_out_device_load, carry_out_load, carry_out_load_reserved, carry_out_device_store, carry_out_store, carry_out_store_conditional, carry_out_amo, carry_out_csr}
-use Rattle.reference.specs.Run.{happen, happen_under, step}
-use Rattle.reference.specs.Trapping.{hart_at_return, hart_at_trap, trap_from, exception, returned_from_trap, may_enter}
-use Rattle.reference.specs.Turn.{carry_out_kernel_only, carry_out_ecall, carry_out_sret, carry_out_effect, carry_out_instruction, carry_out_word, Fetched, NoWord, Stray, Word, fetch_of, act_on_fetch, place_of_pc, leads_into, outside, leave_entry, fetch_in_entry, bound_entry, act_on_pending, act, turn_of_started, turn_of, turn}
-use Rattle.saved_machine.specs.SavedStates.{gpa_at}
+use Rattle.spec_processor.specs.declared.instruction.AmoOp.{AmoOp}
+use Rattle.spec_processor.specs.declared.instruction.CsrOp.{CsrOp}
+use Rattle.spec_processor.specs.declared.instruction.Instr.{Instr}
+use Rattle.spec_processor.specs.declared.access.Access.TheVariants as Access
+use Rattle.spec_processor.specs.declared.interrupt.Interrupt.{Interrupt}
+use Rattle.spec_processor.specs.declared.mode.Mode.{Mode}
+use Rattle.spec_processor.specs.declared.mode.Mode.TheVariants.{Kernel, User}
+use Rattle.spec_reference.specs.States.{State, Hart, Loading, Binding, is_protected}
+use Rattle.spec_reference.specs.Counting.{count, count_turn, count_beat, count_key, count_tick}
+use Rattle.spec_reference.specs.Answers.{with_reply, harts_side_effect, state_after_answer}
+use Rattle.spec_reference.specs.Calls.{hart_at, interrupt_harts, with_software, mask_names}
+use Rattle.spec_reference.specs.declared.answers.Answer.{Answer}
+use Rattle.spec_reference.specs.declared.answers.SideEffect.{SideEffect}
+use Rattle.spec_reference.specs.declared.answers.SideEffect.TheVariants.{SendsInterrupts, StartsHart}
+use Rattle.spec_reference.specs.declared.answers.Reply.{Reply}
+use Rattle.spec_reference.specs.declared.answers.Reply.TheVariants.{Gives, Replies, Stays, Stops}
+use Rattle.spec_reference.specs.Devices.{DeviceLoad, DeviceStore, hart_after_write, with_bytes, after_move, may_move_to, beat, poke, key, tick, device_load, device_store, lines_at, with_disk}
+use Rattle.spec_reference.specs.Attacker.{poke_move}
+use Rattle.spec_reference.specs.Disk.{DmaStep, disk_beat}
+use Rattle.spec_reference.specs.Move.{Move, Idle, FromRam, IntoRam, DeniedAt, OutsideRam}
+use Rattle.spec_reference.specs.Loads.{decide, load_step_of}
+use Rattle.spec_reference.specs.Requests.{Source, Target, carried_out_writing, load_source, settings_of, source_at, source_of, target_of, csr_asked, carry_out_device_load, carry_out_load, carry_out_load_reserved, carry_out_device_store, carry_out_store, carry_out_store_conditional, carry_out_amo, carry_out_csr}
+use Rattle.spec_reference.specs.Run.{happen, happen_under, step}
+use Rattle.spec_reference.specs.Trapping.{hart_at_return, hart_at_trap, trap_from, exception, returned_from_trap, may_enter}
+use Rattle.spec_reference.specs.Turn.{carry_out_kernel_only, carry_out_ecall, carry_out_sret, carry_out_effect, carry_out_instruction, carry_out_word, Fetched, NoWord, Stray, Word, fetch_of, act_on_fetch, place_of_pc, leads_into, outside_entry, leave_entry, fetch_in_entry, bound_entry, act_on_pending, act, turn_of_started, turn_of, turn}
+use Rattle.spec_saved_machine.specs.SavedStates.{gpa_at}
 use Rattle.machine.specs.Machines.{HasAddress, HaveAddresses}
-use Rattle.run_laws.proofs.RequestsSound.{room_of}
+use Rattle.laws_invariants.proofs.RequestsSound.{room_of}
 
 -- ---- all harts
 
@@ -148,12 +148,12 @@ is_source ram settings mode address width = aligned_source ram width (address % 
 
 -- RAM lies below the end of all addresses
 abbrev IsSmall : List ℕ → Type 0
-IsSmall ram = length ram ≤ page_size * most_ram_pages
+IsSmall ram = length ram ≤ page_size * max_ram_pages
 
-reserved_address : (ram : List ℕ) (gpa width : ℕ) → IsSmall ram → in_ram ram gpa width ≡ true → gpa_at (reserved_at (ram_place gpa)) < 2 ^ 64
-reserved_address ram gpa width small inside = below (ram_place gpa) width (length ram) small (room_of ram gpa width inside)
+reserved_address : (ram : List ℕ) (gpa width : ℕ) → IsSmall ram → in_ram ram gpa width ≡ true → gpa_at (reserved_at (ram_offset gpa)) < 2 ^ 64
+reserved_address ram gpa width small inside = below (ram_offset gpa) width (length ram) small (room_of ram gpa width inside)
   where
-    below : (at width size : ℕ) → size ≤ page_size * most_ram_pages → at + width ≤ size → gpa_at (reserved_at at) < 2 ^ 64
+    below : (at width size : ℕ) → size ≤ page_size * max_ram_pages → at + width ≤ size → gpa_at (reserved_at at) < 2 ^ 64
     below at width size small room = omega arith
 
 load_reserved_keeps : (r : State) (h : ℕ) (hart : Hart) (rd address width : ℕ) (x : Source) → IsSmall r.ram → IsSource r.ram width x → Keeps r
@@ -179,7 +179,7 @@ store_keeps : (r : State) (h : ℕ) (hart : Hart) (address width value : ℕ) (x
 unfolding carry_out_store
 store_keeps r h hart address width value (Target.NoTarget cause) k has = exception_keeps r h hart cause address k
 store_keeps r h hart address width value (Target.Guarded gpa) k has = k
-store_keeps r h hart address width value (Target.ToRam gpa) k has = written_keeps r h _ (ram_place gpa) _ k has
+store_keeps r h hart address width value (Target.ToRam gpa) k has = written_keeps r h _ (ram_offset gpa) _ k has
 store_keeps r h hart address width value (Target.ToDevice gpa) k has = device_store_keeps r h hart address (device_store r.devices r.journal gpa width value) k
 
 store_conditional_keeps : (r : State) (h : ℕ) (hart : Hart) (rd address width value : ℕ) (x : Target) → Keeps r
@@ -188,7 +188,7 @@ unfolding carry_out_store_conditional
 store_conditional_keeps r h hart rd address width value (Target.NoTarget cause) k = exception_keeps r h hart cause address k
 store_conditional_keeps r h hart rd address width value (Target.Guarded gpa) k = k
 store_conditional_keeps r h hart rd address width value (Target.ToRam gpa) k =
-    choose_keeps (covers hart.reservation (ram_place gpa) width) _ _ (written_keeps r h _ (ram_place gpa) _ k tt) (set_addressed r.harts h _ k tt)
+    choose_keeps (covers hart.reservation (ram_offset gpa) width) _ _ (written_keeps r h _ (ram_offset gpa) _ k tt) (set_addressed r.harts h _ k tt)
 store_conditional_keeps r h hart rd address width value (Target.ToDevice gpa) k = exception_keeps r h hart Cause.StoreAccess address k
 
 amo_keeps : (r : State) (h : ℕ) (hart : Hart) (rd address width : ℕ) (op : AmoOp) (value : ℕ) (x : Target) → Keeps r → HasAddress hart.reservation
@@ -196,7 +196,7 @@ amo_keeps : (r : State) (h : ℕ) (hart : Hart) (rd address width : ℕ) (op : A
 unfolding carry_out_amo
 amo_keeps r h hart rd address width op value (Target.NoTarget cause) k has = exception_keeps r h hart cause address k
 amo_keeps r h hart rd address width op value (Target.Guarded gpa) k has = k
-amo_keeps r h hart rd address width op value (Target.ToRam gpa) k has = written_keeps r h _ (ram_place gpa) _ k has
+amo_keeps r h hart rd address width op value (Target.ToRam gpa) k has = written_keeps r h _ (ram_offset gpa) _ k has
 amo_keeps r h hart rd address width op value (Target.ToDevice gpa) k has = exception_keeps r h hart Cause.StoreAccess address k
 
 -- ---- registers
@@ -220,8 +220,8 @@ replied_addressed (Replies a0 a1) hart = tt
 replied_addressed Stays hart = tt
 replied_addressed Stops hart = tt
 
-beside_addressed : (b : Beside) (harts : List Hart) → HaveAddresses harts → HaveAddresses (harts_beside b harts)
-unfolding harts_beside hart_at
+beside_addressed : (b : SideEffect) (harts : List Hart) → HaveAddresses harts → HaveAddresses (harts_side_effect b harts)
+unfolding harts_side_effect hart_at
 beside_addressed (SendsInterrupts mask base) harts have = sent_addressed (mask_names mask base) 0 harts have
 beside_addressed (StartsHart other pc opaque) harts have = set_addressed harts other _ have tt
 beside_addressed _ harts have = have
@@ -229,7 +229,7 @@ beside_addressed _ harts have = have
 answered_keeps : (r : State) (h : ℕ) (hart : Hart) (a : Answer) → Keeps r → Keeps (state_after_answer r h hart a)
 unfolding state_after_answer
 answered_keeps r h hart a k =
-    beside_addressed a.beside (slice_set r.harts h (with_reply a.reply hart)) (set_addressed r.harts h (with_reply a.reply hart) k (replied_addressed a.reply hart))
+    beside_addressed a.side_effect (slice_set r.harts h (with_reply a.reply hart)) (set_addressed r.harts h (with_reply a.reply hart) k (replied_addressed a.reply hart))
 
 load_step_keeps : (r : State) (h : ℕ) (hart : Hart) (load : Loading) (left : ℕ) → Keeps r → Keeps (load_step_of r h hart load left)
 unfolding load_step_of decide
@@ -295,7 +295,7 @@ entry_keeps r h hart None small k has = fetch_keeps r h hart (fetch_of r hart) s
 entry_keeps r h hart (Some entry) small k has =
     choose_keeps (leads_into r (page_of entry.gpa) (place_of_pc r hart)) _ _ (fetch_keeps r h hart (fetch_of r hart) small k has)
     (choose_keeps (hart.pc == entry.va) _ _ (set_addressed r.harts h _ k tt)
-    (fetch_keeps (leave_entry r h hart) h (outside hart) (fetch_of (leave_entry r h hart) (outside hart)) small (set_addressed r.harts h _ k has) has))
+    (fetch_keeps (leave_entry r h hart) h (outside_entry hart) (fetch_of (leave_entry r h hart) (outside_entry hart)) small (set_addressed r.harts h _ k has) has))
 
 pending_keeps : (r : State) (h : ℕ) (hart : Hart) (x : Option Interrupt) → IsSmall r.ram → Keeps r → HasAddress hart.reservation → Keeps (act_on_pending r h hart x)
 unfolding act_on_pending
@@ -327,14 +327,14 @@ move_keeps : (r : State) (x : Move) → Keeps r → Keeps (after_move r x)
 unfolding after_move
 move_keeps r Idle k = k
 move_keeps r (FromRam gpa) k = k
-move_keeps r (IntoRam gpa bytes) k = bytes_keep r (ram_place gpa) bytes k
+move_keeps r (IntoRam gpa bytes) k = bytes_keep r (ram_offset gpa) bytes k
 move_keeps r (DeniedAt gpa) k = k
 move_keeps r OutsideRam k = k
 
 beat_keeps : (r : State) → Keeps r → Keeps (beat r)
 unfolding beat
 beat_keeps r k =
-    let b : Beaten = disk_beat r.devices.disk r.ram (λ page. not (is_protected r page)) in
+    let b : DmaStep = disk_beat r.devices.disk r.ram (λ page. not (is_protected r page)) in
     move_keeps (with_disk r b.disk) b.move k
 
 poke_keeps : (r : State) (gpa value : ℕ) → Keeps r → Keeps (poke r gpa value)
@@ -365,6 +365,6 @@ under_keeps Running r e small k = happen_keeps r e small k
 under_keeps Shutdown r e small k = k
 under_keeps (Stopped rule h at) r e small k = k
 
-pub step_addressed : (r : State) (e : Event) → length r.ram ≤ page_size * most_ram_pages → HaveAddresses r.harts → HaveAddresses (step r e).harts
+pub step_addressed : (r : State) (e : Event) → length r.ram ≤ page_size * max_ram_pages → HaveAddresses r.harts → HaveAddresses (step r e).harts
 unfolding step
 step_addressed r e small k = under_keeps r.journal.verdict r e small k

@@ -1,46 +1,46 @@
 -- The turn behind a row, in which a hart leaves the guest, and what SecVisor answers it.
 use Rattle.std.proofs.Common.{◌≡◌, ℕ, ◌+◌, ◌-◌, ◌%◌, ◌<◌, ◌≤◌, Bool, true, false, List, length, refl, sym, ◌∙◌, ap, subst, arith, add-one}
 use Rattle.std.specs.Prelude.{Option, Some, None, if◌then◌else◌}
-use Rattle.processor.specs.Hardware.{Core, Attempted, leave, with_region}
-use Rattle.processor.specs.HardwareAttempt.{attempt}
-use Rattle.processor.specs.Instructions.{instruction_of, rows}
-use Rattle.processor.specs.Regions.{Region}
-use Rattle.processor.specs.Traps.{trap_target}
-use Rattle.processor.specs.declared.exit.Exit.{Exit}
-use Rattle.processor.specs.declared.mode.Mode.{Mode}
-use Rattle.processor.specs.declared.mode.Mode.TheVariants.{Kernel}
-use Rattle.processor.specs.declared.outcome.Outcome.{Outcome}
+use Rattle.spec_processor.specs.Hardware.{Core, Attempted, leave, with_region}
+use Rattle.spec_processor.specs.HardwareAttempt.{attempt}
+use Rattle.spec_processor.specs.Instructions.{instruction_of, rows}
+use Rattle.spec_processor.specs.Regions.{Region}
+use Rattle.spec_processor.specs.Traps.{trap_target}
+use Rattle.spec_processor.specs.declared.exit.Exit.{Exit}
+use Rattle.spec_processor.specs.declared.mode.Mode.{Mode}
+use Rattle.spec_processor.specs.declared.mode.Mode.TheVariants.{Kernel}
+use Rattle.spec_processor.specs.declared.outcome.Outcome.{Outcome}
 use Rattle.sv_types.specs.declared.event.Event.TheVariants.{Turn}
 use Rattle.sv_types.specs.declared.event.Rule.TheVariants.{Entry}
 use Rattle.sv_types.specs.declared.event.Verdict.{Verdict}
 use Rattle.sv_types.specs.declared.event.Verdict.TheVariants.{Running, Stopped}
-use Rattle.reference.specs.Counting.{CountsAtMost, MayCount, count_trap, count_turn, with_count, machine_ended}
-use Rattle.reference.specs.Devices.{lines_at}
-use Rattle.reference.specs.States.{Binding, Journal, State}
-use Rattle.reference.specs.Trapping.{may_enter}
-use Rattle.machine_model.specs.HardwareEvent.{attempt_of, left_by}
-use Rattle.machine_model.specs.HostExits.{host_exit_answered, served_exit}
-use Rattle.machine_model.specs.HostHarts.{asks_again, host_at_trap, host_seen}
-use Rattle.machine_model.specs.Machine.{HostHart, Machine, all_forget, with_count_raised, update, with_core}
-use Rattle.machine_model.specs.Served.{Seen, answer_in, exit_answer, is_again, is_sret, plain_answer, virtual_answer}
-use Rattle.machine_model.specs.StandsFor.{StandsFor}
-use Rattle.machine_model.specs.Steps.{AttemptsServed, IsStep, IsTurn, StepsUnder, WithTables}
-use Rattle.machine_model.specs.declared.exits.ExitAnswer.{ExitAnswer}
-use Rattle.quick_turns.specs.Ends.{is_left, with_leaving}
-use Rattle.quick_turns.specs.Rows.{Leaves, LeavesBy, call_exit, return_exit}
-use Rattle.quick_turns.specs.declared.leaving.Leaving.{Leaving}
-use Rattle.quick_turns.specs.declared.leaving.Leaving.TheVariants.{Stays, Calls, Returns}
+use Rattle.spec_reference.specs.Counting.{CountsAtMost, MayCount, count_trap, count_turn, with_count, machine_ended}
+use Rattle.spec_reference.specs.Devices.{lines_at}
+use Rattle.spec_reference.specs.States.{Binding, Journal, State}
+use Rattle.spec_reference.specs.Trapping.{may_enter}
+use Rattle.spec_hardware.specs.HardwareEvent.{attempt_of, left_by}
+use Rattle.spec_hardware.specs.HwExits.{hw_exit_answered, served_exit}
+use Rattle.spec_hardware.specs.HwHarts.{asks_again, hw_at_trap, hw_seen}
+use Rattle.spec_hardware.specs.Machine.{HwHart, Machine, all_forget, with_count_raised, update, with_core}
+use Rattle.spec_hardware.specs.Served.{Seen, answer_in, exit_answer, is_again, is_sret, plain_answer, virtual_answer}
+use Rattle.spec_hardware.specs.StandsFor.{StandsFor}
+use Rattle.spec_hardware.specs.Steps.{AttemptsServed, IsStep, IsTurn, StepsUnder, WithTables}
+use Rattle.spec_hardware.specs.declared.exits.ExitAnswer.{ExitAnswer}
+use Rattle.hw_fast_path.specs.Ends.{is_left, with_leaving}
+use Rattle.hw_fast_path.specs.Batches.{Leaves, LeavesBy, call_exit, return_exit}
+use Rattle.hw_fast_path.specs.declared.leaving.Leaving.{Leaving}
+use Rattle.hw_fast_path.specs.declared.leaving.Leaving.TheVariants.{Stays, Calls, Returns}
 use Rattle.machine.proofs.Repeated.{counts_within}
-use Rattle.machine.proofs.Rows.{Rowed, one_step, rowed}
-use Rattle.machine_parts.proofs.Rows.{row_printed, row_verdict, still_there, there_updated, updated_twice}
+use Rattle.machine.proofs.Batches.{Rowed, one_step, rowed}
+use Rattle.machine_events.proofs.Batches.{batch_printed, batch_verdict, still_there, there_updated, updated_twice}
 use Rattle.machine.proofs.Stepped.{Bounded}
-use Rattle.machine_parts.proofs.Turns.{carried, exit_served, turn_served}
-use Rattle.machine_parts.specs.Attempts.{hart_in}
-use Rattle.machine.specs.Limits.{most_counts}
+use Rattle.machine_events.proofs.Turns.{carried, exit_served, turn_served}
+use Rattle.machine_events.specs.Attempts.{hart_in}
+use Rattle.machine.specs.Limits.{max_counts}
 use Rattle.machine.specs.Machines.{HaveAddresses}
-use Rattle.machine_parts.specs.Rows.{AnswersLeaving, EndsRow, MayRow, after_attempts, after_row, call_answer, counted_leaving, counted_row}
-use Rattle.machine_parts.specs.Turns.{MayTrap, answered_exit}
-use Rattle.answer_laws.proofs.TurnsServed.{forgets_none}
+use Rattle.machine_events.specs.Batches.{AnswersLeaving, EndsBatch, MayBatch, after_attempts, after_batch, call_answer, counted_leaving, counted_batch}
+use Rattle.machine_events.specs.Turns.{MayTrap, answered_exit}
+use Rattle.laws_simulation.proofs.TurnsServed.{forgets_none}
 
 -- ---- what is answered, whatever entry the hart is in
 
@@ -81,21 +81,21 @@ either_printed : (b : Bool) (x y : Machine) (printed : List ℕ) → x.journal.p
 either_printed true x y printed e f = e
 either_printed false x y printed e f = f
 
-call_quiet : (m : Machine) (h : ℕ) (host : HostHart) (mode : Mode) → (host_exit_answered m h host mode call_answer).journal.printed ≡ m.journal.printed
-unfolding host_exit_answered
-call_quiet m h host mode =
-    either_printed (may_enter m.rules mode (trap_target host.core.csrs.vstvec false 8))
-    (record m { harts = update m.harts h (host_at_trap m.rules false 8 0); journal = with_count (count_trap mode) m.journal })
-    (record m { journal = machine_ended (Stopped (Entry (trap_target host.core.csrs.vstvec false 8)) h m.journal.counts.turns) m.journal })
+call_quiet : (m : Machine) (h : ℕ) (hw : HwHart) (mode : Mode) → (hw_exit_answered m h hw mode call_answer).journal.printed ≡ m.journal.printed
+unfolding hw_exit_answered
+call_quiet m h hw mode =
+    either_printed (may_enter m.rules mode (trap_target hw.core.csrs.vstvec false 8))
+    (record m { harts = update m.harts h (hw_at_trap m.rules false 8 0); journal = with_count (count_trap mode) m.journal })
+    (record m { journal = machine_ended (Stopped (Entry (trap_target hw.core.csrs.vstvec false 8)) h m.journal.counts.turns) m.journal })
     m.journal.printed refl refl
 
-return_quiet : (m : Machine) (h : ℕ) (host : HostHart) (mode : Mode) → (host_exit_answered m h host mode ExitAnswer.Returns).journal.printed ≡ m.journal.printed
-unfolding host_exit_answered
-return_quiet m h host mode = refl
+return_quiet : (m : Machine) (h : ℕ) (hw : HwHart) (mode : Mode) → (hw_exit_answered m h hw mode ExitAnswer.Returns).journal.printed ≡ m.journal.printed
+unfolding hw_exit_answered
+return_quiet m h hw mode = refl
 
 -- ---- the turn
 
-same_but : (m : Machine) (region other : Region) (harts others : List HostHart) (j : Journal) (n k : ℕ) → region ≡ other → harts ≡ others → n ≡ k
+same_but : (m : Machine) (region other : Region) (harts others : List HwHart) (j : Journal) (n k : ℕ) → region ≡ other → harts ≡ others → n ≡ k
     → record m { region = region; harts = harts; journal = j; attempts = n } ≡ record m { region = other; harts = others; journal = j; attempts = k }
 same_but m region other harts others j n k e f g = rw (e, f, g) refl
 
@@ -107,28 +107,28 @@ left_mode : (core : Core) (exit : Exit) → (leave core exit).core.hregs.mode �
 unfolding leave
 left_mode core exit = refl
 
-module _ (m : Machine) (h n : ℕ) (region : Region) (last core : Core) (exit : Exit) (answer : ExitAnswer) (after : Machine) (may : MayRow m h)
+module _ (m : Machine) (h n : ℕ) (region : Region) (last core : Core) (exit : Exit) (answer : ExitAnswer) (after : Machine) (may : MayBatch m h)
     (leaves : Leaves (attempt region last (lines_at m.devices h)) exit region last core)
     (asked : (seen : Seen) → seen.mode ≡ last.hregs.mode → exit_answer seen exit ≡ answer) (once : is_again answer ≡ false)
-    (done : WithTables (counted_leaving (record (after_row m h n region core) { attempts = m.attempts + (n + 1) }))
-    (answered_exit (counted_leaving (record (after_row m h n region core) { attempts = m.attempts + (n + 1) })) h answer) after) where
+    (done : WithTables (counted_leaving (record (after_batch m h n region core) { attempts = m.attempts + (n + 1) }))
+    (answered_exit (counted_leaving (record (after_batch m h n region core) { attempts = m.attempts + (n + 1) })) h answer) after) where
   abbrev now : Machine
-  now = after_row m h n region last
+  now = after_batch m h n region last
 
   abbrev behind : Machine
-  behind = counted_leaving (record (after_row m h n region core) { attempts = m.attempts + (n + 1) })
+  behind = counted_leaving (record (after_batch m h n region core) { attempts = m.attempts + (n + 1) })
 
-  abbrev host : HostHart
-  host = hart_in now.harts h
+  abbrev hw : HwHart
+  hw = hart_in now.harts h
 
-  host_is : host ≡ with_core last (hart_in m.harts h)
-  host_is = there_updated m.harts h last may.below
+  hw_is : hw ≡ with_core last (hart_in m.harts h)
+  hw_is = there_updated m.harts h last may.below
 
-  core_is : host.core ≡ last
-  core_is = ap (λ (x : HostHart). x.core) host_is
+  core_is : hw.core ≡ last
+  core_is = ap (λ (x : HwHart). x.core) hw_is
 
   made : Attempted
-  made = attempt_of (with_count_raised now count_turn) h host
+  made = attempt_of (with_count_raised now count_turn) h hw
 
   made_is : made ≡ with_region region (leave last exit)
   unfolding made
@@ -143,34 +143,34 @@ module _ (m : Machine) (h n : ℕ) (region : Region) (last core : Core) (exit : 
       ∙ ap (λ (c : Core). update now.harts h (with_core c)) (ap (λ (a : Attempted). a.core) made_is ∙ sym leaves.left)
       ∙ updated_twice m.harts h last core
 
-  left_is : left_by (with_count_raised now count_turn) h host ≡ behind
+  left_is : left_by (with_count_raised now count_turn) h hw ≡ behind
   unfolding made
   left_is =
       same_but m made.region region (all_forget made.outcome (update now.harts h (with_core made.core))) (update m.harts h (with_core core))
-      (with_count count_turn (counted_row n m.journal)) (m.attempts + n + 1) (m.attempts + (n + 1))
+      (with_count count_turn (counted_batch n m.journal)) (m.attempts + n + 1) (m.attempts + (n + 1))
       (ap (λ (a : Attempted). a.region) made_is) harts_are (omega arith)
 
   -- the hart that it left is in the same mode
   mode_is : (hart_in behind.harts h).core.hregs.mode ≡ last.hregs.mode
   mode_is =
-      ap (λ (x : HostHart). x.core.hregs.mode) (there_updated m.harts h core may.below)
+      ap (λ (x : HwHart). x.core.hregs.mode) (there_updated m.harts h core may.below)
       ∙ ap (λ (c : Core). c.hregs.mode) leaves.left ∙ left_mode last exit
 
   answered : WithTables behind (served_exit behind h exit) after
   answered =
       carried behind after h exit answer (still_there m.harts h h core may.below)
-      (sym (asked (host_seen behind.region.ram behind.rules (hart_in behind.harts h) (hart_in behind.harts h).core.hregs.mode exit) mode_is)) done
+      (sym (asked (hw_seen behind.region.ram behind.rules (hart_in behind.harts h) (hart_in behind.harts h).core.hregs.mode exit) mode_is)) done
 
-  not_again : asks_again region.ram m.rules host made.outcome ≡ false
+  not_again : asks_again region.ram m.rules hw made.outcome ≡ false
   unfolding asks_again
   not_again =
-      ap (λ (o : Outcome). asks_again region.ram m.rules host o) outcome_is
-      ∙ ap is_again (asked (host_seen region.ram m.rules host host.core.hregs.mode exit) (ap (λ (c : Core). c.hregs.mode) core_is)) ∙ once
+      ap (λ (o : Outcome). asks_again region.ram m.rules hw o) outcome_is
+      ∙ ap is_again (asked (hw_seen region.ram m.rules hw hw.core.hregs.mode exit) (ap (λ (c : Core). c.hregs.mode) core_is)) ∙ once
 
-  served : AttemptsServed (asks_again region.ram m.rules host made.outcome) (with_count_raised now count_turn) h host after
+  served : AttemptsServed (asks_again region.ram m.rules hw made.outcome) (with_count_raised now count_turn) h hw after
   unfolding made
   served =
-      subst (λ (again : Bool). AttemptsServed again (with_count_raised now count_turn) h host after) (sym not_again)
+      subst (λ (again : Bool). AttemptsServed again (with_count_raised now count_turn) h hw after) (sym not_again)
       (exit_served (with_count_raised now count_turn) after h exit false (still_there m.harts h h last may.below) outcome_is
       (subst (λ (x : Machine). WithTables x (served_exit x h exit) after) (sym left_is) answered))
 
@@ -178,60 +178,60 @@ module _ (m : Machine) (h n : ℕ) (region : Region) (last core : Core) (exit : 
   unfolding made
   turned =
       turn_served (with_count_raised now count_turn) after h (still_there m.harts h h last may.below)
-      (ap (λ (x : HostHart). x.started) host_is ∙ may.attempts.started) may.attempts.free served
+      (ap (λ (x : HwHart). x.started) hw_is ∙ may.attempts.started) may.attempts.free served
 
-  pub steps_behind : IsStep now (Turn h) after
+  pub steps_after : IsStep now (Turn h) after
   unfolding IsStep
-  steps_behind = subst (λ (v : Verdict). StepsUnder v now (Turn h) after) (sym (row_verdict n m.journal ∙ may.running)) turned
+  steps_after = subst (λ (v : Verdict). StepsUnder v now (Turn h) after) (sym (batch_verdict n m.journal ∙ may.running)) turned
 
   -- and one more turn of the row
-  pub behind_rowed : Rowed n m h now → (answered_exit behind h answer).journal.printed ≡ behind.journal.printed → Rowed (n + 1) m h after
-  behind_rowed row quiet =
+  pub after_rowed : Rowed n m h now → (answered_exit behind h answer).journal.printed ≡ behind.journal.printed → Rowed (n + 1) m h after
+  after_rowed batch quiet =
       subst (λ (k : ℕ). Rowed k m h after) (sym (add-one n))
-      (one_step m now after h n row (λ is. row_verdict n m.journal ∙ is) steps_behind
-      (ap (λ (x : Machine). length x.journal.printed) done.same ∙ ap (λ (xs : List ℕ). length xs) (quiet ∙ row_printed n m.journal)))
+      (one_step m now after h n batch (λ is. batch_verdict n m.journal ∙ is) steps_after
+      (ap (λ (x : Machine). length x.journal.printed) done.same ∙ ap (λ (xs : List ℕ). length xs) (quiet ∙ batch_printed n m.journal)))
 
 -- ---- a row with its end
 
-ended : (left : Leaving) (n : ℕ) (m after : Machine) (h : ℕ) (region : Region) (last core : Core) → MayRow m h → Rowed n m h (after_row m h n region last)
+ended : (left : Leaving) (n : ℕ) (m after : Machine) (h : ℕ) (region : Region) (last core : Core) → MayBatch m h → Rowed n m h (after_batch m h n region last)
     → LeavesBy left (attempt region last (lines_at m.devices h)) region last core → AnswersLeaving left (after_attempts left m h n region core) h after
     → Rowed (with_leaving left n) m h after
-ended Stays n m after h region last core may row same answer =
-    subst (λ (x : Machine). Rowed n m h x) (ap (λ (c : Core). after_row m h n region c) (sym same) ∙ sym answer) row
-ended Calls n m after h region last core may row (user, leaves) answer =
-    behind_rowed m h n region last core (call_exit last.pc) call_answer after may leaves (λ seen same. call_asked seen last.pc) call_once answer row
+ended Stays n m after h region last core may batch same answer =
+    subst (λ (x : Machine). Rowed n m h x) (ap (λ (c : Core). after_batch m h n region c) (sym same) ∙ sym answer) batch
+ended Calls n m after h region last core may batch (user, leaves) answer =
+    after_rowed m h n region last core (call_exit last.pc) call_answer after may leaves (λ seen same. call_asked seen last.pc) call_once answer batch
     (call_quiet (counted_leaving (after_attempts Calls m h n region core)) h (hart_in (update m.harts h (with_core core)) h) (hart_in (update m.harts h (with_core core)) h).core.hregs.mode)
-ended Returns n m after h region last core may row (kernel, leaves) answer =
-    behind_rowed m h n region last core (return_exit last.pc) ExitAnswer.Returns after may leaves (λ seen same. return_asked seen last.pc (same ∙ kernel)) return_once answer row
+ended Returns n m after h region last core may batch (kernel, leaves) answer =
+    after_rowed m h n region last core (return_exit last.pc) ExitAnswer.Returns after may leaves (λ seen same. return_asked seen last.pc (same ∙ kernel)) return_once answer batch
     (return_quiet (counted_leaving (after_attempts Returns m h n region core)) h (hart_in (update m.harts h (with_core core)) h) (hart_in (update m.harts h (with_core core)) h).core.hregs.mode)
 
 -- what is known of a machine that may make a row
 pub record Begins (m : Machine) (h : ℕ) : Type 0 where
   pub state : State
-  pub may : MayRow m h
+  pub may : MayBatch m h
   pub stands : StandsFor m state
   pub addresses : HaveAddresses state.harts
   pub bounded : Bounded m
 
-first_rowed : (left : Leaving) (n : ℕ) (m mid : Machine) (h : ℕ) → Begins m h → (ends : EndsRow left n m h mid) → Rowed n m h (after_row m h n ends.region ends.last)
+first_rowed : (left : Leaving) (n : ℕ) (m mid : Machine) (h : ℕ) → Begins m h → (ends : EndsBatch left n m h mid) → Rowed n m h (after_batch m h n ends.region ends.last)
 first_rowed left n m mid h begins ends =
     rowed n m h begins.state ends.region ends.last begins.may begins.stands begins.addresses begins.bounded ends.retires
 
-pub ends_rowed : (left : Leaving) (n : ℕ) (m mid after : Machine) (h : ℕ) → Begins m h → EndsRow left n m h mid → AnswersLeaving left mid h after
+pub ends_rowed : (left : Leaving) (n : ℕ) (m mid after : Machine) (h : ℕ) → Begins m h → EndsBatch left n m h mid → AnswersLeaving left mid h after
     → Rowed (with_leaving left n) m h after
 ends_rowed left n m mid after h begins ends answer =
     ended left n m after h ends.region ends.last ends.core begins.may (first_rowed left n m mid h begins ends) ends.leaves
     (subst (λ (x : Machine). AnswersLeaving left x h after) ends.same answer)
 
 -- a row after which the hart stays in the guest ends no run
-ends_running_by : (left : Leaving) (n : ℕ) (m mid after : Machine) (h : ℕ) → mid.journal ≡ counted_row n m.journal → AnswersLeaving left mid h after → left ≡ Stays
+ends_running_by : (left : Leaving) (n : ℕ) (m mid after : Machine) (h : ℕ) → mid.journal ≡ counted_batch n m.journal → AnswersLeaving left mid h after → left ≡ Stays
     → m.journal.verdict ≡ Running → after.journal.verdict ≡ Running
 ends_running_by Stays n m mid after h journal same stays is =
-    ap (λ (x : Machine). x.journal.verdict) same ∙ ap (λ (j : Journal). j.verdict) journal ∙ row_verdict n m.journal ∙ is
+    ap (λ (x : Machine). x.journal.verdict) same ∙ ap (λ (j : Journal). j.verdict) journal ∙ batch_verdict n m.journal ∙ is
 ends_running_by Calls n m mid after h journal answers stays is = absurd (cc)
 ends_running_by Returns n m mid after h journal answers stays is = absurd (cc)
 
-pub ends_running : (left : Leaving) (n : ℕ) (m mid after : Machine) (h : ℕ) → EndsRow left n m h mid → AnswersLeaving left mid h after → left ≡ Stays
+pub ends_running : (left : Leaving) (n : ℕ) (m mid after : Machine) (h : ℕ) → EndsBatch left n m h mid → AnswersLeaving left mid h after → left ≡ Stays
     → m.journal.verdict ≡ Running → after.journal.verdict ≡ Running
 ends_running left n m mid after h ends answers stays is =
     ends_running_by left n m mid after h (ap (λ (x : Machine). x.journal) ends.same) answers stays is
@@ -248,13 +248,13 @@ kernel_left Stays a r last core e leaves = absurd (cc)
 kernel_left Calls a r last core e leaves = absurd (cc)
 kernel_left Returns a r last core e (kernel, leaves) = ap (λ (c : Core). c.hregs.mode) leaves.left ∙ left_mode last (return_exit last.pc) ∙ kernel
 
-pub in_kernel : (left : Leaving) (n : ℕ) (m mid : Machine) (h : ℕ) → MayRow m h → EndsRow left n m h mid → left ≡ Returns → (hart_in mid.harts h).core.hregs.mode ≡ Kernel
+pub in_kernel : (left : Leaving) (n : ℕ) (m mid : Machine) (h : ℕ) → MayBatch m h → EndsBatch left n m h mid → left ≡ Returns → (hart_in mid.harts h).core.hregs.mode ≡ Kernel
 in_kernel left n m mid h may ends e =
     ap (λ (x : Machine). (hart_in x.harts h).core.hregs.mode) ends.same
-    ∙ ap (λ (x : HostHart). x.core.hregs.mode) (there_updated m.harts h ends.core may.below)
+    ∙ ap (λ (x : HwHart). x.core.hregs.mode) (there_updated m.harts h ends.core may.below)
     ∙ kernel_left left (attempt ends.region ends.last (lines_at m.devices h)) ends.region ends.last ends.core e ends.leaves
 
-pub may_trap : (left : Leaving) (n : ℕ) (m mid : Machine) (h : ℕ) → MayRow m h → EndsRow left n m h mid → (hart_in mid.harts h).core.pc % 4 ≡ 0 → MayTrap mid.harts h
+pub may_trap : (left : Leaving) (n : ℕ) (m mid : Machine) (h : ℕ) → MayBatch m h → EndsBatch left n m h mid → (hart_in mid.harts h).core.pc % 4 ≡ 0 → MayTrap mid.harts h
 may_trap left n m mid h may ends aligned = record {
   there = subst (λ (x : Machine). h < length x.harts) (sym ends.same) (still_there m.harts h h ends.core may.below);
   aligned = aligned;
@@ -266,15 +266,15 @@ row_within Calls n = omega arith
 row_within Returns n = omega arith
 
 -- the counts behind the row's own turns
-pub behind_counts : (left : Leaving) (n most : ℕ) (m mid : Machine) (h : ℕ) → Begins m h → EndsRow left n m h mid → most ≤ most_counts → with_leaving left n ≤ most
-    → CountsAtMost (most_counts - most) m.journal.counts → CountsAtMost most_counts mid.journal.counts
-behind_counts left n most m mid h begins ends few within counts =
-    let row = first_rowed left n m mid h begins ends in
-    subst (λ (x : Machine). CountsAtMost most_counts x.journal.counts) (sym ends.same)
-    (counts_within (most_counts - most + n) most_counts (counted_row n m.journal).counts
-    (let own = row_within left n in omega (arith, own, few, within)) (row.counts (most_counts - most) counts))
+pub after_counts : (left : Leaving) (n most : ℕ) (m mid : Machine) (h : ℕ) → Begins m h → EndsBatch left n m h mid → most ≤ max_counts → with_leaving left n ≤ most
+    → CountsAtMost (max_counts - most) m.journal.counts → CountsAtMost max_counts mid.journal.counts
+after_counts left n most m mid h begins ends few within counts =
+    let batch = first_rowed left n m mid h begins ends in
+    subst (λ (x : Machine). CountsAtMost max_counts x.journal.counts) (sym ends.same)
+    (counts_within (max_counts - most + n) max_counts (counted_batch n m.journal).counts
+    (let own = row_within left n in omega (arith, own, few, within)) (batch.counts (max_counts - most) counts))
 
-pub may_count : (m : Machine) → CountsAtMost most_counts m.journal.counts → MayCount m.journal.counts
+pub may_count : (m : Machine) → CountsAtMost max_counts m.journal.counts → MayCount m.journal.counts
 may_count m counts = record {
   retired = omega (arith, counts.retired);
   traps = omega (arith, counts.traps);

@@ -1,28 +1,28 @@
 -- A run, its console and the sink.
 use Rattle.std.proofs.Common.{◌≡◌, ◌≢◌, ℕ, zero, suc, ◌≤◌, ◌<◌, List, [], ◌∷◌, ◌++◌, length, drop, replicate, refl, sym, ◌∙◌, ap, subst, append_assoc, arith, IsFalse, IsTrue, length-append}
-use Rattle.sv_types.specs.Limits.{most_printed}
+use Rattle.sv_types.specs.Limits.{max_printed}
 use Rattle.std.proofs.lemmas.List.{append-nil, append_cancel_left}
 use Rattle.std.proofs.Math.Seq.{drop-append_seam}
 use Rattle.sv_types.specs.declared.event.Event.{Event}
 use Rattle.sv_types.specs.declared.event.Counts.{Counts}
 use Rattle.sv_types.specs.declared.event.Verdict.{Verdict}
 use Rattle.sv_types.specs.declared.event.Verdict.TheVariants.{Running, Shutdown, Stopped}
-use Rattle.reference.specs.Counting.{CountsAtMost}
-use Rattle.reference.specs.Run.{HasEnded, run, step}
-use Rattle.reference.specs.States.{State}
-use Rattle.reference.proofs.Runs.{ended_stays, run_on}
-use Rattle.machine_model.specs.HardwareEvent.{IsEvent}
-use Rattle.machine_model.specs.Machine.{Machine}
-use Rattle.machine_model.specs.Reaches.{Cleared, IsNew, ReachesFrom}
-use Rattle.machine_model.specs.StandsFor.{StandsFor}
-use Rattle.answer_laws.proofs.RunsReach.{clear_law}
+use Rattle.spec_reference.specs.Counting.{CountsAtMost}
+use Rattle.spec_reference.specs.Run.{HasEnded, run, step}
+use Rattle.spec_reference.specs.States.{State}
+use Rattle.spec_reference.proofs.Runs.{ended_stays, run_on}
+use Rattle.spec_hardware.specs.HardwareEvent.{IsEvent}
+use Rattle.spec_hardware.specs.Machine.{Machine}
+use Rattle.spec_hardware.specs.Reaches.{Cleared, IsNew, ReachesFrom}
+use Rattle.spec_hardware.specs.StandsFor.{StandsFor}
+use Rattle.laws_simulation.proofs.RunsReach.{clear_law}
 use Rattle.machine.specs.Repeats.{Makes, Repeats}
 use Rattle.machine.proofs.Repeated.{one_more, repeats_stand}
-use Rattle.outside.specs.Outside.{SinkState, after_taking, BreaksOff}
-use Rattle.outside.proofs.SinkLemmas.{after_taking-append, after_taking-nil}
+use Rattle.hw_io.specs.Outside.{SinkState, after_taking, BreaksOff}
+use Rattle.hw_io.proofs.SinkLemmas.{after_taking-append, after_taking-nil}
 use Rattle.machine.specs.Standing.{Stands, HasState}
-use Rattle.machine.specs.Console.{is_due, HasTaken, Flushed, HasRun, RunBroke}
-use Rattle.machine.proofs.Standing.{stands_new, stands_step, stands_away, stands_verdict, away_counts, cleared_none, event_ended, flushed_none, prints_behind, stands_printed, step_room, verdict_is}
+use Rattle.machine.specs.Console.{flush_is_due, HasTaken, Flushed, HasRun, RunBroke}
+use Rattle.machine.proofs.Standing.{stands_new, stands_step, stands_away, stands_verdict, away_counts, cleared_none, event_ended, flushed_none, prints_after, stands_printed, step_room, verdict_is}
 
 -- ---- the machines on the way
 
@@ -85,7 +85,7 @@ ran_more first start done m next flushed event old now new ran makes f = record 
 }
 
 in_row : (done : List Event) (n : ℕ) (event : Event) → (done ++ replicate n event) ++ event ∷ [] ≡ done ++ replicate (suc n) event
-in_row done n event = append_assoc done (replicate n event) (event ∷ []) ∙ ap (λ (row : List Event). done ++ row) (one_more n event)
+in_row done n event = append_assoc done (replicate n event) (event ∷ []) ∙ ap (λ (batch : List Event). done ++ batch) (one_more n event)
 
 -- an event several times more
 ran_again : (n : ℕ) (first : Machine) (start : State) (done : List Event) (m next : Machine) (event : Event) (old now : SinkState) →
@@ -104,8 +104,8 @@ ran_flushed (suc n) first start done m next flushed event old now new some ran (
     subst (λ (events : List Event). HasRun first start events flushed old new) (in_row done n event)
     (ran_more first start (done ++ replicate n event) before next flushed event old now new (ran_again n first start done m before event old now ran those) makes f)
 
-split_by : (all done left rest row : List Event) → left ≡ row ++ rest → done ++ left ≡ all → (done ++ row) ++ rest ≡ all
-split_by all done left rest row parts split = append_assoc done row rest ∙ ap (λ (events : List Event). done ++ events) (sym parts) ∙ split
+split_by : (all done left rest batch : List Event) → left ≡ batch ++ rest → done ++ left ≡ all → (done ++ batch) ++ rest ≡ all
+split_by all done left rest batch parts split = append_assoc done batch rest ∙ ap (λ (events : List Event). done ++ events) (sym parts) ∙ split
 
 pub runs_more : (n : ℕ) (first : Machine) (start : State) (all left rest : List Event) (m next flushed : Machine) (event : Event) (old now new : SinkState) → 0 < n →
     RunsOn first start all left m old now → left ≡ replicate n event ++ rest → Repeats n m event next → Flushed next flushed now new →
@@ -120,7 +120,7 @@ runs_more n first start all left rest m next flushed event old now new some on p
 run_prints : (r : State) (events : List Event) → (more : List ℕ) × ((run r events).journal.printed ≡ r.journal.printed ++ more)
 run_prints r [] = ([], sym (append-nil r.journal.printed))
 run_prints r (e ∷ events) =
-    let one = prints_behind r e in
+    let one = prints_after r e in
     let those = run_prints (step r e) events in (
       one.0 ++ those.0,
       those.1 ∙ ap (λ (p : List ℕ). p ++ those.0) one.1 ∙ append_assoc r.journal.printed one.0 those.0,
@@ -155,8 +155,8 @@ left_printed m r cleared s =
     ap (λ (p : List ℕ). drop (length cleared) p) (sym (stands_printed m r cleared s)) ∙ drop-append_seam cleared m.journal.printed
 
 broke_next : (n : ℕ) (first : Machine) (start : State) (all left rest : List Event) (m next : Machine) (event : Event) (old now new : SinkState) → 0 < n →
-    IsFalse (is_due m.journal.printed) → RunsOn first start all left m old now → left ≡ replicate n event ++ rest → Repeats n m event next →
-    length next.journal.printed ≤ most_printed → IsTrue (is_due next.journal.printed) → BreaksOff now new next.journal.printed → RunBroke first start all next old new
+    IsFalse (flush_is_due m.journal.printed) → RunsOn first start all left m old now → left ≡ replicate n event ++ rest → Repeats n m event next →
+    length next.journal.printed ≤ max_printed → IsTrue (flush_is_due next.journal.printed) → BreaksOff now new next.journal.printed → RunBroke first start all next old new
 broke_next zero first start all left rest m next event old now new some undue on parts repeats room due broke = absurd (omega arith)
 broke_next (suc k) first start all left rest m next event old now new some undue on parts (before, (those, (still, makes))) room due broke =
     let front : List Event = on.done ++ replicate k event in
@@ -178,15 +178,15 @@ broke_next (suc k) first start all left rest m next event old now new some undue
         front = front;
         last = event;
         split = refl;
-        rest = ap is_due (left_printed before (run start front) on.ran.cleared here ∙ same) ∙ undue;
+        rest = ap flush_is_due (left_printed before (run start front) on.ran.cleared here ∙ same) ∙ undue;
       };
       due = due;
       broke = subst (λ (k : SinkState). BreaksOff k new next.journal.printed) on.ran.taken broke;
     }
 
 pub runs_broke : (n : ℕ) (first : Machine) (start : State) (all left rest : List Event) (m next stays : Machine) (event : Event) (old now new : SinkState) → 0 < n →
-    IsFalse (is_due m.journal.printed) → RunsOn first start all left m old now → left ≡ replicate n event ++ rest → Repeats n m event next →
-    stays ≡ next → length next.journal.printed ≤ most_printed → IsTrue (is_due next.journal.printed) → BreaksOff now new next.journal.printed → RunBroke first start all stays old new
+    IsFalse (flush_is_due m.journal.printed) → RunsOn first start all left m old now → left ≡ replicate n event ++ rest → Repeats n m event next →
+    stays ≡ next → length next.journal.printed ≤ max_printed → IsTrue (flush_is_due next.journal.printed) → BreaksOff now new next.journal.printed → RunBroke first start all stays old new
 runs_broke n first start all left rest m next stays event old now new some undue on parts repeats same room due broke =
     subst (λ (x : Machine). RunBroke first start all x old new) (sym same)
     (broke_next n first start all left rest m next event old now new some undue on parts repeats room due broke)
@@ -234,13 +234,13 @@ pub flushed_counts : (n : ℕ) (next flushed : Machine) (now new : SinkState) �
     CountsAtMost n flushed.journal.counts
 flushed_counts n next flushed now new counts f = subst (λ (c : Counts). CountsAtMost n c) (sym (away_counts next flushed f.cleared f.away)) counts
 
-pub room_after : (m next : Machine) (e : Event) → HasState m → Makes m e next → length m.journal.printed < most_printed →
-    length next.journal.printed ≤ most_printed
+pub room_after : (m next : Machine) (e : Event) → HasState m → Makes m e next → length m.journal.printed < max_printed →
+    length next.journal.printed ≤ max_printed
 room_after m next e has makes room =
     let grown = step_room m next has.state e has.stands (makes.stands has.state has.stands) makes.event in omega arith
 
 -- the last event alone may print
-pub room_again : (n : ℕ) (m next : Machine) (e : Event) → HasState m → Repeats n m e next → length m.journal.printed < most_printed → length next.journal.printed ≤ most_printed
+pub room_again : (n : ℕ) (m next : Machine) (e : Event) → HasState m → Repeats n m e next → length m.journal.printed < max_printed → length next.journal.printed ≤ max_printed
 room_again zero m next e has same room = let none : length next.journal.printed ≡ length m.journal.printed = ap (λ (x : Machine). length x.journal.printed) same in omega (arith, none)
 room_again (suc n) m next e has (before, (those, (on, makes))) room =
     room_after before next e (record { state = run has.state (replicate n e); stands = repeats_stand n m before e those has.state has.stands }) makes (let quiet = on.quiet in omega (arith, quiet, room))

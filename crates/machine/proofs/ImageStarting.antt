@@ -1,25 +1,25 @@
 -- A kernel's image before the first event.
 use Rattle.std.proofs.Common.{get_or, ◌==◌, ◌^◌, ◌<◌, inl, inr, ◌≡◌, ℕ, suc, ◌%◌, ◌≤◌, true, IsTrue, List, [], ◌∷◌, length, take, refl, sym, ◌∙◌, ap, arith, subst, length-append, length-take}
-use Rattle.processor.specs.Bytes.{page_size}
+use Rattle.spec_processor.specs.Bytes.{page_size}
 use Rattle.std.specs.Prelude.{Option, Some, None, find, flat_map}
 use Rattle.std.proofs.lemmas.Bool.Decides.{nat_tests}
 use Rattle.std.proofs.lemmas.Bool.{cases_Bool}
 use Rattle.elf64_load.specs.Images.{segments_of}
 use Rattle.elf64_load.specs.declared.image.KernelImage.{KernelImage}
-use Rattle.machine_model.specs.Machine.{Machine}
-use Rattle.machine_model.specs.Reaches.{IsNew}
-use Rattle.reference.specs.Start.{AreWords, image_start}
-use Rattle.reference.specs.Soundness.{IsSoundDisk}
-use Rattle.reference.specs.States.{Disk, has_number}
+use Rattle.spec_hardware.specs.Machine.{Machine}
+use Rattle.spec_hardware.specs.Reaches.{IsNew}
+use Rattle.spec_reference.specs.Start.{AreWords, image_start}
+use Rattle.spec_reference.specs.Soundness.{IsSoundDisk}
+use Rattle.spec_reference.specs.States.{Disk, has_number}
 use Rattle.sv_types.specs.ApprovedPages.{numbers_from}
 use Rattle.sv_types.specs.Kernel.{LoadedSegment, filled_part, header_entry, is_text_of, segments_ram, text_page, text_page_in, text_of}
 use Rattle.sv_types.specs.Policies.{Rules, rules_within}
-use Rattle.processor.specs.Regions.{Region, most_ram_pages}
-use Rattle.processor_laws.proofs.ByteLemmas.{length_padded}
+use Rattle.spec_processor.specs.Regions.{Region, max_ram_pages}
+use Rattle.laws_processor.proofs.ByteLemmas.{length_padded}
 use Rattle.sv_types.specs.Views.{with_ram}
 use Rattle.sv_types.specs.declared.protection.Protection.{Protection}
-use Rattle.standing_laws.proofs.StartsStand.{any_start}
-use Rattle.standing_laws.specs.Starts.{machine_at_boot, image_machine, image_protections, IsGuarded}
+use Rattle.laws_standing.proofs.StartsStand.{any_start}
+use Rattle.laws_standing.specs.Starts.{machine_at_boot, image_machine, image_protections, IsGuarded}
 use Rattle.machine.specs.Boot.{IsImageOf, RefusesFlat, RefusesImage}
 use Rattle.machine.specs.declared.boot.BootRefusal.{BootRefusal}
 use Rattle.machine.specs.declared.boot.BootRefusal.TheVariants.{Measure, Entry, Memory}
@@ -43,7 +43,7 @@ pages_whole ss (page ∷ pages) =
 
 pub text_whole : (image : KernelImage) (text : List ℕ) → text ≡ text_of (segments_of image) → length text % page_size ≡ 0
 unfolding text_of
-text_whole image text is = ap (λ (text : List ℕ). length text % page_size) is ∙ pages_whole (segments_of image) (numbers_from 0 most_ram_pages)
+text_whole image text is = ap (λ (text : List ℕ). length text % page_size) is ∙ pages_whole (segments_of image) (numbers_from 0 max_ram_pages)
 
 -- ---- refusals
 

@@ -1,22 +1,22 @@
 -- What plain data keeps of a machine is the state that the machine stands for.
 use Rattle.std.proofs.Common.{◌≡◌, ℕ, zero, suc, ◌+◌, ◌-◌, ◌*◌, ◌<◌, List, drop, get_or, drop-cons, add-one, [], ◌∷◌, ◌++◌, length, refl, sym, ◌∙◌, ap, subst, Bool, true, false, arith, append_assoc, append-nil}
 use Rattle.std.specs.Prelude.{IfOk, Option, Some, None, option_map, Result, Ok, Err, slice_get}
-use Rattle.processor.specs.Bits.{flag}
+use Rattle.spec_processor.specs.Bits.{flag}
 use Rattle.sv_types.specs.Clock.{Clock, timer_of}
-use Rattle.processor.specs.HypervisorRegisters.{HypervisorRegisters, at_guest_places, virtual_software_bit}
+use Rattle.spec_processor.specs.HypervisorRegisters.{HypervisorRegisters, at_guest_places, virtual_software_bit}
 use Rattle.sv_types.specs.Policies.{Rules, ModuleRule}
-use Rattle.reference.specs.States.{State, Hart, Loading}
-use Rattle.machine_model.specs.Machine.{Machine, HostHart}
-use Rattle.machine_model.specs.StandsFor.{StandsFor, Unseen, IsRightFor, machine_of, host_hart, host_harts, host_reservation, load_kept, load_kept_by}
-use Rattle.saved_machine.specs.SavedStates.{gpa_at, saved_hart, saved_harts, saved_load, IsSaved}
-use Rattle.saved_machine.specs.declared.harts.SavedHart.{SavedHart}
-use Rattle.saved_machine.specs.declared.whole.Saved.{Saved}
-use Rattle.hart_answers.specs.Hosts.{host_at, hosts_of}
-use Rattle.hart_answers.specs.declared.seats.Seat.{Seat}
+use Rattle.spec_reference.specs.States.{State, Hart, Loading}
+use Rattle.spec_hardware.specs.Machine.{Machine, HwHart}
+use Rattle.spec_hardware.specs.StandsFor.{StandsFor, Unseen, IsRightFor, machine_of, hw_hart, hw_harts, hw_reservation, load_kept, load_kept_by}
+use Rattle.spec_saved_machine.specs.SavedStates.{gpa_at, saved_hart, saved_harts, saved_load, IsSaved}
+use Rattle.spec_saved_machine.specs.declared.harts.SavedHart.{SavedHart}
+use Rattle.spec_saved_machine.specs.declared.whole.Saved.{Saved}
+use Rattle.monitor_harts.specs.HwOfSlots.{hw_at, hw_harts_of}
+use Rattle.monitor_harts.specs.declared.slots.HartSlot.{HartSlot}
 use Rattle.machine.specs.Machines.{HasAddress, HaveAddresses}
-use Rattle.machine_parts.proofs.Hosts.{host_there}
-use Rattle.machine.specs.Keeping.{AreKeepable, IsKeepable, gpa_behind, kept_hart, kept_harts, kept_load, IsKept}
-use Rattle.machine_model.proofs.Sides.{same_mode}
+use Rattle.machine_events.proofs.HwOfSlots.{hw_there}
+use Rattle.machine.specs.Keeping.{AreKeepable, IsKeepable, gpa_after, kept_hart, kept_harts, kept_load, IsKept}
+use Rattle.spec_hardware.proofs.Privileges.{same_mode}
 
 -- ---- harts
 
@@ -27,18 +27,18 @@ software_kept : (set : Bool) → at_guest_places (virtual_software_bit * flag se
 software_kept true = refl
 software_kept false = refl
 
-reservation_kept : (tables : ℕ) (reservation : Option ℕ) → option_map (gpa_behind tables) (host_reservation tables reservation) ≡ option_map gpa_at reservation
+reservation_kept : (tables : ℕ) (reservation : Option ℕ) → option_map (gpa_after tables) (hw_reservation tables reservation) ≡ option_map gpa_at reservation
 reservation_kept tables None = refl
 reservation_kept tables (Some place) = let same : tables + place - tables ≡ place = omega arith in ap (λ (p : ℕ). Some (gpa_at p)) same
 
 hart_kept : (tables : ℕ) (exits : HypervisorRegisters) (clock : Clock) (h : ℕ) (hart : Hart)
-    → kept_hart tables (timer_of clock h) (host_hart tables exits hart) ≡ saved_hart clock h hart
+    → kept_hart tables (timer_of clock h) (hw_hart tables exits hart) ≡ saved_hart clock h hart
 hart_kept tables exits clock h hart =
     rw (same_mode hart.mode hart.entry, enabled_kept hart.supervisor.sie, software_kept hart.supervisor.software, reservation_kept tables hart.reservation) refl
 
 harts_kept : (tables : ℕ) (exits : List HypervisorRegisters) (clock : Clock) (h : ℕ) (harts : List Hart) → length exits ≡ length harts
-    → kept_harts tables clock h (host_harts tables exits harts) ≡ saved_harts clock h harts
-unfolding host_harts kept_harts saved_harts
+    → kept_harts tables clock h (hw_harts tables exits harts) ≡ saved_harts clock h harts
+unfolding hw_harts kept_harts saved_harts
 harts_kept tables [] clock h [] size = refl
 harts_kept tables [] clock h (y ∷ harts) size = cc
 harts_kept tables (x ∷ exits) clock h [] size = cc
@@ -47,61 +47,61 @@ harts_kept tables (x ∷ exits) clock h (y ∷ harts) size =
 
 -- ---- harts, one after another
 
-pub next_kept : (tables : ℕ) (clock : Clock) (seats : List Seat) (h : ℕ) (seat : Seat) (hart : SavedHart) (before whole : List SavedHart) → h < length seats
-    → seat ≡ get_or seats h seat → hart ≡ kept_hart tables (timer_of clock h) (host_at seat)
-    → before ++ kept_harts tables clock h (hosts_of (drop h seats)) ≡ whole
-    → (before ++ hart ∷ []) ++ kept_harts tables clock (h + 1) (hosts_of (drop (h + 1) seats)) ≡ whole
+pub next_kept : (tables : ℕ) (clock : Clock) (slots : List HartSlot) (h : ℕ) (slot : HartSlot) (hart : SavedHart) (before whole : List SavedHart) → h < length slots
+    → slot ≡ get_or slots h slot → hart ≡ kept_hart tables (timer_of clock h) (hw_at slot)
+    → before ++ kept_harts tables clock h (hw_harts_of (drop h slots)) ≡ whole
+    → (before ++ hart ∷ []) ++ kept_harts tables clock (h + 1) (hw_harts_of (drop (h + 1) slots)) ≡ whole
 unfolding kept_harts
-next_kept tables clock seats h seat hart before whole below is made so_far =
-    let later : List Seat = drop (suc h) seats in
-    let split : drop h seats ≡ seat ∷ later = drop-cons seats h seat below ∙ ap (λ (s : Seat). s ∷ later) (sym is) in
-    let rest : List SavedHart = kept_harts tables clock (h + 1) (hosts_of later) in
+next_kept tables clock slots h slot hart before whole below is made so_far =
+    let later : List HartSlot = drop (suc h) slots in
+    let split : drop h slots ≡ slot ∷ later = drop-cons slots h slot below ∙ ap (λ (s : HartSlot). s ∷ later) (sym is) in
+    let rest : List SavedHart = kept_harts tables clock (h + 1) (hw_harts_of later) in
     let joined : (before ++ hart ∷ []) ++ rest ≡ before ++ hart ∷ rest = append_assoc before (hart ∷ []) rest in
-    let placed : before ++ hart ∷ rest ≡ before ++ kept_hart tables (timer_of clock h) (host_at seat) ∷ rest = ap (λ (x : SavedHart). before ++ x ∷ rest) made in
-    let back : before ++ kept_harts tables clock h (hosts_of (seat ∷ later)) ≡ before ++ kept_harts tables clock h (hosts_of (drop h seats)) =
-    ap (λ (xs : List Seat). before ++ kept_harts tables clock h (hosts_of xs)) (sym split) in
-    subst (λ (k : ℕ). (before ++ hart ∷ []) ++ kept_harts tables clock (h + 1) (hosts_of (drop k seats)) ≡ whole) (sym (add-one h)) (joined ∙ placed ∙ back ∙ so_far)
+    let placed : before ++ hart ∷ rest ≡ before ++ kept_hart tables (timer_of clock h) (hw_at slot) ∷ rest = ap (λ (x : SavedHart). before ++ x ∷ rest) made in
+    let back : before ++ kept_harts tables clock h (hw_harts_of (slot ∷ later)) ≡ before ++ kept_harts tables clock h (hw_harts_of (drop h slots)) =
+    ap (λ (xs : List HartSlot). before ++ kept_harts tables clock h (hw_harts_of xs)) (sym split) in
+    subst (λ (k : ℕ). (before ++ hart ∷ []) ++ kept_harts tables clock (h + 1) (hw_harts_of (drop k slots)) ≡ whole) (sym (add-one h)) (joined ∙ placed ∙ back ∙ so_far)
 
-none_after : (seats : List Seat) → drop (length seats) seats ≡ []
+none_after : (slots : List HartSlot) → drop (length slots) slots ≡ []
 none_after [] = refl
-none_after (seat ∷ seats) = none_after seats
+none_after (slot ∷ slots) = none_after slots
 
-pub all_kept : (tables : ℕ) (clock : Clock) (seats : List Seat) (h : ℕ) (harts whole : List SavedHart) → h ≡ length seats
-    → harts ++ kept_harts tables clock h (hosts_of (drop h seats)) ≡ whole → harts ≡ whole
+pub all_kept : (tables : ℕ) (clock : Clock) (slots : List HartSlot) (h : ℕ) (harts whole : List SavedHart) → h ≡ length slots
+    → harts ++ kept_harts tables clock h (hw_harts_of (drop h slots)) ≡ whole → harts ≡ whole
 unfolding kept_harts
-all_kept tables clock seats h harts whole end e =
-    let none : drop h seats ≡ [] = ap (λ (k : ℕ). drop k seats) end ∙ none_after seats in
-    let last : harts ++ kept_harts tables clock h (hosts_of (drop h seats)) ≡ harts ++ [] =
-    ap (λ (xs : List Seat). harts ++ kept_harts tables clock h (hosts_of xs)) none in
+all_kept tables clock slots h harts whole end e =
+    let none : drop h slots ≡ [] = ap (λ (k : ℕ). drop k slots) end ∙ none_after slots in
+    let last : harts ++ kept_harts tables clock h (hw_harts_of (drop h slots)) ≡ harts ++ [] =
+    ap (λ (xs : List HartSlot). harts ++ kept_harts tables clock h (hw_harts_of xs)) none in
     sym (append-nil harts) ∙ sym last ∙ e
 
 -- ---- reservations
 
-reservation_keepable : (tables : ℕ) (reservation : Option ℕ) → HasAddress reservation → IsKeepable tables (host_reservation tables reservation)
+reservation_keepable : (tables : ℕ) (reservation : Option ℕ) → HasAddress reservation → IsKeepable tables (hw_reservation tables reservation)
 reservation_keepable tables None has = tt
 reservation_keepable tables (Some place) has = record { behind = omega arith; small = omega (arith, has) }
 
-hosts_keepable : (tables : ℕ) (exits : List HypervisorRegisters) (harts : List Hart) → HaveAddresses harts → AreKeepable tables (host_harts tables exits harts)
-unfolding host_harts
-hosts_keepable tables [] harts have h = tt
-hosts_keepable tables (x ∷ exits) [] have h = tt
-hosts_keepable tables (x ∷ exits) (y ∷ harts) have zero = reservation_keepable tables y.reservation have.0
-hosts_keepable tables (x ∷ exits) (y ∷ harts) have (suc h) = hosts_keepable tables exits harts have.1 h
+hw_harts_keepable : (tables : ℕ) (exits : List HypervisorRegisters) (harts : List Hart) → HaveAddresses harts → AreKeepable tables (hw_harts tables exits harts)
+unfolding hw_harts
+hw_harts_keepable tables [] harts have h = tt
+hw_harts_keepable tables (x ∷ exits) [] have h = tt
+hw_harts_keepable tables (x ∷ exits) (y ∷ harts) have zero = reservation_keepable tables y.reservation have.0
+hw_harts_keepable tables (x ∷ exits) (y ∷ harts) have (suc h) = hw_harts_keepable tables exits harts have.1 h
 
 abbrev IsMachineKeepable : Machine → Type 0
 IsMachineKeepable m = AreKeepable (length m.region.tables) m.harts
 
 of_state : (o : Unseen) (r : State) → HaveAddresses r.harts → IsMachineKeepable (machine_of o r)
 unfolding machine_of
-of_state o r have = hosts_keepable (length o.tables) o.exits r.harts have
+of_state o r have = hw_harts_keepable (length o.tables) o.exits r.harts have
 
 pub machine_keepable : (m : Machine) (r : State) → StandsFor m r → HaveAddresses r.harts → AreKeepable (length m.region.tables) m.harts
 machine_keepable m r stands have = subst IsMachineKeepable (sym stands.same) (of_state stands.unseen r have)
 
-pub seat_keepable : (tables : ℕ) (seats : List Seat) (h : ℕ) (seat : Seat) → h < length seats → seat ≡ get_or seats h seat → AreKeepable tables (hosts_of seats)
-    → IsKeepable tables seat.hart.core.reservation
-seat_keepable tables seats h seat below is are =
-    subst (λ (x : HostHart). IsKeepable tables x.core.reservation) (host_there seats h seat below ∙ ap host_at (sym is)) (are h)
+pub slot_keepable : (tables : ℕ) (slots : List HartSlot) (h : ℕ) (slot : HartSlot) → h < length slots → slot ≡ get_or slots h slot → AreKeepable tables (hw_harts_of slots)
+    → IsKeepable tables slot.hart.core.reservation
+slot_keepable tables slots h slot below is are =
+    subst (λ (x : HwHart). IsKeepable tables x.core.reservation) (hw_there slots h slot below ∙ ap hw_at (sym is)) (are h)
 
 -- ---- a load under way
 

@@ -8,10 +8,10 @@ pub mod Repeated
 pub mod Kept
 pub mod Texts
 pub mod Addressed
-pub mod Rows
+pub mod Batches
 pub mod Resuming
 pub mod Behind
 pub mod Reservations
 pub mod Standing
-pub mod DrawnRows
+pub mod DrawnBatches
 pub mod ConsoleLemmas

@@ -1,49 +1,49 @@
 -- What a machine that stands for a state may do.
 use Rattle.std.proofs.Common.{◌≡◌, ℕ, zero, suc, ◌<◌, List, [], ◌∷◌, length, refl, sym, ◌∙◌, ap, subst, arith, true, ◌*◌, slice_get}
-use Rattle.processor.specs.Bytes.{page_size}
+use Rattle.spec_processor.specs.Bytes.{page_size}
 use Rattle.std.specs.Prelude.{Option, Some, None, IfSome, option_map}
-use Rattle.processor.specs.Hardware.{Core}
-use Rattle.processor.specs.HardwareAttempt.{attempt, after_pending, OnlyWrites}
-use Rattle.processor.specs.HardwareMemory.{translation_result}
-use Rattle.processor.specs.HypervisorRegisters.{HypervisorRegisters, pending}
+use Rattle.spec_processor.specs.Hardware.{Core}
+use Rattle.spec_processor.specs.HardwareAttempt.{attempt, after_pending, OnlyWrites}
+use Rattle.spec_processor.specs.HardwareMemory.{translation_result}
+use Rattle.spec_processor.specs.HypervisorRegisters.{HypervisorRegisters, pending}
 use Rattle.sv_types.specs.Policies.{Rules}
-use Rattle.processor.specs.Regions.{Region}
+use Rattle.spec_processor.specs.Regions.{Region}
 use Rattle.sv_types.specs.declared.event.Event.TheVariants.{Turn}
 use Rattle.sv_types.specs.declared.event.Verdict.{Verdict}
 use Rattle.sv_types.specs.declared.event.Verdict.TheVariants.{Running}
-use Rattle.processor.specs.declared.outcome.Outcome.{Outcome}
-use Rattle.sv_types.specs.declared.saved.SavedModule.{SavedModule}
-use Rattle.processor.specs.declared.access.Access.TheVariants as Access
-use Rattle.processor.specs.declared.interrupt.Interrupt.{Interrupt}
-use Rattle.processor.specs.declared.lines.Lines.{Lines}
-use Rattle.processor.specs.declared.exit.Exit.{Exit}
-use Rattle.processor.specs.declared.mode.Mode.TheVariants.{Kernel}
+use Rattle.spec_processor.specs.declared.outcome.Outcome.{Outcome}
+use Rattle.sv_types.specs.declared.saved.ModulePlacement.{ModulePlacement}
+use Rattle.spec_processor.specs.declared.access.Access.TheVariants as Access
+use Rattle.spec_processor.specs.declared.interrupt.Interrupt.{Interrupt}
+use Rattle.spec_processor.specs.declared.lines.Lines.{Lines}
+use Rattle.spec_processor.specs.declared.exit.Exit.{Exit}
+use Rattle.spec_processor.specs.declared.mode.Mode.TheVariants.{Kernel}
 use Rattle.sv_types.specs.declared.protection.Protection.{Protection}
-use Rattle.processor_laws.proofs.HardwareWrites.{interrupt_writes, fetch_writes}
-use Rattle.reference.specs.Counting.{with_count, count_turn, count_retired, count_trap}
-use Rattle.reference.specs.Devices.{lines_at}
-use Rattle.reference.specs.Run.{step}
-use Rattle.reference.specs.States.{State, Hart}
-use Rattle.reference.specs.Turn.{leave_entry}
-use Rattle.machine_model.specs.HardwareEvent.{attempt_of, hart_again, is_loading, left_by, sent_again}
-use Rattle.machine_model.specs.HostHarts.{asks_again, host_outside}
-use Rattle.machine_model.specs.Machine.{Machine, HostHart, HostLoad, with_count_raised}
-use Rattle.machine_model.specs.StandsFor.{StandsFor, Unseen, machine_of, host_hart, host_harts, load_kept}
-use Rattle.machine_model.specs.Steps.{IsStep, IsTurn, StepsUnder}
-use Rattle.answer_laws.specs.Laws.{IsQuiet, MakesAttempt}
-use Rattle.answer_laws.proofs.LawsHold.{asked_same, exit_turn}
-use Rattle.answer_laws.proofs.TurnsServed.{again_law, step_law, loading_by, not_its}
-use Rattle.standing_laws.proofs.Standings.{hart_in_may_attempt, in_order}
-use Rattle.standing_laws.proofs.Loads.{loaded_approved, loading_held}
-use Rattle.standing_laws.specs.Laws.{HoldsItsPages}
-use Rattle.module_answers.specs.Conditions.{IsHeld}
-use Rattle.machine_parts.proofs.Turns.{hart_there, left_below, quiet_served, turn_served}
-use Rattle.machine_parts.specs.Attempts.{hart_in, nobody}
-use Rattle.machine_parts.specs.Turns.{Attempts, Finished, IsGuarded, IsReadyAt, MayTurn, asked_of}
+use Rattle.laws_processor.proofs.HardwareWrites.{interrupt_writes, fetch_writes}
+use Rattle.spec_reference.specs.Counting.{with_count, count_turn, count_retired, count_trap}
+use Rattle.spec_reference.specs.Devices.{lines_at}
+use Rattle.spec_reference.specs.Run.{step}
+use Rattle.spec_reference.specs.States.{State, Hart}
+use Rattle.spec_reference.specs.Turn.{leave_entry}
+use Rattle.spec_hardware.specs.HardwareEvent.{attempt_of, hart_again, is_loading, left_by, sent_again}
+use Rattle.spec_hardware.specs.HwHarts.{asks_again, hw_outside}
+use Rattle.spec_hardware.specs.Machine.{Machine, HwHart, HwLoad, with_count_raised}
+use Rattle.spec_hardware.specs.StandsFor.{StandsFor, Unseen, machine_of, hw_hart, hw_harts, load_kept}
+use Rattle.spec_hardware.specs.Steps.{IsStep, IsTurn, StepsUnder}
+use Rattle.laws_simulation.specs.Laws.{IsQuiet, MakesAttempt}
+use Rattle.laws_simulation.proofs.LawsHold.{asked_same, exit_turn}
+use Rattle.laws_simulation.proofs.TurnsServed.{again_law, step_law, loading_by, not_its}
+use Rattle.laws_standing.proofs.Standings.{hart_in_may_attempt, in_order}
+use Rattle.laws_standing.proofs.Loads.{loaded_approved, loading_held}
+use Rattle.laws_standing.specs.Laws.{HoldsItsPages}
+use Rattle.monitor_modules.specs.Conditions.{IsHeld}
+use Rattle.machine_events.proofs.Turns.{hart_there, left_below, quiet_served, turn_served}
+use Rattle.machine_events.specs.Attempts.{hart_in, nobody}
+use Rattle.machine_events.specs.Turns.{Attempts, Finished, IsGuarded, IsReadyAt, MayTurn, asked_of}
 
 -- ---- modules
 
-held_by : (rules : Rules) (guard : List Protection) (loaded : List SavedModule) (x : Option HostLoad) → IfSome x (HoldsItsPages rules guard loaded)
+held_by : (rules : Rules) (guard : List Protection) (loaded : List ModulePlacement) (x : Option HwLoad) → IfSome x (HoldsItsPages rules guard loaded)
     → IfSome x (IsHeld rules guard loaded)
 held_by rules guard loaded None k = k
 held_by rules guard loaded (Some load) k = record { inside = k.inside; held = k.held; other = k.other; left = k.left }
@@ -62,46 +62,46 @@ guarded m r stands =
 
 -- ---- harts
 
-started_below : (harts : List HostHart) (h : ℕ) → (hart_in harts h).started ≡ true → h < length harts
+started_below : (harts : List HwHart) (h : ℕ) → (hart_in harts h).started ≡ true → h < length harts
 started_below [] h e = absurd (cc)
 started_below (x ∷ harts) zero e = omega arith
 started_below (x ∷ harts) (suc h) e = let k = started_below harts h e in omega (arith, k)
 
-found_in : (harts : List HostHart) (h : ℕ) (host : HostHart) → slice_get harts h ≡ Some host → hart_in harts h ≡ host
-found_in [] h host e = absurd (cc)
-found_in (x ∷ harts) zero host e = cc
-found_in (x ∷ harts) (suc h) host e = found_in harts h host e
+found_in : (harts : List HwHart) (h : ℕ) (hw : HwHart) → slice_get harts h ≡ Some hw → hart_in harts h ≡ hw
+found_in [] h hw e = absurd (cc)
+found_in (x ∷ harts) zero hw e = cc
+found_in (x ∷ harts) (suc h) hw e = found_in harts h hw e
 
 -- the state's hart that a hart of the hardware is
-abbrev IsOf : Option Hart → HostHart → Type 0
-IsOf x host = (hart : Hart) × ((x ≡ Some hart) × (hart.started ≡ host.started))
+abbrev IsOf : Option Hart → HwHart → Type 0
+IsOf x hw = (hart : Hart) × ((x ≡ Some hart) × (hart.started ≡ hw.started))
 
-behind_at : (t : ℕ) (exits : List HypervisorRegisters) (harts : List Hart) (h : ℕ) (host : HostHart) → slice_get (host_harts t exits harts) h ≡ Some host
-    → IsOf (slice_get harts h) host
-unfolding host_harts
-behind_at t [] harts h host e = absurd (cc)
-behind_at t (x ∷ exits) [] h host e = absurd (cc)
-behind_at t (x ∷ exits) (y ∷ harts) zero host e = let same : host_hart t x y ≡ host = cc in (y, (refl, ap (λ (k : HostHart). k.started) same))
-behind_at t (x ∷ exits) (y ∷ harts) (suc h) host e = behind_at t exits harts h host e
+behind_at : (t : ℕ) (exits : List HypervisorRegisters) (harts : List Hart) (h : ℕ) (hw : HwHart) → slice_get (hw_harts t exits harts) h ≡ Some hw
+    → IsOf (slice_get harts h) hw
+unfolding hw_harts
+behind_at t [] harts h hw e = absurd (cc)
+behind_at t (x ∷ exits) [] h hw e = absurd (cc)
+behind_at t (x ∷ exits) (y ∷ harts) zero hw e = let same : hw_hart t x y ≡ hw = cc in (y, (refl, ap (λ (k : HwHart). k.started) same))
+behind_at t (x ∷ exits) (y ∷ harts) (suc h) hw e = behind_at t exits harts h hw e
 
-behind_of : (o : Unseen) (r : State) (h : ℕ) (host : HostHart) → slice_get (machine_of o r).harts h ≡ Some host → IsOf (slice_get r.harts h) host
+after_of : (o : Unseen) (r : State) (h : ℕ) (hw : HwHart) → slice_get (machine_of o r).harts h ≡ Some hw → IsOf (slice_get r.harts h) hw
 unfolding machine_of
-behind_of o r h host e = behind_at (length o.tables) o.exits r.harts h host e
+after_of o r h hw e = behind_at (length o.tables) o.exits r.harts h hw e
 
 -- a hart that makes an attempt is the state's
 makes_attempt : (m : Machine) (r : State) (h : ℕ) → StandsFor m r → Attempts m h → (hart : Hart) × MakesAttempt m r h (hart_in m.harts h) hart
 makes_attempt m r h stands makes =
     let there : slice_get m.harts h ≡ Some (hart_in m.harts h) = hart_there m.harts h (started_below m.harts h makes.started) in
     let is : IsOf (slice_get r.harts h) (hart_in m.harts h) =
-    behind_of stands.unseen r h (hart_in m.harts h) (subst (λ (x : Machine). slice_get x.harts h ≡ Some (hart_in m.harts h)) stands.same there) in
+    after_of stands.unseen r h (hart_in m.harts h) (subst (λ (x : Machine). slice_get x.harts h ≡ Some (hart_in m.harts h)) stands.same there) in
     let loading : m.loading ≡ option_map (load_kept r.rules r.ram) r.loading = ap (λ (x : Machine). x.loading) stands.same ∙ loading_by stands.unseen r in (
       is.0,
       record {
         stands = stands;
-        host_is = there;
+        hw_is = there;
         hart_is = is.1.0;
         started = is.1.1 ∙ makes.started;
-        loads = not_its r h r.loading (ap (λ (x : Option HostLoad). is_loading x h) (sym loading) ∙ makes.free);
+        loads = not_its r h r.loading (ap (λ (x : Option HwLoad). is_loading x h) (sym loading) ∙ makes.free);
       },
     )
 
@@ -176,7 +176,7 @@ asked_before m r h exit stands makes e =
     let left : Machine = left_by m h (hart_in m.harts h) in
     let next : MakesAttempt left r h (hart_in left.harts h) k.0 = record {
       stands = (exit_turn m r h (hart_in m.harts h) k.0 exit k.1 e).0;
-      host_is = hart_there left.harts h (left_below m h exit (started_below m.harts h makes.started) e);
+      hw_is = hart_there left.harts h (left_below m h exit (started_below m.harts h makes.started) e);
       hart_is = k.1.hart_is;
       started = k.1.started;
       loads = k.1.loads;
@@ -186,13 +186,13 @@ asked_before m r h exit stands makes e =
 -- the hart that has left its entry attempts again
 again_ready : (m : Machine) (r : State) (h : ℕ) → StandsFor m r → m.journal.verdict ≡ Running → Attempts m h
     → asks_again m.region.ram m.rules (hart_in m.harts h) (attempt_of m h (hart_in m.harts h)).outcome ≡ true → IsReadyAt (sent_again m h (hart_in m.harts h)) h
-unfolding host_outside
+unfolding hw_outside
 again_ready m r h stands on makes again =
     let k = makes_attempt m r h stands makes in
     let next = (again_law m r h (hart_in m.harts h) k.0 k.1 (running_of m r stands on) again).0 in
     let sent : Machine = sent_again m h (hart_in m.harts h) in
-    let same : hart_in sent.harts h ≡ hart_again m h (hart_in m.harts h) = found_in sent.harts h (hart_again m h (hart_in m.harts h)) next.host_is in
-    ready_at sent (leave_entry r h k.0) h next.stands on (record { started = ap (λ (x : HostHart). x.started) same ∙ makes.started; free = makes.free })
+    let same : hart_in sent.harts h ≡ hart_again m h (hart_in m.harts h) = found_in sent.harts h (hart_again m h (hart_in m.harts h)) next.hw_is in
+    ready_at sent (leave_entry r h k.0) h next.stands on (record { started = ap (λ (x : HwHart). x.started) same ∙ makes.started; free = makes.free })
 
 pub may_turn : (m : Machine) (r : State) (h : ℕ) → StandsFor m r → m.journal.verdict ≡ Running → MayTurn m h
 may_turn m r h stands on = λ makes. record {

@@ -4,14 +4,14 @@ use Rattle.std.proofs.lemmas.List.{replicate-append-replicate}
 use Rattle.sv_types.specs.declared.event.Counts.{Counts}
 use Rattle.sv_types.specs.declared.event.Event.{Event}
 use Rattle.sv_types.specs.Boot.{no_counts}
-use Rattle.reference.specs.Counting.{CountsAtMost}
-use Rattle.reference.specs.Run.{run, step}
-use Rattle.reference.specs.States.{State}
-use Rattle.reference.proofs.Runs.{run_on}
-use Rattle.run_laws.specs.GrowthLaws.{RiseByOne}
-use Rattle.run_laws.proofs.StepsGrow.{grows_law}
-use Rattle.machine_model.specs.Machine.{Machine}
-use Rattle.machine_model.specs.StandsFor.{StandsFor, machine_of}
+use Rattle.spec_reference.specs.Counting.{CountsAtMost}
+use Rattle.spec_reference.specs.Run.{run, step}
+use Rattle.spec_reference.specs.States.{State}
+use Rattle.spec_reference.proofs.Runs.{run_on}
+use Rattle.laws_invariants.specs.GrowthLaws.{RiseByOne}
+use Rattle.laws_invariants.proofs.StepsGrow.{grows_law}
+use Rattle.spec_hardware.specs.Machine.{Machine}
+use Rattle.spec_hardware.specs.StandsFor.{StandsFor, machine_of}
 use Rattle.machine.specs.Repeats.{GoesOn, Makes, Repeats}
 
 -- ---- counts

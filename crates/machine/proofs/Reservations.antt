@@ -1,46 +1,46 @@
 -- Where no hart gets a reservation.
 use Rattle.std.proofs.Common.{◌≡◌, ℕ, ◌+◌, Bool, true, false, ◌&&◌, List, length, refl, sym, subst}
 use Rattle.std.specs.Prelude.{None, if◌then◌else◌}
-use Rattle.processor.specs.Bytes.{ram_place}
-use Rattle.processor.specs.Traps.{trap_target}
-use Rattle.processor.specs.declared.mode.Mode.{Mode}
+use Rattle.spec_processor.specs.Bytes.{ram_offset}
+use Rattle.spec_processor.specs.Traps.{trap_target}
+use Rattle.spec_processor.specs.declared.mode.Mode.{Mode}
 use Rattle.sv_types.specs.declared.event.Event.{Event}
 use Rattle.sv_types.specs.declared.event.Event.TheVariants.{Turn, Beat, Key, Tick, Poke}
 use Rattle.sv_types.specs.declared.event.Rule.TheVariants.{Entry}
 use Rattle.sv_types.specs.declared.event.Verdict.{Verdict}
 use Rattle.sv_types.specs.declared.event.Verdict.TheVariants.{Running, Shutdown, Stopped}
-use Rattle.reference.specs.Attacker.{poke_move}
-use Rattle.reference.specs.Disk.{disk_beat, is_writable}
-use Rattle.reference.specs.Move.{Move, Idle, FromRam, IntoRam, DeniedAt, OutsideRam}
-use Rattle.machine_model.specs.HostEvents.{after_host_move, beat_served, event_served, poke_served, key_served, tick_served, with_host_disk}
+use Rattle.spec_reference.specs.Attacker.{poke_move}
+use Rattle.spec_reference.specs.Disk.{disk_beat, is_writable}
+use Rattle.spec_reference.specs.Move.{Move, Idle, FromRam, IntoRam, DeniedAt, OutsideRam}
+use Rattle.spec_hardware.specs.HwEvents.{after_hw_move, beat_served, event_served, poke_served, key_served, tick_served, with_hw_disk}
 use Rattle.sv_types.specs.Policies.{Rules}
-use Rattle.reference.specs.Counting.{count_beat, count_trap, with_count, machine_ended}
-use Rattle.reference.specs.Trapping.{may_enter}
-use Rattle.machine_model.specs.HostExits.{host_exit_answered}
-use Rattle.machine_model.specs.HostHarts.{host_at_return, host_at_trap}
-use Rattle.machine_model.specs.Machine.{HostHart, Machine, with_count_raised, update}
-use Rattle.machine_model.specs.Steps.{IsStep, Steps, StepsUnder}
-use Rattle.machine_model.specs.declared.exits.ExitAnswer.{ExitAnswer}
-use Rattle.quick_turns.specs.declared.leaving.Leaving.{Leaving}
-use Rattle.quick_turns.specs.declared.leaving.Leaving.TheVariants.{Stays, Calls, Returns}
-use Rattle.machine_parts.proofs.Rows.{changed_free, map_none}
-use Rattle.machine_parts.specs.Attempts.{hart_in}
-use Rattle.machine_parts.specs.Rows.{AnswersLeaving, AreFree, AreFreeWhere, call_answer, counted_leaving, reserves_nothing}
+use Rattle.spec_reference.specs.Counting.{count_beat, count_trap, with_count, machine_ended}
+use Rattle.spec_reference.specs.Trapping.{may_enter}
+use Rattle.spec_hardware.specs.HwExits.{hw_exit_answered}
+use Rattle.spec_hardware.specs.HwHarts.{hw_at_return, hw_at_trap}
+use Rattle.spec_hardware.specs.Machine.{HwHart, Machine, with_count_raised, update}
+use Rattle.spec_hardware.specs.Steps.{IsStep, Steps, StepsUnder}
+use Rattle.spec_hardware.specs.declared.exits.ExitAnswer.{ExitAnswer}
+use Rattle.hw_fast_path.specs.declared.leaving.Leaving.{Leaving}
+use Rattle.hw_fast_path.specs.declared.leaving.Leaving.TheVariants.{Stays, Calls, Returns}
+use Rattle.machine_events.proofs.Batches.{changed_free, map_none}
+use Rattle.machine_events.specs.Attempts.{hart_in}
+use Rattle.machine_events.specs.Batches.{AnswersLeaving, AreFree, AreFreeWhere, call_answer, counted_leaving, reserves_nothing}
 
-moved_free : (m : Machine) (move : Move) → AreFree m.harts → AreFree (after_host_move m move).harts
-unfolding after_host_move
+moved_free : (m : Machine) (move : Move) → AreFree m.harts → AreFree (after_hw_move m move).harts
+unfolding after_hw_move
 moved_free m Idle free = free
 moved_free m (FromRam gpa) free = free
-moved_free m (IntoRam gpa bytes) free = subst AreFree (sym (map_none (length m.region.tables + ram_place gpa) (length bytes) m.harts free)) free
+moved_free m (IntoRam gpa bytes) free = subst AreFree (sym (map_none (length m.region.tables + ram_offset gpa) (length bytes) m.harts free)) free
 moved_free m (DeniedAt gpa) free = free
 moved_free m OutsideRam free = free
 
 -- an event that isn't a turn
-beaten_free : (m : Machine) → AreFree m.harts → AreFree (beat_served m).harts
+dma_step_free : (m : Machine) → AreFree m.harts → AreFree (beat_served m).harts
 unfolding beat_served
-beaten_free m free =
+dma_step_free m free =
     let b = disk_beat m.devices.disk m.region.ram (is_writable m.dma) in
-    moved_free (with_host_disk m b.disk) b.move free
+    moved_free (with_hw_disk m b.disk) b.move free
 
 poked_free : (m : Machine) (gpa value : ℕ) → AreFree m.harts → AreFree (poke_served m gpa value).harts
 unfolding poke_served
@@ -50,7 +50,7 @@ event_free : (known : Bool) (m after : Machine) (e : Event) → AreFreeWhere kno
 unfolding event_served key_served tick_served
 event_free false m after e free steps = tt
 event_free true m after (Turn h) free steps = tt
-event_free true m after Beat free steps = subst (λ (x : Machine). AreFree x.harts) (sym steps) (beaten_free (with_count_raised m count_beat) free)
+event_free true m after Beat free steps = subst (λ (x : Machine). AreFree x.harts) (sym steps) (dma_step_free (with_count_raised m count_beat) free)
 event_free true m after (Key byte) free steps = subst (λ (x : Machine). AreFree x.harts) (sym steps) free
 event_free true m after (Tick n) free steps = subst (λ (x : Machine). AreFree x.harts) (sym steps) free
 event_free true m after (Poke gpa value) free steps = subst (λ (x : Machine). AreFree x.harts) (sym steps) (poked_free (with_count_raised m count_beat) gpa value free)
@@ -77,29 +77,29 @@ step_free known m after e free steps = under_free m.journal.verdict known m afte
 
 -- ---- the answer to an exit behind a row, which takes the hart's own away
 
-trap_free : (rules : Rules) (interrupt : Bool) (cause tval : ℕ) (x : HostHart) → (host_at_trap rules interrupt cause tval x).core.reservation ≡ None
-unfolding host_at_trap
+trap_free : (rules : Rules) (interrupt : Bool) (cause tval : ℕ) (x : HwHart) → (hw_at_trap rules interrupt cause tval x).core.reservation ≡ None
+unfolding hw_at_trap
 trap_free rules interrupt cause tval x = refl
 
-return_free : (x : HostHart) → (host_at_return x).core.reservation ≡ None
-unfolding host_at_return
+return_free : (x : HwHart) → (hw_at_return x).core.reservation ≡ None
+unfolding hw_at_return
 return_free x = refl
 
 either_free : (b : Bool) (x y : Machine) → AreFree x.harts → AreFree y.harts → AreFree (if b then x else y).harts
 either_free true x y e f = e
 either_free false x y e f = f
 
-called_free : (m : Machine) (h : ℕ) (host : HostHart) (mode : Mode) → AreFree m.harts → AreFree (host_exit_answered m h host mode call_answer).harts
-unfolding host_exit_answered
-called_free m h host mode free =
-    either_free (may_enter m.rules mode (trap_target host.core.csrs.vstvec false 8))
-    (record m { harts = update m.harts h (host_at_trap m.rules false 8 0); journal = with_count (count_trap mode) m.journal })
-    (record m { journal = machine_ended (Stopped (Entry (trap_target host.core.csrs.vstvec false 8)) h m.journal.counts.turns) m.journal })
-    (changed_free m.harts h (host_at_trap m.rules false 8 0) (trap_free m.rules false 8 0) free) free
+called_free : (m : Machine) (h : ℕ) (hw : HwHart) (mode : Mode) → AreFree m.harts → AreFree (hw_exit_answered m h hw mode call_answer).harts
+unfolding hw_exit_answered
+called_free m h hw mode free =
+    either_free (may_enter m.rules mode (trap_target hw.core.csrs.vstvec false 8))
+    (record m { harts = update m.harts h (hw_at_trap m.rules false 8 0); journal = with_count (count_trap mode) m.journal })
+    (record m { journal = machine_ended (Stopped (Entry (trap_target hw.core.csrs.vstvec false 8)) h m.journal.counts.turns) m.journal })
+    (changed_free m.harts h (hw_at_trap m.rules false 8 0) (trap_free m.rules false 8 0) free) free
 
-returned_free : (m : Machine) (h : ℕ) (host : HostHart) (mode : Mode) → AreFree m.harts → AreFree (host_exit_answered m h host mode ExitAnswer.Returns).harts
-unfolding host_exit_answered
-returned_free m h host mode free = changed_free m.harts h host_at_return return_free free
+returned_free : (m : Machine) (h : ℕ) (hw : HwHart) (mode : Mode) → AreFree m.harts → AreFree (hw_exit_answered m h hw mode ExitAnswer.Returns).harts
+unfolding hw_exit_answered
+returned_free m h hw mode free = changed_free m.harts h hw_at_return return_free free
 
 pub leaving_free : (left : Leaving) (m : Machine) (h : ℕ) (after : Machine) → AreFree m.harts → AnswersLeaving left m h after → AreFree after.harts
 leaving_free Stays m h after free same = subst (λ (x : Machine). AreFree x.harts) (sym same) free
@@ -111,6 +111,6 @@ leaving_free Returns m h after free answers =
     (returned_free (counted_leaving m) h (hart_in m.harts h) (hart_in m.harts h).core.hregs.mode free)
 
 -- where none has one, that may be noted or not
-pub free_where : (known : Bool) (harts : List HostHart) → AreFree harts → AreFreeWhere known harts
+pub free_where : (known : Bool) (harts : List HwHart) → AreFree harts → AreFreeWhere known harts
 free_where false harts free = tt
 free_where true harts free = free

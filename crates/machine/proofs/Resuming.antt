@@ -1,27 +1,27 @@
 -- A machine that goes on from a snapshot stands for the state that the snapshot says, and is fit for its next event.
 use Rattle.std.proofs.Common.{◌≡◌, ℕ, ◌*◌, ◌^◌, ◌≤◌, List, [], ◌∷◌, length, map, refl, ◌∙◌, ap, subst, Bool, arith}
 use Rattle.std.specs.Prelude.{Option, Some, None, IsTrue, option_map}
-use Rattle.processor.specs.Bytes.{page_size}
-use Rattle.processor.specs.Regions.{Region}
+use Rattle.spec_processor.specs.Bytes.{page_size}
+use Rattle.spec_processor.specs.Regions.{Region}
 use Rattle.sv_types.proofs.PolicyLimits.{few_pages}
 use Rattle.sv_types.specs.Policies.{Rules, rules_within}
 use Rattle.sv_types.specs.Views.{with_ram}
 use Rattle.sv_types.specs.declared.protection.Protection.{Protection}
-use Rattle.sv_types.specs.declared.saved.SavedModule.{SavedModule}
+use Rattle.sv_types.specs.declared.saved.ModulePlacement.{ModulePlacement}
 use Rattle.sv_types.specs.Protections.{is_free}
-use Rattle.reference.specs.States.{Hart, Devices, Journal}
-use Rattle.machine_model.specs.Machine.{Machine, HostHart, HostLoad}
-use Rattle.machine_model.specs.Reaches.{IsNew}
-use Rattle.snapshot_form.specs.Snapshots.{Contents}
-use Rattle.resumption.specs.ResumedStates.{resumed_state}
-use Rattle.resume_laws.specs.Keepable.{AreKeepable, IsReservable}
-use Rattle.resume_laws.specs.ResumedSound.{IsResumable}
-use Rattle.resumed_start.proofs.SnapHolds.{nothing_printed}
-use Rattle.resumed_start.specs.Resuming.{host_resumed, load_resumed, resumed_machine}
-use Rattle.resumed_parts.specs.Parts.{AreResumed}
-use Rattle.resumed_parts.specs.declared.parts.ResumedParts.{ResumedParts}
-use Rattle.hart_answers.specs.Hosts.{hosts_of}
-use Rattle.module_answers.specs.Parts.{loading_of}
+use Rattle.spec_reference.specs.States.{Hart, Devices, Journal}
+use Rattle.spec_hardware.specs.Machine.{Machine, HwHart, HwLoad}
+use Rattle.spec_hardware.specs.Reaches.{IsNew}
+use Rattle.snapshot_format.specs.Snapshots.{Contents}
+use Rattle.snapshot_resume.specs.ResumedStates.{resumed_state}
+use Rattle.laws_resume.specs.Keepable.{AreKeepable, IsReservable}
+use Rattle.laws_resume.specs.ResumedSound.{IsResumable}
+use Rattle.laws_resumed_start.proofs.SnapHolds.{nothing_printed}
+use Rattle.laws_resumed_start.specs.Resuming.{hw_resumed, load_resumed, resumed_machine}
+use Rattle.machine_resume.specs.Parts.{AreResumed}
+use Rattle.machine_resume.specs.declared.parts.ResumedParts.{ResumedParts}
+use Rattle.monitor_harts.specs.HwOfSlots.{hw_harts_of}
+use Rattle.monitor_modules.specs.Parts.{loading_of}
 use Rattle.machine.specs.Machines.{HasAddress, HaveAddresses, IsFit}
 use Rattle.machine.proofs.NewFit.{without_reservations}
 
@@ -68,7 +68,7 @@ resumed_fit m rules s within resumable new journal =
 
 -- ---- the machine from its parts
 
-abbrev pub machine_by : Rules → Region → List HostHart → List Protection → List SavedModule → Option HostLoad → Bool → Devices → Journal → ℕ → Machine
+abbrev pub machine_by : Rules → Region → List HwHart → List Protection → List ModulePlacement → Option HwLoad → Bool → Devices → Journal → ℕ → Machine
 machine_by rules region harts guard loaded loading retired devices journal attempts = record {
   rules = rules;
   region = region;
@@ -85,20 +85,20 @@ machine_by rules region harts guard loaded loading retired devices journal attem
 }
 
 pub parts_resumed : (rules : Rules) (s : Contents) (p : ResumedParts) (attempts : ℕ) → AreResumed rules s p → attempts ≡ 0
-    → machine_by rules p.mem (hosts_of p.seats.items) p.guard.pages p.modules.gate.loaded (loading_of p.modules) p.modules.gate.retired p.devices p.journal attempts
+    → machine_by rules p.mem (hw_harts_of p.slots.items) p.guard.pages p.modules.gate.loaded (loading_of p.modules) p.modules.gate.retired p.devices p.journal attempts
     ≡ resumed_machine p.mem.tables rules s
 unfolding resumed_machine
 parts_resumed rules s p attempts k none =
-    let hosts = map (host_resumed (length p.mem.tables)) s.harts in
+    let hw_all = map (hw_resumed (length p.mem.tables)) s.harts in
     let region = with_ram p.mem.tables s.ram in
     let load = option_map (load_resumed rules s.ram) s.loading in
     let state = resumed_state rules s in
-    ap (λ (x : Region). machine_by rules x (hosts_of p.seats.items) p.guard.pages p.modules.gate.loaded (loading_of p.modules) p.modules.gate.retired p.devices p.journal attempts) k.region
-    ∙ ap (λ (x : List HostHart). machine_by rules region x p.guard.pages p.modules.gate.loaded (loading_of p.modules) p.modules.gate.retired p.devices p.journal attempts) k.harts
-    ∙ ap (λ (x : List Protection). machine_by rules region hosts x p.modules.gate.loaded (loading_of p.modules) p.modules.gate.retired p.devices p.journal attempts) k.protections
-    ∙ ap (λ (x : List SavedModule). machine_by rules region hosts s.protection x (loading_of p.modules) p.modules.gate.retired p.devices p.journal attempts) k.loaded
-    ∙ ap (λ (x : Option HostLoad). machine_by rules region hosts s.protection s.modules x p.modules.gate.retired p.devices p.journal attempts) k.loading
-    ∙ ap (λ (x : Bool). machine_by rules region hosts s.protection s.modules load x p.devices p.journal attempts) k.retired
-    ∙ ap (λ (x : Devices). machine_by rules region hosts s.protection s.modules load s.retired x p.journal attempts) k.devices
-    ∙ ap (λ (x : Journal). machine_by rules region hosts s.protection s.modules load s.retired state.devices x attempts) k.journal
-    ∙ ap (machine_by rules region hosts s.protection s.modules load s.retired state.devices state.journal) none
+    ap (λ (x : Region). machine_by rules x (hw_harts_of p.slots.items) p.guard.pages p.modules.gate.loaded (loading_of p.modules) p.modules.gate.retired p.devices p.journal attempts) k.region
+    ∙ ap (λ (x : List HwHart). machine_by rules region x p.guard.pages p.modules.gate.loaded (loading_of p.modules) p.modules.gate.retired p.devices p.journal attempts) k.harts
+    ∙ ap (λ (x : List Protection). machine_by rules region hw_all x p.modules.gate.loaded (loading_of p.modules) p.modules.gate.retired p.devices p.journal attempts) k.protections
+    ∙ ap (λ (x : List ModulePlacement). machine_by rules region hw_all s.protection x (loading_of p.modules) p.modules.gate.retired p.devices p.journal attempts) k.loaded
+    ∙ ap (λ (x : Option HwLoad). machine_by rules region hw_all s.protection s.modules x p.modules.gate.retired p.devices p.journal attempts) k.loading
+    ∙ ap (λ (x : Bool). machine_by rules region hw_all s.protection s.modules load x p.devices p.journal attempts) k.retired
+    ∙ ap (λ (x : Devices). machine_by rules region hw_all s.protection s.modules load s.retired x p.journal attempts) k.devices
+    ∙ ap (λ (x : Journal). machine_by rules region hw_all s.protection s.modules load s.retired state.devices x attempts) k.journal
+    ∙ ap (machine_by rules region hw_all s.protection s.modules load s.retired state.devices state.journal) none

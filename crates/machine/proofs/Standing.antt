@@ -3,25 +3,25 @@ use Rattle.std.proofs.Common.{◌≡◌, ◌≢◌, ◌≤◌, ◌+◌, ◌-◌,
 use Rattle.sv_types.proofs.Sums.{plus_none}
 use Rattle.std.proofs.lemmas.List.{take-append-le, take-append-drop, length-drop}
 use Rattle.std.proofs.Math.Seq.{take-add}
-use Rattle.processor.specs.Hardware.{Attempted}
+use Rattle.spec_processor.specs.Hardware.{Attempted}
 use Rattle.sv_types.specs.declared.event.Event.{Event}
 use Rattle.sv_types.specs.declared.event.Event.TheVariants.{Turn, Beat, Key, Tick, Poke}
 use Rattle.sv_types.specs.declared.event.Verdict.{Verdict}
 use Rattle.sv_types.specs.declared.event.Verdict.TheVariants.{Running, Shutdown, Stopped}
-use Rattle.processor.specs.declared.outcome.Outcome.{Outcome}
-use Rattle.reference.specs.Disk.{disk_bytes}
-use Rattle.reference.specs.Report.{output, report}
-use Rattle.reference.specs.Run.{step}
-use Rattle.reference.specs.States.{State, Journal}
-use Rattle.machine_model.specs.HardwareEvent.{IsEvent, HappensUnder, Happens, TurnOf, HartTurn, StartedTurn, OneOrTwo, Attempts, AfterOutcome, sent_again, hart_again, attempt_of, is_loading, Written, with_bytes_at}
-use Rattle.machine_model.specs.HostHarts.{asks_again}
-use Rattle.machine_model.specs.Machine.{Machine, HostHart}
-use Rattle.machine_model.specs.Reaches.{Cleared, IsNew}
-use Rattle.machine_model.specs.StandsFor.{StandsFor, machine_of, without_printed}
-use Rattle.run_laws.proofs.StepsGrow.{grows_law}
-use Rattle.answer_laws.proofs.RunsReach.{clear_law}
-use Rattle.outside.specs.Outside.{SinkState, after_taking}
-use Rattle.outside.proofs.SinkLemmas.{after_taking-nil}
+use Rattle.spec_processor.specs.declared.outcome.Outcome.{Outcome}
+use Rattle.spec_reference.specs.Disk.{disk_bytes}
+use Rattle.spec_reference.specs.Report.{output, report}
+use Rattle.spec_reference.specs.Run.{step}
+use Rattle.spec_reference.specs.States.{State, Journal}
+use Rattle.spec_hardware.specs.HardwareEvent.{IsEvent, HappensUnder, Happens, TurnOf, HartTurn, StartedTurn, OneOrTwo, Attempts, AfterOutcome, sent_again, hart_again, attempt_of, is_loading, Written, with_bytes_at}
+use Rattle.spec_hardware.specs.HwHarts.{asks_again}
+use Rattle.spec_hardware.specs.Machine.{Machine, HwHart}
+use Rattle.spec_hardware.specs.Reaches.{Cleared, IsNew}
+use Rattle.spec_hardware.specs.StandsFor.{StandsFor, machine_of, without_printed}
+use Rattle.laws_invariants.proofs.StepsGrow.{grows_law}
+use Rattle.laws_simulation.proofs.RunsReach.{clear_law}
+use Rattle.hw_io.specs.Outside.{SinkState, after_taking}
+use Rattle.hw_io.proofs.SinkLemmas.{after_taking-nil}
 use Rattle.machine.specs.Console.{Flushed}
 use Rattle.machine.specs.Standing.{Stands, TakesAway, machine_output}
 
@@ -59,22 +59,22 @@ outcome_keeps (Outcome.Exit exit) m h a after it = ap (λ (x : Machine). x.clear
 outcome_keeps (Outcome.Retired wrote) m h a after it = ap (λ (x : Machine). x.cleared) it.same
 outcome_keeps Outcome.GuestTrap m h a after it = ap (λ (x : Machine). x.cleared) it.same
 
-once_keeps : (m : Machine) (h : ℕ) (hart : HostHart) (after : Machine) → Attempts m h hart after → after.cleared ≡ m.cleared
+once_keeps : (m : Machine) (h : ℕ) (hart : HwHart) (after : Machine) → Attempts m h hart after → after.cleared ≡ m.cleared
 once_keeps m h hart after it = outcome_keeps (attempt_of m h hart).outcome m h (attempt_of m h hart) after it
 
-attempts_keep : (again : Bool) (m : Machine) (h : ℕ) (hart : HostHart) (after : Machine) → OneOrTwo again m h hart after → after.cleared ≡ m.cleared
+attempts_keep : (again : Bool) (m : Machine) (h : ℕ) (hart : HwHart) (after : Machine) → OneOrTwo again m h hart after → after.cleared ≡ m.cleared
 attempts_keep false m h hart after it = once_keeps m h hart after it
 attempts_keep true m h hart after it = once_keeps (sent_again m h hart) h (hart_again m h hart) after it
 
-started_keeps : (loads : Bool) (m : Machine) (h : ℕ) (hart : HostHart) (after : Machine) → StartedTurn loads m h hart after → after.cleared ≡ m.cleared
+started_keeps : (loads : Bool) (m : Machine) (h : ℕ) (hart : HwHart) (after : Machine) → StartedTurn loads m h hart after → after.cleared ≡ m.cleared
 started_keeps true m h hart after it = ap (λ (x : Machine). x.cleared) it.same
 started_keeps false m h hart after it = attempts_keep (asks_again m.region.ram m.rules hart (attempt_of m h hart).outcome) m h hart after it
 
-hart_keeps : (started : Bool) (m : Machine) (h : ℕ) (hart : HostHart) (after : Machine) → HartTurn started m h hart after → after.cleared ≡ m.cleared
+hart_keeps : (started : Bool) (m : Machine) (h : ℕ) (hart : HwHart) (after : Machine) → HartTurn started m h hart after → after.cleared ≡ m.cleared
 hart_keeps true m h hart after it = started_keeps (is_loading m.loading h) m h hart after it
 hart_keeps false m h hart after it = ap (λ (x : Machine). x.cleared) it.same
 
-turn_keeps : (m : Machine) (h : ℕ) (hart : Option HostHart) (after : Machine) → TurnOf m h hart after → after.cleared ≡ m.cleared
+turn_keeps : (m : Machine) (h : ℕ) (hart : Option HwHart) (after : Machine) → TurnOf m h hart after → after.cleared ≡ m.cleared
 turn_keeps m h None after it = ap (λ (x : Machine). x.cleared) it.same
 turn_keeps m h (Some hart) after it = hart_keeps hart.started m h hart after it
 
@@ -120,8 +120,8 @@ event_stays m e after ended it = ended_under m.journal.verdict m e after ended i
 
 -- ---- growth
 
-pub prints_behind : (r : State) (e : Event) → (more : List ℕ) × ((step r e).journal.printed ≡ r.journal.printed ++ more)
-prints_behind r e = (grows_law r e).behind
+pub prints_after : (r : State) (e : Event) → (more : List ℕ) × ((step r e).journal.printed ≡ r.journal.printed ++ more)
+prints_after r e = (grows_law r e).behind
 
 left_over : (m : Machine) (r : State) → StandsFor m r → length m.journal.printed + m.cleared ≡ length r.journal.printed
 left_over m r s =
@@ -146,7 +146,7 @@ stands_new m start new = record { stands = new.stands; away = ap (λ (n : ℕ). 
 
 pub stands_step : (m next : Machine) (r : State) (cleared : List ℕ) (e : Event) → Stands m cleared r → StandsFor next (step r e) → IsEvent m e next → Stands next cleared (step r e)
 stands_step m next r cleared e s after event =
-    let behind = prints_behind r e in
+    let behind = prints_after r e in
     record {
       stands = after;
       away =

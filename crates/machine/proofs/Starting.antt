@@ -3,47 +3,47 @@ use Rattle.std.proofs.Common.{◌≡◌, ℕ, zero, suc, ◌+◌, ◌-◌, ◌�
 use Rattle.std.specs.Prelude.{find, is_some, Option, Some, None, IfSome, slice_get}
 use Rattle.std.proofs.lemmas.List.{drop-replicate, replicate_more, length-replicate}
 use Rattle.page_guard.specs.Guarded.{first_taken}
-use Rattle.hart_answers.specs.Hosts.{host_at, hosts_of}
-use Rattle.hart_answers.specs.declared.seats.Seat.{Seat}
-use Rattle.machine_model.specs.Machine.{Machine, HostHart}
-use Rattle.module_answers.specs.Conditions.{AreJoined, TakesItsPages}
-use Rattle.module_answers.specs.declared.modules.Modules.{Modules}
-use Rattle.module_answers.specs.declared.modules.UnderWay.{UnderWay}
+use Rattle.monitor_harts.specs.HwOfSlots.{hw_at, hw_harts_of}
+use Rattle.monitor_harts.specs.declared.slots.HartSlot.{HartSlot}
+use Rattle.spec_hardware.specs.Machine.{Machine, HwHart}
+use Rattle.monitor_modules.specs.Conditions.{AreJoined, TakesItsPages}
+use Rattle.monitor_modules.specs.declared.modules.Modules.{Modules}
+use Rattle.monitor_modules.specs.declared.modules.PendingLoad.{PendingLoad}
 use Rattle.module_gate.specs.Gates.{Records, no_modules}
 use Rattle.sv_types.specs.Protections.{is_free}
-use Rattle.reference.specs.Protections.{protection_at}
-use Rattle.reference.specs.Start.{block_disk, flat_rules}
-use Rattle.standing_laws.specs.Starts.{host_at_boot, hosts_at_boot, machine_at_boot, flat_machine, flat_protections, flat_ram}
+use Rattle.spec_reference.specs.Protections.{protection_at}
+use Rattle.spec_reference.specs.Start.{block_disk, flat_rules}
+use Rattle.laws_standing.specs.Starts.{hw_at_boot, hw_harts_at_boot, machine_at_boot, flat_machine, flat_protections, flat_ram}
 use Rattle.sv_types.specs.ApprovedPages.{numbers_from}
-use Rattle.processor.specs.Bytes.{overwrite, with_padding, ram_base}
+use Rattle.spec_processor.specs.Bytes.{overwrite, with_padding, ram_base}
 use Rattle.sv_types.specs.Policies.{Rules}
-use Rattle.processor.specs.Regions.{Region, host_bytes}
+use Rattle.spec_processor.specs.Regions.{Region, host_bytes}
 use Rattle.sv_types.specs.Views.{with_ram}
 use Rattle.sv_types.specs.declared.module.Span.{Span}
 use Rattle.sv_types.specs.declared.protection.Protection.{Protection}
 use Rattle.sv_types.specs.declared.protection.Protection.TheVariants.{Free}
-use Rattle.resumed_parts.proofs.Regions.{length_both, tables_sized}
-use Rattle.reach.specs.Usable.{nothing_kept, IsUsable, AreUsable}
-use Rattle.reach.specs.declared.caches.HartCaches.{HartCaches}
-use Rattle.reach.proofs.Emptied.{nothing_usable}
-use Rattle.reference.proofs.Runs.{all_free_at}
+use Rattle.machine_resume.proofs.Regions.{length_both, tables_sized}
+use Rattle.hw_tlb.specs.Usable.{nothing_kept, IsUsable, AreUsable}
+use Rattle.hw_tlb.specs.declared.caches.HartCaches.{HartCaches}
+use Rattle.hw_tlb.proofs.Emptied.{nothing_usable}
+use Rattle.spec_reference.proofs.Runs.{all_free_at}
 
 -- ---- harts
 
-hosts_more : (seats : List Seat) (next : Seat) → hosts_of (seats ++ next ∷ []) ≡ hosts_of seats ++ host_at next ∷ []
-hosts_more [] next = refl
-hosts_more (x ∷ seats) next = ap (λ (hosts : List HostHart). host_at x ∷ hosts) (hosts_more seats next)
+hw_harts_more : (slots : List HartSlot) (next : HartSlot) → hw_harts_of (slots ++ next ∷ []) ≡ hw_harts_of slots ++ hw_at next ∷ []
+hw_harts_more [] next = refl
+hw_harts_more (x ∷ slots) next = ap (λ (hw_all : List HwHart). hw_at x ∷ hw_all) (hw_harts_more slots next)
 
 -- one more stopped hart
-pub next_seated : (seats : List Seat) (next : Seat) (harts entry : ℕ) → 1 ≤ harts → hosts_of seats ≡ hosts_at_boot harts entry → host_at next ≡ host_at_boot 0 false
-    → hosts_of (seats ++ next ∷ []) ≡ hosts_at_boot (harts + 1) entry
-next_seated seats next harts entry some before is =
+pub next_seated : (slots : List HartSlot) (next : HartSlot) (harts entry : ℕ) → 1 ≤ harts → hw_harts_of slots ≡ hw_harts_at_boot harts entry → hw_at next ≡ hw_at_boot 0 false
+    → hw_harts_of (slots ++ next ∷ []) ≡ hw_harts_at_boot (harts + 1) entry
+next_seated slots next harts entry some before is =
     let others : (harts - 1) + 1 ≡ (harts + 1) - 1 = omega arith in
-    hosts_more seats next
-    ∙ ap (λ (hosts : List HostHart). hosts ++ host_at next ∷ []) before
-    ∙ ap (λ (host : HostHart). hosts_at_boot harts entry ++ host ∷ []) is
-    ∙ ap (λ (hosts : List HostHart). host_at_boot entry true ∷ hosts) (replicate_more (harts - 1) (host_at_boot 0 false))
-    ∙ ap (λ (n : ℕ). host_at_boot entry true ∷ replicate n (host_at_boot 0 false)) others
+    hw_harts_more slots next
+    ∙ ap (λ (hw_all : List HwHart). hw_all ++ hw_at next ∷ []) before
+    ∙ ap (λ (hw : HwHart). hw_harts_at_boot harts entry ++ hw ∷ []) is
+    ∙ ap (λ (hw_all : List HwHart). hw_at_boot entry true ∷ hw_all) (replicate_more (harts - 1) (hw_at_boot 0 false))
+    ∙ ap (λ (n : ℕ). hw_at_boot entry true ∷ replicate n (hw_at_boot 0 false)) others
 
 -- ---- caches
 
@@ -66,8 +66,8 @@ length_empty n caches is = ap (λ (caches : List HartCaches). length caches) is 
 
 pub none_joined : (rules : Rules) (modules : Modules) → modules.gate ≡ no_modules → modules.loading ≡ None → AreJoined rules modules
 none_joined rules modules gate loading = record {
-  gate = ap (λ (g : Records). g.loading) gate ∙ ap (λ (u : Option UnderWay). is_some u) (sym loading);
-  pages = subst (λ (u : Option UnderWay). IfSome u (TakesItsPages rules)) (sym loading) (record {});
+  gate = ap (λ (g : Records). g.loading) gate ∙ ap (λ (u : Option PendingLoad). is_some u) (sym loading);
+  pages = subst (λ (u : Option PendingLoad). IfSome u (TakesItsPages rules)) (sym loading) (record {});
 }
 
 -- ---- plain pages

@@ -7,26 +7,26 @@ use Rattle.sv_types.specs.declared.event.Event.{Event}
 use Rattle.sv_types.specs.declared.event.Event.TheVariants.{Turn, Beat, Key, Tick, Poke}
 use Rattle.sv_types.specs.declared.event.Verdict.{Verdict}
 use Rattle.sv_types.specs.declared.event.Verdict.TheVariants.{Running, Shutdown, Stopped}
-use Rattle.processor.specs.declared.outcome.Outcome.{Outcome}
-use Rattle.reference.specs.Counting.{count, with_count, count_turn, count_beat, count_key, count_tick, count_dropped}
-use Rattle.reference.specs.Attacker.{poke_move}
-use Rattle.reference.specs.Disk.{disk_beat, is_writable, Beaten}
-use Rattle.reference.specs.Move.{Move, Idle, FromRam, IntoRam, DeniedAt, OutsideRam}
-use Rattle.reference.specs.Run.{step}
-use Rattle.reference.specs.States.{State, Journal}
-use Rattle.reference.specs.Turn.{turn}
-use Rattle.run_laws.proofs.Growth.{Gains}
-use Rattle.machine_model.specs.HardwareEvent.{IsEvent, HappensUnder, TurnOf, HartTurn, StartedTurn, OneOrTwo, AfterOutcome, attempt_of, hart_again, is_loading, sent_again}
-use Rattle.machine_model.specs.HostHarts.{asks_again}
-use Rattle.machine_model.specs.HostEvents.{event_served, beat_served, poke_served, key_served, tick_served, after_host_move, with_host_disk}
-use Rattle.machine_model.specs.Machine.{Machine, HostHart, with_count_raised}
-use Rattle.machine_model.specs.StandsFor.{StandsFor, Unseen, IsRightFor, machine_of}
-use Rattle.machine_model.specs.Steps.{IsStep, StepsUnder}
-use Rattle.machine_model.specs.Reaches.{without_first_printed}
-use Rattle.answer_laws.proofs.RunsReach.{clear_law}
-use Rattle.answer_laws.proofs.TurnsServed.{step_law}
-use Rattle.run_laws.proofs.StepsGrow.{turn_gains}
-use Rattle.run_laws.proofs.EntriesHold.{running}
+use Rattle.spec_processor.specs.declared.outcome.Outcome.{Outcome}
+use Rattle.spec_reference.specs.Counting.{count, with_count, count_turn, count_beat, count_key, count_tick, count_dropped}
+use Rattle.spec_reference.specs.Attacker.{poke_move}
+use Rattle.spec_reference.specs.Disk.{disk_beat, is_writable, DmaStep}
+use Rattle.spec_reference.specs.Move.{Move, Idle, FromRam, IntoRam, DeniedAt, OutsideRam}
+use Rattle.spec_reference.specs.Run.{step}
+use Rattle.spec_reference.specs.States.{State, Journal}
+use Rattle.spec_reference.specs.Turn.{turn}
+use Rattle.laws_invariants.proofs.Growth.{Gains}
+use Rattle.spec_hardware.specs.HardwareEvent.{IsEvent, HappensUnder, TurnOf, HartTurn, StartedTurn, OneOrTwo, AfterOutcome, attempt_of, hart_again, is_loading, sent_again}
+use Rattle.spec_hardware.specs.HwHarts.{asks_again}
+use Rattle.spec_hardware.specs.HwEvents.{event_served, beat_served, poke_served, key_served, tick_served, after_hw_move, with_hw_disk}
+use Rattle.spec_hardware.specs.Machine.{Machine, HwHart, with_count_raised}
+use Rattle.spec_hardware.specs.StandsFor.{StandsFor, Unseen, IsRightFor, machine_of}
+use Rattle.spec_hardware.specs.Steps.{IsStep, StepsUnder}
+use Rattle.spec_hardware.specs.Reaches.{without_first_printed}
+use Rattle.laws_simulation.proofs.RunsReach.{clear_law}
+use Rattle.laws_simulation.proofs.TurnsServed.{step_law}
+use Rattle.laws_invariants.proofs.StepsGrow.{turn_gains}
+use Rattle.laws_invariants.proofs.EntriesHold.{running}
 
 -- ---- the two laws of a step
 
@@ -38,29 +38,29 @@ step_happens m after r e stands steps = (step_law m after r e stands steps).1
 
 -- ---- attempts: two at most in a turn
 
-outcome_attempts : (m after : Machine) (h : ℕ) (host : HostHart) (o : Outcome) → AfterOutcome o m h (attempt_of m h host) after → after.attempts ≤ m.attempts + 1
-outcome_attempts m after h host (Outcome.Retired wrote) k = let same : after.attempts ≡ m.attempts + 1 = ap (λ (x : Machine). x.attempts) k.same in omega (arith, same)
-outcome_attempts m after h host Outcome.GuestTrap k = let same : after.attempts ≡ m.attempts + 1 = ap (λ (x : Machine). x.attempts) k.same in omega (arith, same)
-outcome_attempts m after h host (Outcome.Exit exit) k = let same : after.attempts ≡ m.attempts + 1 = ap (λ (x : Machine). x.attempts) k.same in omega (arith, same)
+outcome_attempts : (m after : Machine) (h : ℕ) (hw : HwHart) (o : Outcome) → AfterOutcome o m h (attempt_of m h hw) after → after.attempts ≤ m.attempts + 1
+outcome_attempts m after h hw (Outcome.Retired wrote) k = let same : after.attempts ≡ m.attempts + 1 = ap (λ (x : Machine). x.attempts) k.same in omega (arith, same)
+outcome_attempts m after h hw Outcome.GuestTrap k = let same : after.attempts ≡ m.attempts + 1 = ap (λ (x : Machine). x.attempts) k.same in omega (arith, same)
+outcome_attempts m after h hw (Outcome.Exit exit) k = let same : after.attempts ≡ m.attempts + 1 = ap (λ (x : Machine). x.attempts) k.same in omega (arith, same)
 
-two_attempts : (m after : Machine) (h : ℕ) (host : HostHart) (again : Bool) → OneOrTwo again m h host after → after.attempts ≤ m.attempts + 2
-two_attempts m after h host false k = let one = outcome_attempts m after h host (attempt_of m h host).outcome k in omega (arith, one)
-two_attempts m after h host true k =
+two_attempts : (m after : Machine) (h : ℕ) (hw : HwHart) (again : Bool) → OneOrTwo again m h hw after → after.attempts ≤ m.attempts + 2
+two_attempts m after h hw false k = let one = outcome_attempts m after h hw (attempt_of m h hw).outcome k in omega (arith, one)
+two_attempts m after h hw true k =
     let one : after.attempts ≤ m.attempts + 1 + 1 =
-    outcome_attempts (sent_again m h host) after h (hart_again m h host) (attempt_of (sent_again m h host) h (hart_again m h host)).outcome k in
+    outcome_attempts (sent_again m h hw) after h (hart_again m h hw) (attempt_of (sent_again m h hw) h (hart_again m h hw)).outcome k in
     omega (arith, one)
 
-started_attempts : (m after : Machine) (h : ℕ) (host : HostHart) (loads : Bool) → StartedTurn loads m h host after → after.attempts ≤ m.attempts + 2
-started_attempts m after h host true k = let same : after.attempts ≡ m.attempts = ap (λ (x : Machine). x.attempts) k.same in omega (arith, same)
-started_attempts m after h host false k = two_attempts m after h host (asks_again m.region.ram m.rules host (attempt_of m h host).outcome) k
+started_attempts : (m after : Machine) (h : ℕ) (hw : HwHart) (loads : Bool) → StartedTurn loads m h hw after → after.attempts ≤ m.attempts + 2
+started_attempts m after h hw true k = let same : after.attempts ≡ m.attempts = ap (λ (x : Machine). x.attempts) k.same in omega (arith, same)
+started_attempts m after h hw false k = two_attempts m after h hw (asks_again m.region.ram m.rules hw (attempt_of m h hw).outcome) k
 
-hart_attempts : (m after : Machine) (h : ℕ) (host : HostHart) (started : Bool) → HartTurn started m h host after → after.attempts ≤ m.attempts + 2
-hart_attempts m after h host true k = started_attempts m after h host (is_loading m.loading h) k
-hart_attempts m after h host false k = let same : after.attempts ≡ m.attempts = ap (λ (x : Machine). x.attempts) k.same in omega (arith, same)
+hart_attempts : (m after : Machine) (h : ℕ) (hw : HwHart) (started : Bool) → HartTurn started m h hw after → after.attempts ≤ m.attempts + 2
+hart_attempts m after h hw true k = started_attempts m after h hw (is_loading m.loading h) k
+hart_attempts m after h hw false k = let same : after.attempts ≡ m.attempts = ap (λ (x : Machine). x.attempts) k.same in omega (arith, same)
 
-turn_attempts : (m after : Machine) (h : ℕ) (x : Option HostHart) → TurnOf m h x after → after.attempts ≤ m.attempts + 2
+turn_attempts : (m after : Machine) (h : ℕ) (x : Option HwHart) → TurnOf m h x after → after.attempts ≤ m.attempts + 2
 turn_attempts m after h None k = let same : after.attempts ≡ m.attempts = ap (λ (x : Machine). x.attempts) k.same in omega (arith, same)
-turn_attempts m after h (Some host) k = hart_attempts m after h host host.started k
+turn_attempts m after h (Some hw) k = hart_attempts m after h hw hw.started k
 
 -- ---- what the invariant says of two machines
 
@@ -75,8 +75,8 @@ pub record LeavesCounts (before after : Machine) : Type 0 where
   pub cleared : after.cleared ≡ before.cleared
   pub printed : after.journal.printed ≡ before.journal.printed
 
-move_leaves : (m : Machine) (x : Move) → LeavesCounts m (after_host_move m x)
-unfolding after_host_move
+move_leaves : (m : Machine) (x : Move) → LeavesCounts m (after_hw_move m x)
+unfolding after_hw_move
 move_leaves m Idle = record { attempts = refl; turns = refl; cleared = refl; printed = refl }
 move_leaves m (FromRam gpa) = record { attempts = refl; turns = refl; cleared = refl; printed = refl }
 move_leaves m (IntoRam gpa bytes) = record { attempts = refl; turns = refl; cleared = refl; printed = refl }
@@ -86,8 +86,8 @@ move_leaves m OutsideRam = record { attempts = refl; turns = refl; cleared = ref
 beat_leaves : (m : Machine) → LeavesCounts m (beat_served m)
 unfolding beat_served
 beat_leaves m =
-    let b : Beaten = disk_beat m.devices.disk m.region.ram (is_writable m.dma) in
-    let k = move_leaves (with_host_disk m b.disk) b.move in
+    let b : DmaStep = disk_beat m.devices.disk m.region.ram (is_writable m.dma) in
+    let k = move_leaves (with_hw_disk m b.disk) b.move in
     record { attempts = k.attempts; turns = k.turns; cleared = k.cleared; printed = k.printed }
 
 poke_leaves : (m : Machine) (gpa value : ℕ) → LeavesCounts m (poke_served m gpa value)

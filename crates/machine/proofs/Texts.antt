@@ -1,22 +1,22 @@
 -- The text of a machine is that of the state that it stands for.
 use Rattle.std.proofs.Common.{◌≡◌, ◌∙◌, ◌*◌, ◌≤◌, Result, Ok, Err, IfOk, Vec, ap, length, refl, subst, sym}
 use Rattle.std.specs.declared.alloc.Global.{Global}
-use Rattle.processor.specs.Bytes.{page_size}
-use Rattle.processor.specs.Regions.{most_ram_pages}
+use Rattle.spec_processor.specs.Bytes.{page_size}
+use Rattle.spec_processor.specs.Regions.{max_ram_pages}
 use Rattle.sv_types.proofs.PolicyLimits.{few_pages}
-use Rattle.reference.specs.States.{State}
-use Rattle.machine_model.specs.Machine.{Machine}
-use Rattle.machine_model.specs.StandsFor.{StandsFor, Unseen, machine_of}
-use Rattle.snapshot_form.specs.declared.whole.TextPage.{TextPage}
-use Rattle.standing_laws.proofs.Standings.{in_order}
-use Rattle.resumed_start.specs.TextPages.{digested_text, text_in}
+use Rattle.spec_reference.specs.States.{State}
+use Rattle.spec_hardware.specs.Machine.{Machine}
+use Rattle.spec_hardware.specs.StandsFor.{StandsFor, Unseen, machine_of}
+use Rattle.snapshot_format.specs.declared.whole.TextPage.{TextPage}
+use Rattle.laws_standing.proofs.Standings.{in_order}
+use Rattle.laws_resumed_start.specs.TextPages.{digested_text, text_in}
 
 -- RAM has a protection for each page, and no more than the most pages
 pub ram_paged : (m : Machine) (r : State) → StandsFor m r → length m.region.ram ≡ page_size * length m.protections
 ram_paged m r stands = let order = in_order m r stands in order.size ∙ ap (λ n. page_size * n) (sym order.pages)
 
-pub pages_few : (m : Machine) (r : State) → StandsFor m r → length m.protections ≤ most_ram_pages
-pages_few m r stands = let order = in_order m r stands in subst (λ n. n ≤ most_ram_pages) (sym order.pages) (few_pages m.rules order.within)
+pub pages_few : (m : Machine) (r : State) → StandsFor m r → length m.protections ≤ max_ram_pages
+pages_few m r stands = let order = in_order m r stands in subst (λ n. n ≤ max_ram_pages) (sym order.pages) (few_pages m.rules order.within)
 
 text_seen : (o : Unseen) (r : State) → text_in (machine_of o r).region.ram (machine_of o r).protections ≡ digested_text r
 unfolding machine_of

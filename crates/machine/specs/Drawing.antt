@@ -7,15 +7,15 @@ use Rattle.machine.specs.declared.drawing.Drawing.{Drawing}
 
 -- those of the row that was drawn, and those that the source still has
 abbrev pub events_left : {S : Type 0} → (schedule : S → Schedule) → Drawing S → List Event
-events_left schedule d = replicate d.row.count d.row.event ++ first_events d.undrawn (schedule d.source)
+events_left schedule d = replicate d.batch.count d.batch.event ++ first_events d.undrawn (schedule d.source)
 
 -- how many they are at most
 abbrev pub count_left : {S : Type 0} → Drawing S → ℕ
-count_left d = d.row.count + d.undrawn
+count_left d = d.batch.count + d.undrawn
 
 -- a row of equal events stands at the head of the same events
-pub record IsAtHand {S : Type 0} (schedule : S → Schedule) (old new : Drawing S) (row : EventRun) : Type 0 where
-  pub row_is : row ≡ new.row
-  pub some : 0 < row.count
+pub record IsAtHand {S : Type 0} (schedule : S → Schedule) (old new : Drawing S) (batch : EventRun) : Type 0 where
+  pub row_is : batch ≡ new.batch
+  pub some : 0 < batch.count
   pub left : events_left schedule new ≡ events_left schedule old
   pub count : count_left new ≡ count_left old

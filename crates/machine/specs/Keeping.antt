@@ -1,63 +1,63 @@
 -- What plain data keeps of the machine: SecVisor's own parts are left out. This project's own.
 use Rattle.std.specs.Prelude.{◌≡◌, ℕ, ◌+◌, ◌-◌, ◌^◌, ◌<◌, ◌≤◌, List, [], ◌∷◌, length, IfSome, Option, option_map}
 use Rattle.sv_types.specs.Clock.{Clock, timer_of}
-use Rattle.processor.specs.HypervisorRegisters.{at_guest_places}
-use Rattle.machine_model.specs.Machine.{Machine, HostHart, HostLoad}
-use Rattle.saved_machine.specs.SavedStates.{gpa_at, disk_of}
-use Rattle.machine_parts.specs.Attempts.{hart_in}
-use Rattle.saved_machine.specs.declared.harts.SavedHart.{SavedHart}
-use Rattle.saved_machine.specs.declared.whole.Saved.{Saved}
-use Rattle.saved_machine.specs.declared.whole.SavedLoad.{SavedLoad}
+use Rattle.spec_processor.specs.HypervisorRegisters.{at_guest_places}
+use Rattle.spec_hardware.specs.Machine.{Machine, HwHart, HwLoad}
+use Rattle.spec_saved_machine.specs.SavedStates.{gpa_at, disk_of}
+use Rattle.machine_events.specs.Attempts.{hart_in}
+use Rattle.spec_saved_machine.specs.declared.harts.SavedHart.{SavedHart}
+use Rattle.spec_saved_machine.specs.declared.whole.Saved.{Saved}
+use Rattle.spec_saved_machine.specs.declared.whole.SavedLoad.{SavedLoad}
 
 -- ---- harts
 
 -- the guest-physical address of a host place behind so many bytes of tables
-abbrev pub gpa_behind : ℕ → ℕ → ℕ
-gpa_behind tables place = gpa_at (place - tables)
+abbrev pub gpa_after : ℕ → ℕ → ℕ
+gpa_after tables place = gpa_at (place - tables)
 
 -- the place lies behind the tables, and its address is a number of 64 bits
 pub record IsAddressed (tables place : ℕ) : Type 0 where
   pub behind : tables ≤ place
-  pub small : gpa_behind tables place < 2 ^ 64
+  pub small : gpa_after tables place < 2 ^ 64
 
 -- a reservation that can be kept as an address
 abbrev pub IsKeepable : ℕ → Option ℕ → Type 0
 IsKeepable tables reservation = IfSome reservation (IsAddressed tables)
 
 -- the reservation of every hart can
-abbrev pub AreKeepable : ℕ → List HostHart → Type 0
-AreKeepable tables hosts = (h : ℕ) → IsKeepable tables (hart_in hosts h).core.reservation
+abbrev pub AreKeepable : ℕ → List HwHart → Type 0
+AreKeepable tables hw_all = (h : ℕ) → IsKeepable tables (hart_in hw_all h).core.reservation
 
 -- a hart of the hardware, as its guest sees it
-abbrev pub kept_hart : (tables timer : ℕ) → HostHart → SavedHart
-kept_hart tables timer host = record {
-  started = host.started;
-  mode = host.core.hregs.mode;
-  pc = host.core.pc;
-  registers = host.core.registers;
-  sstatus = host.core.csrs.vsstatus;
-  sie = at_guest_places host.core.csrs.hie;
-  stvec = host.core.csrs.vstvec;
-  scounteren = host.core.csrs.scounteren;
-  sscratch = host.core.csrs.vsscratch;
-  sepc = host.core.csrs.vsepc;
-  scause = host.core.csrs.vscause;
-  stval = host.core.csrs.vstval;
-  sip = at_guest_places host.core.csrs.hvip;
-  satp = host.core.csrs.vsatp;
-  reservation = option_map (gpa_behind tables) host.core.reservation;
-  entry = host.entry;
+abbrev pub kept_hart : (tables timer : ℕ) → HwHart → SavedHart
+kept_hart tables timer hw = record {
+  started = hw.started;
+  mode = hw.core.hregs.mode;
+  pc = hw.core.pc;
+  registers = hw.core.registers;
+  sstatus = hw.core.csrs.vsstatus;
+  sie = at_guest_places hw.core.csrs.hie;
+  stvec = hw.core.csrs.vstvec;
+  scounteren = hw.core.csrs.scounteren;
+  sscratch = hw.core.csrs.vsscratch;
+  sepc = hw.core.csrs.vsepc;
+  scause = hw.core.csrs.vscause;
+  stval = hw.core.csrs.vstval;
+  sip = at_guest_places hw.core.csrs.hvip;
+  satp = hw.core.csrs.vsatp;
+  reservation = option_map (gpa_after tables) hw.core.reservation;
+  entry = hw.entry;
   timer = timer;
 }
 
 -- the harts from one on
-unfoldable pub kept_harts : ℕ → Clock → ℕ → List HostHart → List SavedHart
+unfoldable pub kept_harts : ℕ → Clock → ℕ → List HwHart → List SavedHart
 kept_harts tables clock h [] = []
-kept_harts tables clock h (host ∷ hosts) = kept_hart tables (timer_of clock h) host ∷ kept_harts tables clock (h + 1) hosts
+kept_harts tables clock h (hw ∷ hw_all) = kept_hart tables (timer_of clock h) hw ∷ kept_harts tables clock (h + 1) hw_all
 
 -- ---- a load under way
 
-abbrev pub kept_load : HostLoad → SavedLoad
+abbrev pub kept_load : HwLoad → SavedLoad
 kept_load load = record { hart = load.hart; «module» = load.about; left = load.left }
 
 -- ---- the whole

@@ -1,9 +1,9 @@
 -- What is true of a machine between two events. This project's own.
 use Rattle.std.specs.Prelude.{◌+◌, ◌*◌, ◌^◌, ◌<◌, ◌≤◌, ℕ, List, [], ◌∷◌, length, Option, Some, None}
-use Rattle.reference.specs.States.{State, Hart}
-use Rattle.machine_model.specs.StandsFor.{StandsFor}
-use Rattle.saved_machine.specs.SavedStates.{gpa_at}
-use Rattle.machine_parts.specs.Rows.{AreFreeWhere}
+use Rattle.spec_reference.specs.States.{State, Hart}
+use Rattle.spec_hardware.specs.StandsFor.{StandsFor}
+use Rattle.spec_saved_machine.specs.SavedStates.{gpa_at}
+use Rattle.machine_events.specs.Batches.{AreFreeWhere}
 use Rattle.machine.specs.declared.machine.Machine.TheInside.{Inside}
 
 -- the guest-physical address of a reservation is a number of 64 bits

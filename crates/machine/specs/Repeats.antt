@@ -1,17 +1,17 @@
 -- One event, several times in a row. This project's own.
 use Rattle.std.specs.Prelude.{◌≡◌, ℕ, zero, suc, ◌+◌, ◌-◌, ◌<◌, ◌≤◌, length}
-use Rattle.sv_types.specs.Limits.{most_printed}
+use Rattle.sv_types.specs.Limits.{max_printed}
 use Rattle.sv_types.specs.declared.event.Event.{Event}
 use Rattle.sv_types.specs.declared.event.Verdict.TheVariants.{Running}
-use Rattle.reference.specs.Counting.{CountsAtMost}
-use Rattle.reference.specs.States.{State}
-use Rattle.reference.specs.Run.{step}
-use Rattle.machine_model.specs.HardwareEvent.{IsEvent}
-use Rattle.machine_model.specs.Machine.{Machine}
-use Rattle.machine_model.specs.StandsFor.{StandsFor}
-use Rattle.quick_turns.specs.declared.leaving.Leaving.{Leaving}
-use Rattle.quick_turns.specs.declared.leaving.Leaving.TheVariants.{Stays}
-use Rattle.machine.specs.Limits.{most_counts}
+use Rattle.spec_reference.specs.Counting.{CountsAtMost}
+use Rattle.spec_reference.specs.States.{State}
+use Rattle.spec_reference.specs.Run.{step}
+use Rattle.spec_hardware.specs.HardwareEvent.{IsEvent}
+use Rattle.spec_hardware.specs.Machine.{Machine}
+use Rattle.spec_hardware.specs.StandsFor.{StandsFor}
+use Rattle.hw_fast_path.specs.declared.leaving.Leaving.{Leaving}
+use Rattle.hw_fast_path.specs.declared.leaving.Leaving.TheVariants.{Stays}
+use Rattle.machine.specs.Limits.{max_counts}
 
 -- one event: the machine stands for the state after it, and changed no more than the event may
 pub record Makes (m : Machine) (e : Event) (after : Machine) : Type 0 where
@@ -35,9 +35,9 @@ Repeats (suc n) m e after = (before : Machine) × (Repeats n m e before × (Goes
 -- so many events may be made: one of them may print, and each is counted
 pub record MayMake (m : Machine) (n : ℕ) : Type 0 where
   pub asked : 0 < n
-  pub few : n ≤ most_counts
-  pub room : length m.journal.printed < most_printed
-  pub counts : CountsAtMost (most_counts - n) m.journal.counts
+  pub few : n ≤ max_counts
+  pub room : length m.journal.printed < max_printed
+  pub counts : CountsAtMost (max_counts - n) m.journal.counts
 
 -- an event was made so many times, at least once and at most as often as was asked, and is counted so often
 pub record Made (n asked : ℕ) (m : Machine) (e : Event) (after : Machine) : Type 0 where
@@ -47,7 +47,7 @@ pub record Made (n asked : ℕ) (m : Machine) (e : Event) (after : Machine) : Ty
   pub most : n ≤ asked
 
 -- turns of a row: so many at most, none of which prints. Where the hart stays in the guest, none ends the run
-pub record MadeInRow (left : Leaving) (n asked : ℕ) (m : Machine) (e : Event) (after : Machine) : Type 0 where
+pub record MadeInBatch (left : Leaving) (n asked : ℕ) (m : Machine) (e : Event) (after : Machine) : Type 0 where
   pub chain : Repeats n m e after
   pub quiet : IsQuiet m after
   pub running : left ≡ Stays → m.journal.verdict ≡ Running → after.journal.verdict ≡ Running

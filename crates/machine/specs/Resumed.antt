@@ -1,8 +1,8 @@
 -- Why a machine doesn't go on from a snapshot. This project's own.
 use Rattle.std.specs.Prelude.{◌≡◌, Some}
 use Rattle.sv_types.specs.Policies.{Rules}
-use Rattle.snapshot_form.specs.Snapshots.{Contents}
-use Rattle.resumption.specs.Judgements.{resume_refusal}
+use Rattle.snapshot_format.specs.Snapshots.{Contents}
+use Rattle.snapshot_resume.specs.Judgements.{resume_refusal}
 use Rattle.machine.specs.declared.resume.ResumeFailure.{ResumeFailure}
 use Rattle.machine.specs.declared.resume.ResumeFailure.TheVariants.{Refused, Memory}
 

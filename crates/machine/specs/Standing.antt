@@ -1,10 +1,10 @@
 -- What a machine is to a state of the reference machine, and to its console's bytes. Only this file looks inside a machine.
 use Rattle.std.specs.Prelude.{◌≡◌, ℕ, List, ◌++◌, take}
-use Rattle.reference.specs.States.{State}
-use Rattle.reference.specs.Report.{report}
-use Rattle.machine_model.specs.Machine.{Machine}
-use Rattle.machine_model.specs.StandsFor.{StandsFor}
-use Rattle.machine_model.specs.Reaches.{Cleared}
+use Rattle.spec_reference.specs.States.{State}
+use Rattle.spec_reference.specs.Report.{report}
+use Rattle.spec_hardware.specs.Machine.{Machine}
+use Rattle.spec_hardware.specs.StandsFor.{StandsFor}
+use Rattle.spec_hardware.specs.Reaches.{Cleared}
 
 -- the machine stands for this state, and these bytes of its console were taken away
 pub record Stands (machine : Machine) (cleared : List ℕ) (state : State) : Type 0 where

@@ -14,7 +14,7 @@ pub(crate) struct Drawing<S> {
     // The events that are still to be drawn.
     undrawn: u64,
     // What was drawn and isn't made yet.
-    row: EventRun,
+    batch: EventRun,
 }
 
 impl<S: EventSource> Drawing<S> {
@@ -26,7 +26,7 @@ impl<S: EventSource> Drawing<S> {
         Drawing {
             source,
             undrawn: events,
-            row: EventRun {
+            batch: EventRun {
                 event: Event::Beat,
                 count: 0,
             },
@@ -36,26 +36,26 @@ impl<S: EventSource> Drawing<S> {
     /// The next events that are equal. They stay until they were made. None where none is left.
     #[inline(always)]
     pub(crate) fn draw(&mut self) -> Option<EventRun>
-        ensures row { IfSome result (IsAtHand S.schedule self.old self.new) }
+        ensures batch { IfSome result (IsAtHand S.schedule self.old self.new) }
         ensures none { result ≡ None → events_left S.schedule self.old ≡ [] }
     {
-        if self.row.count == 0 {
+        if self.batch.count == 0 {
             if self.undrawn == 0 {
                 return None;
             }
-            self.row = self.source.draw(self.undrawn)?;
-            self.undrawn -= self.row.count;
+            self.batch = self.source.draw(self.undrawn)?;
+            self.undrawn -= self.batch.count;
         }
-        Some(self.row)
+        Some(self.batch)
     }
 
     /// So many of the equal events were made.
     #[inline(always)]
     pub(crate) fn count_down(&mut self, count: u64)
-        requires { count ≤ self.old.row.count }
-        ensures left { events_left S.schedule self.old ≡ replicate count self.old.row.event ++ events_left S.schedule self.new }
+        requires { count ≤ self.old.batch.count }
+        ensures left { events_left S.schedule self.old ≡ replicate count self.old.batch.event ++ events_left S.schedule self.new }
         ensures count { count_left self.new + count ≡ count_left self.old }
     {
-        self.row.count -= count;
+        self.batch.count -= count;
     }
 }

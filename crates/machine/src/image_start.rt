@@ -1,41 +1,41 @@
 // The machine of a kernel's image before its first event.
 
 ghost use Rattle.std.specs.Prelude.{◌≡◌, ℕ, ◌≤◌, ◌*◌, List, length, true, IfOk, OnOk, IfErr, IsTrue};
-ghost use Rattle.processor.specs.Bytes.{page_size};
+ghost use Rattle.spec_processor.specs.Bytes.{page_size};
 ghost use Rattle.sv_types.specs.Kernel.{segments_ram};
 ghost use Rattle.sv_types.specs.Measure.{measure};
 ghost use Rattle.sv_types.specs.Policies.{rules_of, rules_within};
-ghost use Rattle.processor.specs.Regions.{most_ram_pages};
-ghost use Rattle.gstage_tables.specs.Layout.{most_bound, table_size};
+ghost use Rattle.spec_processor.specs.Regions.{max_ram_pages};
+ghost use Rattle.gstage_tables.specs.Layout.{max_bound, table_size};
 ghost use Rattle.page_guard.specs.Guarded.{Guards};
 ghost use Rattle.elf64_load.specs.Images.{segments_of};
-ghost use Rattle.image_loader.specs.Placed.{ArePlaced};
-ghost use Rattle.reference.specs.Start.{image_start, AreWords};
-ghost use Rattle.reference.specs.States.{has_number};
-ghost use Rattle.reference.specs.Soundness.{IsSoundDisk};
-ghost use Rattle.machine_model.specs.Reaches.{IsNew};
-ghost use Rattle.machine_model.specs.StandsFor.{bound_pages};
-ghost use Rattle.devices.specs.Ports.{port_disk};
-ghost use Rattle.standing_laws.specs.Starts.{image_machine, image_protections, journal_at_boot, IsGuarded};
+ghost use Rattle.monitor_boot.specs.Placed.{ArePlaced};
+ghost use Rattle.spec_reference.specs.Start.{image_start, AreWords};
+ghost use Rattle.spec_reference.specs.States.{has_number};
+ghost use Rattle.spec_reference.specs.Soundness.{IsSoundDisk};
+ghost use Rattle.spec_hardware.specs.Reaches.{IsNew};
+ghost use Rattle.spec_hardware.specs.StandsFor.{bound_pages};
+ghost use Rattle.hw_devices.specs.Ports.{port_disk};
+ghost use Rattle.laws_standing.specs.Starts.{image_machine, image_protections, journal_at_boot, IsGuarded};
 ghost use Rattle.machine.specs.Boot.{IsImageOf, image_text, RefusesFlat, RefusesImage};
 
 use crate::boot::BootRefusal;
 use crate::start::{at_boot, judge_measure};
-use devices::Port;
 use elf64_load::KernelImage;
 use gstage_tables::Trees;
 use host_mem::HostMem;
-use image_loader::{approve_text, fill_ram};
-use machine_parts::Parts;
+use hw_devices::Port;
+use machine_events::Parts;
+use monitor_boot::{approve_text, fill_ram};
 use page_guard::Guard;
-use processor::page_of;
+use spec_processor::page_of;
 use std::alloc::{AllocError, Global};
 use std::thread::Threads;
 use sv_types::{Digest, Policy};
 
 /// A machine of a kernel's image under a policy: the image's segments in RAM, its text approved, and hart 0 at its
 /// entry. First the text is measured against the policy, and the entry has to be one of the policy's.
-#[tactic(auto, unfolding(standing_laws::specs::Starts::machine_at_boot, standing_laws::specs::Starts::image_machine))]
+#[tactic(auto, unfolding(laws_standing::specs::Starts::machine_at_boot, laws_standing::specs::Starts::image_machine))]
 pub(crate) fn boot<R: Threads + Sync>(
     rt: &R,
     alloc: Global,
@@ -163,15 +163,15 @@ pub(crate) fn bound_pages(alloc: Global, policy: &Policy) -> Result<Vec<u32>, Al
 }
 
 // A region of so many pages of RAM with the image's segments, and room for its tables, where so many entries are bound.
-#[tactic(auto, using(resumed_parts::proofs::Regions::tables_sized))]
+#[tactic(auto, using(machine_resume::proofs::Regions::tables_sized))]
 fn image_region(
     alloc: Global,
     image: &KernelImage,
     ram_pages: u32,
     bound: usize,
 ) -> Result<HostMem, AllocError>
-    requires few { ram_pages ≤ most_ram_pages }
-    requires bound { bound ≤ most_bound }
+    requires few { ram_pages ≤ max_ram_pages }
+    requires bound { bound ≤ max_bound }
     requires placed { ArePlaced ram_pages (segments_of image.now) }
     ensures tables { IfOk result (λ m. length m.tables ≡ table_size ram_pages bound) }
     ensures ram { IfOk result (λ m. m.ram ≡ segments_ram (segments_of image.now) ram_pages) }
@@ -192,7 +192,7 @@ fn image_guard(
     bound: &[u32],
 ) -> Result<Guard, AllocError>
     requires size { length mem.old.ram ≡ page_size * ram_pages }
-    requires few { length bound.now ≤ most_bound }
+    requires few { length bound.now ≤ max_bound }
     requires tables { length mem.old.tables ≡ table_size ram_pages (length bound.now) }
     requires placed { ArePlaced ram_pages (segments_of image.now) }
     ensures guard { IfOk result (λ g. g.pages ≡ image_protections ram_pages (segments_of image.now)) }

@@ -14,7 +14,7 @@ mod start;
 mod text;
 
 pub use boot::BootRefusal;
-pub use devices::SECTOR_BYTES;
+pub use hw_devices::SECTOR_BYTES;
 pub use machine::Machine;
 pub use resume::ResumeFailure;
 pub use running::{flush_due, run};

@@ -1,23 +1,23 @@
 // The machine.
 
 ghost use Rattle.std.specs.Prelude.{◌≡◌, ◌&&◌, ℕ, ◌+◌, ◌-◌, ◌<◌, ◌≤◌, [], length, replicate, true};
-ghost use Rattle.sv_types.specs.Limits.{most_printed};
+ghost use Rattle.sv_types.specs.Limits.{max_printed};
 ghost use Rattle.sv_types.specs.declared.event.Event.TheVariants.{Turn};
 ghost use Rattle.sv_types.specs.declared.event.Verdict.TheVariants.{Running};
-ghost use Rattle.reference.specs.Counting.{CountsAtMost};
-ghost use Rattle.reference.specs.Disk.{disk_bytes};
-ghost use Rattle.reference.specs.Run.{run, step};
-ghost use Rattle.reference.specs.States.{State};
-ghost use Rattle.machine_model.specs.HardwareEvent.{IsEvent};
-ghost use Rattle.machine_model.specs.Reaches.{Cleared};
-ghost use Rattle.machine_model.specs.StandsFor.{StandsFor};
-ghost use Rattle.machine.specs.Limits.{most_counts};
-ghost use Rattle.machine.specs.Repeats.{Made, MadeInRow, Makes, MayMake, Repeats};
-ghost use Rattle.machine_parts.specs.Rows.{AreFree, MayRow, reserves_nothing};
-ghost use Rattle.quick_turns.specs.Ends.{turns_of};
+ghost use Rattle.spec_reference.specs.Counting.{CountsAtMost};
+ghost use Rattle.spec_reference.specs.Disk.{disk_bytes};
+ghost use Rattle.spec_reference.specs.Run.{run, step};
+ghost use Rattle.spec_reference.specs.States.{State};
+ghost use Rattle.spec_hardware.specs.HardwareEvent.{IsEvent};
+ghost use Rattle.spec_hardware.specs.Reaches.{Cleared};
+ghost use Rattle.spec_hardware.specs.StandsFor.{StandsFor};
+ghost use Rattle.machine.specs.Limits.{max_counts};
+ghost use Rattle.machine.specs.Repeats.{Made, MadeInBatch, Makes, MayMake, Repeats};
+ghost use Rattle.machine_events.specs.Batches.{AreFree, MayBatch, reserves_nothing};
+ghost use Rattle.hw_fast_path.specs.Ends.{turns_of};
 
-use machine_parts::Parts;
-use quick_turns::Row;
+use hw_fast_path::Batch;
+use machine_events::Parts;
 use std::marker::Model;
 use sv_types::{Counts, Event, Note, Verdict};
 
@@ -30,7 +30,7 @@ pub struct Machine {
 }
 
 impl Model for Machine {
-    ghost use Rattle.machine_model.specs.Machine.{Machine as Whole};
+    ghost use Rattle.spec_hardware.specs.Machine.{Machine as Whole};
 
     ghost Value = { Whole };
 
@@ -45,8 +45,8 @@ impl Machine {
     /// One event. The machine stands for the reference machine's state after it, and changes no more than the event may.
     #[inline(never)]
     pub fn step(&mut self, event: Event)
-        requires room { length self.old.journal.printed < most_printed }
-        requires counts { CountsAtMost (most_counts - 1) self.old.journal.counts }
+        requires room { length self.old.journal.printed < max_printed }
+        requires counts { CountsAtMost (max_counts - 1) self.old.journal.counts }
         ensures stands { (r : State) → StandsFor self.old r → StandsFor self.new (step r event) }
         ensures event { IsEvent self.old event self.new }
     {
@@ -58,9 +58,9 @@ impl Machine {
     #[inline(always)]
     pub fn repeat(&mut self, event: Event, count: u64) -> u64
         requires asked { 0 < count }
-        requires few { count ≤ most_counts }
-        requires room { length self.old.journal.printed < most_printed }
-        requires counts { CountsAtMost (most_counts - count) self.old.journal.counts }
+        requires few { count ≤ max_counts }
+        requires room { length self.old.journal.printed < max_printed }
+        requires counts { CountsAtMost (max_counts - count) self.old.journal.counts }
         ensures stands { (r : State) → StandsFor self.old r → StandsFor self.new (run r (replicate result event)) }
         ensures chain { Repeats result self.old event self.new }
         ensures counts { (n : ℕ) → CountsAtMost n self.old.journal.counts → CountsAtMost (n + result) self.new.journal.counts }
@@ -118,9 +118,9 @@ impl Machine {
         requires { MayMake self.old most }
         ensures { Made result most self.old (Turn hart) self.new }
     {
-        let row = self.row(hart, most);
-        let made = row.turns();
-        if made == most || row.left.is_left() {
+        let batch = self.batch(hart, most);
+        let made = batch.turns();
+        if made == most || batch.left.is_left() {
             return made;
         }
         self.make(Event::Turn(hart));
@@ -129,22 +129,22 @@ impl Machine {
 
     // Turns of a hart that only carry out instructions, and one that leaves the guest by a call or a return, by a shorter way.
     #[inline(always)]
-    fn row(&mut self, hart: u8, most: u64) -> Row
-        requires few { most ≤ most_counts }
-        requires counts { CountsAtMost (most_counts - most) self.old.journal.counts }
-        ensures { MadeInRow result.left (turns_of result) most self.old (Turn hart) self.new }
+    fn batch(&mut self, hart: u8, most: u64) -> Batch
+        requires few { most ≤ max_counts }
+        requires counts { CountsAtMost (max_counts - most) self.old.journal.counts }
+        ensures { MadeInBatch result.left (turns_of result) most self.old (Turn hart) self.new }
     {
-        if self.may_row(hart) {
+        if self.may_batch(hart) {
             self.one_row(hart, most)
         } else {
-            Row::none()
+            Batch::none()
         }
     }
 
     // A hart makes attempts in its turns, no interrupt is due, and no write of it meets a reservation.
     #[inline(always)]
-    fn may_row(&mut self, hart: u8) -> bool
-        ensures may { result ≡ true → MayRow self.new hart }
+    fn may_batch(&mut self, hart: u8) -> bool
+        ensures may { result ≡ true → MayBatch self.new hart }
         ensures same { self.new ≡ self.old }
     {
         self.is_unreserved() && self.parts.is_quiet_at(hart)
@@ -164,22 +164,22 @@ impl Machine {
 
     // A row of turns of a hart, with the answer to the exit by which it left the guest behind them.
     #[inline(always)]
-    fn one_row(&mut self, hart: u8, most: u64) -> Row
-        requires may { MayRow self.old hart }
-        requires few { most ≤ most_counts }
-        requires counts { CountsAtMost (most_counts - most) self.old.journal.counts }
-        ensures { MadeInRow result.left (turns_of result) most self.old (Turn hart) self.new }
+    fn one_row(&mut self, hart: u8, most: u64) -> Batch
+        requires may { MayBatch self.old hart }
+        requires few { most ≤ max_counts }
+        requires counts { CountsAtMost (max_counts - most) self.old.journal.counts }
+        ensures { MadeInBatch result.left (turns_of result) most self.old (Turn hart) self.new }
     {
-        let row = self.parts.row(hart, most);
-        self.parts.answer_leaving(hart, row.left);
-        row
+        let batch = self.parts.batch(hart, most);
+        self.parts.answer_leaving(hart, batch.left);
+        batch
     }
 
     // One event, by the only caller of the parts' own step.
     #[inline(always)]
     fn make(&mut self, event: Event)
-        requires room { length self.old.journal.printed < most_printed }
-        requires counts { CountsAtMost (most_counts - 1) self.old.journal.counts }
+        requires room { length self.old.journal.printed < max_printed }
+        requires counts { CountsAtMost (max_counts - 1) self.old.journal.counts }
         ensures makes { Makes self.old event self.new }
         ensures counts { (n : ℕ) → CountsAtMost n self.old.journal.counts → CountsAtMost (n + 1) self.new.journal.counts }
     {

@@ -1,25 +1,25 @@
 // A machine before its first event.
 
 ghost use Rattle.std.specs.Prelude.{◌≡◌, ℕ, ◌≤◌, ◌%◌, List, length, true, IfOk, OnOk, IfErr, IsTrue};
-ghost use Rattle.processor.specs.Bytes.{page_size};
-ghost use Rattle.reference.specs.BlockDisk.{sector_size};
-ghost use Rattle.sv_types.specs.Boot.{most_flat_bytes};
+ghost use Rattle.spec_processor.specs.Bytes.{page_size};
+ghost use Rattle.spec_reference.specs.BlockDisk.{sector_size};
+ghost use Rattle.sv_types.specs.Boot.{max_flat_bytes};
 ghost use Rattle.sv_types.specs.Measure.{measure};
 ghost use Rattle.sv_types.specs.Policies.{rules_of, rules_within};
-ghost use Rattle.reference.specs.Start.{flat_start, image_start, boot_start, virtio_start};
-ghost use Rattle.reference.specs.States.{has_number};
-ghost use Rattle.reference.specs.Soundness.{IsSoundDisk};
-ghost use Rattle.machine_model.specs.Reaches.{IsNew};
-ghost use Rattle.devices.specs.Ports.{port_disk};
-ghost use Rattle.standing_laws.specs.Starts.{journal_at_boot};
+ghost use Rattle.spec_reference.specs.Start.{flat_start, image_start, boot_start, virtio_start};
+ghost use Rattle.spec_reference.specs.States.{has_number};
+ghost use Rattle.spec_reference.specs.Soundness.{IsSoundDisk};
+ghost use Rattle.spec_hardware.specs.Reaches.{IsNew};
+ghost use Rattle.hw_devices.specs.Ports.{port_disk};
+ghost use Rattle.laws_standing.specs.Starts.{journal_at_boot};
 ghost use Rattle.machine.specs.Boot.{IsImageOf, IsRead, image_text, RefusesFlat, RefusesImage};
 
 use crate::boot::BootRefusal;
 use crate::image_start::boot;
 use crate::machine::Machine;
 use crate::start::flat;
-use devices::Port;
 use elf64_load::KernelImage;
+use hw_devices::Port;
 use std::alloc::Global;
 use std::thread::Threads;
 use sv_types::{Digest, Policy};
@@ -35,7 +35,7 @@ impl Machine {
         wanted: Digest,
     ) -> Result<Machine, BootRefusal>
         requires whole { length pages.now % page_size ≡ 0 }
-        requires size { length pages.now ≤ most_flat_bytes }
+        requires size { length pages.now ≤ max_flat_bytes }
         ensures new { IfOk result (λ m. IsNew m (flat_start pages.now wanted)) }
         ensures journal { IfOk result (λ m. m.journal ≡ journal_at_boot) }
         ensures measured { OnOk result (measure pages.now ≡ wanted) }
@@ -67,7 +67,7 @@ impl Machine {
         ensures permitted { OnOk result (has_number policy.entries.items image.now.entry ≡ true) }
         ensures refused { IfErr result (RefusesImage image.now (rules_of policy)) }
     {
-        Machine::boot_behind(rt, alloc, image, policy, Port::block(disk))
+        Machine::boot_after(rt, alloc, image, policy, Port::block(disk))
     }
 
     /// The same with its disk behind a virtio block device.
@@ -87,11 +87,11 @@ impl Machine {
         ensures permitted { OnOk result (has_number policy.entries.items image.now.entry ≡ true) }
         ensures refused { IfErr result (RefusesImage image.now (rules_of policy)) }
     {
-        Machine::boot_behind(rt, alloc, image, policy, Port::virtio(disk))
+        Machine::boot_after(rt, alloc, image, policy, Port::virtio(disk))
     }
 
     // The same with its disk behind a device as it stands.
-    fn boot_behind<R: Threads + Sync>(
+    fn boot_after<R: Threads + Sync>(
         rt: &R,
         alloc: Global,
         image: &KernelImage,

@@ -2,15 +2,15 @@
 
 ghost use Rattle.std.specs.Prelude.{◌≡◌, ◌+◌, None, IfErr, IfOk, IsTrue, OnOk, true, replicate};
 ghost use Rattle.sv_types.specs.Policies.{rules_of, rules_within};
-ghost use Rattle.reference.specs.Start.{AreWords};
-ghost use Rattle.machine_model.specs.Reaches.{IsNew};
-ghost use Rattle.machine_model.specs.StandsFor.{bound_pages};
-ghost use Rattle.snapshot_form.specs.Snapshots as form;
-ghost use Rattle.standing_laws.specs.Starts.{IsGuarded};
-ghost use Rattle.resumption.specs.Judgements.{resume_refusal};
-ghost use Rattle.resumption.specs.ResumedStates.{resumed_state};
-ghost use Rattle.resumed_start.specs.Resuming.{resumed_machine};
-ghost use Rattle.reach.specs.Usable.{nothing_kept};
+ghost use Rattle.spec_reference.specs.Start.{AreWords};
+ghost use Rattle.spec_hardware.specs.Reaches.{IsNew};
+ghost use Rattle.spec_hardware.specs.StandsFor.{bound_pages};
+ghost use Rattle.snapshot_format.specs.Snapshots as form;
+ghost use Rattle.laws_standing.specs.Starts.{IsGuarded};
+ghost use Rattle.snapshot_resume.specs.Judgements.{resume_refusal};
+ghost use Rattle.snapshot_resume.specs.ResumedStates.{resumed_state};
+ghost use Rattle.laws_resumed_start.specs.Resuming.{resumed_machine};
+ghost use Rattle.hw_tlb.specs.Usable.{nothing_kept};
 ghost use Rattle.machine.specs.Resumed.{RefusesSnapshot};
 ghost use Rattle.machine.specs.declared.resume.ResumeFailure.TheVariants.{Memory};
 
@@ -18,14 +18,14 @@ use crate::image_start::bound_pages;
 use crate::machine::Machine;
 use crate::start::Idle;
 use hart::Cpu;
-use machine_parts::Parts;
-use quick_turns::Words;
-use reach::HartCaches;
-use resume_laws::law_resumed_sound;
-use resumed_parts::{ResumedParts, resume_parts};
-use resumed_start::law_resumed_start;
-use resumption::{ResumeRefusal, resume_refusal};
-use snapshot_form::Snapshot;
+use hw_fast_path::MicroOpCache;
+use hw_tlb::HartCaches;
+use laws_resume::law_resumed_sound;
+use laws_resumed_start::law_resumed_start;
+use machine_events::Parts;
+use machine_resume::{ResumedParts, resume_parts};
+use snapshot_format::Snapshot;
+use snapshot_resume::{ResumeRefusal, resume_refusal};
 use std::alloc::{AllocError, Global};
 use std::thread::Threads;
 use sv_types::Policy;
@@ -99,23 +99,23 @@ fn judge<R: Threads + Sync>(
 }
 
 // What goes on beside the parts of a snapshot: nothing is kept for any hart, and each entry of a policy has its page.
-struct Beside {
+struct NewHardware {
     caches: Vec<HartCaches>,
     cpu: Cpu,
-    words: Words,
+    words: MicroOpCache,
     bound: Vec<u32>,
 }
 
-impl Beside {
-    fn new(alloc: Global, policy: &Policy) -> Result<Beside, AllocError>
+impl NewHardware {
+    fn new(alloc: Global, policy: &Policy) -> Result<NewHardware, AllocError>
         requires { IsTrue (rules_within (rules_of policy.now)) }
-        ensures caches { IfOk result (λ beside. beside.caches.items ≡ replicate policy.now.harts nothing_kept) }
-        ensures attempts { IfOk result (λ beside. beside.words + beside.cpu ≡ 0) }
-        ensures bound { IfOk result (λ beside. beside.bound.items ≡ bound_pages (rules_of policy.now)) }
+        ensures caches { IfOk result (λ new. new.caches.items ≡ replicate policy.now.harts nothing_kept) }
+        ensures attempts { IfOk result (λ new. new.words + new.cpu ≡ 0) }
+        ensures bound { IfOk result (λ new. new.bound.items ≡ bound_pages (rules_of policy.now)) }
     {
         let bound = bound_pages(alloc, policy)?;
         let Idle { caches, cpu, words } = Idle::new(alloc, policy.harts)?;
-        Ok(Beside {
+        Ok(NewHardware {
             caches,
             cpu,
             words,
@@ -132,17 +132,17 @@ fn resume(alloc: Global, snapshot: Snapshot, policy: Policy) -> Result<Parts, Al
     ensures made { IfOk result (λ p. p ≡ resumed_machine p.region.tables (rules_of policy) (form.contents snapshot)) }
     ensures guarded { IfOk result IsGuarded }
 {
-    let Beside {
+    let NewHardware {
         caches,
         cpu,
         words,
         bound,
-    } = Beside::new(alloc, &policy)?;
+    } = NewHardware::new(alloc, &policy)?;
     let ResumedParts {
         mem,
         guard,
         entries,
-        seats,
+        slots,
         modules,
         devices,
         journal,
@@ -152,7 +152,7 @@ fn resume(alloc: Global, snapshot: Snapshot, policy: Policy) -> Result<Parts, Al
         policy,
         entries,
         mem,
-        seats,
+        slots,
         caches,
         guard,
         modules,

@@ -1,25 +1,25 @@
 // A machine's run, with its console.
 ghost use Rattle.std.specs.Prelude.{◌≡◌, ◌<◌, ◌≤◌, length, IsTrue, IsFalse, OnOk, OnErr};
-ghost use Rattle.sv_types.specs.Limits.{most_printed};
+ghost use Rattle.sv_types.specs.Limits.{max_printed};
 ghost use Rattle.sv_types.specs.Schedule.{first_events};
-ghost use Rattle.machine_model.specs.Reaches.{Cleared};
-ghost use Rattle.outside.specs.Outside.{BreaksOff, MayWrite};
-ghost use Rattle.machine.specs.Console.{is_due, Flushed, HasRunAll, MayRun, RunBrokeFromStart};
+ghost use Rattle.spec_hardware.specs.Reaches.{Cleared};
+ghost use Rattle.hw_io.specs.Outside.{BreaksOff, MayWrite};
+ghost use Rattle.machine.specs.Console.{flush_is_due, Flushed, HasRunAll, MayRun, RunBrokeFromStart};
 
 use crate::drawing::Drawing;
 use crate::machine::Machine;
-use outside::{Failed, Sink, write_all};
+use hw_io::{Failed, Sink, write_all};
 use script::{EventSource, Script, Source};
-use sv_types::{MOST_PRINTED, Verdict};
+use sv_types::{MAX_PRINTED, Verdict};
 
 /// Whether the console's bytes are to be written now: the last of them is a line feed, or 4,096 of them stand.
 #[inline(always)]
-fn is_due(printed: &[u8]) -> bool
-    ensures { result ≡ is_due printed.now }
+fn flush_is_due(printed: &[u8]) -> bool
+    ensures { result ≡ flush_is_due printed.now }
 {
     match printed.last() {
         None => false,
-        Some(&last) => last == b'\n' || printed.len() == MOST_PRINTED,
+        Some(&last) => last == b'\n' || printed.len() == MAX_PRINTED,
     }
 }
 
@@ -28,16 +28,16 @@ fn is_due(printed: &[u8]) -> bool
 #[inline(always)]
 pub fn flush_due<O: Sink>(machine: &mut Machine, out: &mut O) -> Result<(), Failed>
     requires sink { MayWrite (O.state out.old) }
-    requires room { length machine.old.journal.printed ≤ most_printed }
+    requires room { length machine.old.journal.printed ≤ max_printed }
     ensures flushed { OnOk result (Flushed machine.old machine.new (O.state out.old) (O.state out.new)) }
     ensures cleared { Cleared machine.old machine.new }
-    ensures room { OnOk result (length machine.new.journal.printed < most_printed) }
-    ensures rest { OnOk result (IsFalse (is_due machine.new.journal.printed)) }
+    ensures room { OnOk result (length machine.new.journal.printed < max_printed) }
+    ensures rest { OnOk result (IsFalse (flush_is_due machine.new.journal.printed)) }
     ensures machine { OnErr result (machine.new ≡ machine.old) }
-    ensures due { OnErr result (IsTrue (is_due machine.old.journal.printed)) }
+    ensures due { OnErr result (IsTrue (flush_is_due machine.old.journal.printed)) }
     ensures failed { OnErr result (BreaksOff (O.state out.old) (O.state out.new) machine.old.journal.printed) }
 {
-    if is_due(machine.printed()) {
+    if flush_is_due(machine.printed()) {
         write_all(out, machine.printed())?;
         machine.clear_printed();
     }
@@ -46,7 +46,7 @@ pub fn flush_due<O: Sink>(machine: &mut Machine, out: &mut O) -> Result<(), Fail
 
 // Runs a machine over the first events of a source, of which equal ones come in rows.
 #[inline(never)]
-fn run_in_rows<S: EventSource + Drop, O: Sink>(
+fn run_in_batches<S: EventSource + Drop, O: Sink>(
     machine: &mut Machine,
     source: S,
     events: u64,
@@ -57,11 +57,11 @@ fn run_in_rows<S: EventSource + Drop, O: Sink>(
     ensures some { OnErr result (RunBrokeFromStart machine.old (first_events events (S.schedule source)) machine.new (O.state out.old) (O.state out.new)) }
 {
     let mut drawing = Drawing::new(source, events);
-    'events: while let Some(row) = drawing.draw() {
+    'events: while let Some(batch) = drawing.draw() {
         if machine.verdict() != Verdict::Running {
             return Ok(());
         }
-        let made = machine.repeat(row.event, row.count);
+        let made = machine.repeat(batch.event, batch.count);
         drawing.count_down(made);
         flush_due(machine, out)?;
     }
@@ -111,22 +111,22 @@ pub fn run<O: Sink>(
     ensures some { OnErr result (RunBrokeFromStart machine.old (first_events events script) machine.new (O.state out.old) (O.state out.new)) }
 {
     match script.into_source() {
-        Source::Listed(listed) => run_in_rows(machine, listed, events, out),
-        Source::Weave(weave) => run_in_rows(machine, weave, events, out),
+        Source::Listed(listed) => run_in_batches(machine, listed, events, out),
+        Source::Weave(weave) => run_in_batches(machine, weave, events, out),
         Source::Rounds(rounds) => {
             if rounds.is_of_several() {
                 run_one_by_one(machine, rounds, events, out)
             } else {
-                run_in_rows(machine, rounds, events, out)
+                run_in_batches(machine, rounds, events, out)
             }
         }
         Source::Auto(auto) => {
             if auto.is_of_several() {
                 run_one_by_one(machine, auto, events, out)
             } else {
-                run_in_rows(machine, auto, events, out)
+                run_in_batches(machine, auto, events, out)
             }
         }
-        Source::Bursts(bursts) => run_in_rows(machine, bursts, events, out),
+        Source::Bursts(bursts) => run_in_batches(machine, bursts, events, out),
     }
 }

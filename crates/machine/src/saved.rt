@@ -1,22 +1,22 @@
 // The whole machine as plain data.
 
 ghost use Rattle.std.specs.Prelude.{◌≡◌, ◌≤◌, length, IfOk, option_map};
-ghost use Rattle.sv_types.specs.Limits.{most_harts};
-ghost use Rattle.reference.specs.States.{State};
-ghost use Rattle.machine_model.specs.StandsFor.{StandsFor};
-ghost use Rattle.hart_answers.specs.Hosts.{host_at, hosts_of};
-ghost use Rattle.module_answers.specs.Parts.{loading_of};
-ghost use Rattle.saved_machine.specs.SavedStates.{IsSaved};
-ghost use Rattle.machine.specs.Keeping.{gpa_behind, AreKeepable, IsKeepable, kept_hart, kept_harts, kept_load, IsKept};
+ghost use Rattle.sv_types.specs.Limits.{max_harts};
+ghost use Rattle.spec_reference.specs.States.{State};
+ghost use Rattle.spec_hardware.specs.StandsFor.{StandsFor};
+ghost use Rattle.monitor_harts.specs.HwOfSlots.{hw_at, hw_harts_of};
+ghost use Rattle.monitor_modules.specs.Parts.{loading_of};
+ghost use Rattle.spec_saved_machine.specs.SavedStates.{IsSaved};
+ghost use Rattle.machine.specs.Keeping.{gpa_after, AreKeepable, IsKeepable, kept_hart, kept_harts, kept_load, IsKept};
 
 use crate::machine::Machine;
 use csr_file::at_guest_places;
-use devices::Devices;
-use hart_answers::Seat;
-use machine_parts::Parts;
-use module_answers::Modules;
-use processor::RAM_BASE;
-use saved_machine::{Saved, SavedHart, SavedLoad};
+use hw_devices::Devices;
+use machine_events::Parts;
+use monitor_harts::HartSlot;
+use monitor_modules::Modules;
+use spec_processor::RAM_BASE;
+use spec_saved_machine::{Saved, SavedHart, SavedLoad};
 use std::alloc::{AllocError, Global};
 
 impl Machine {
@@ -33,7 +33,7 @@ fn saved(parts: &Parts, alloc: Global) -> Result<Saved, AllocError>
     requires { AreKeepable (length parts.now.region.tables) parts.now.harts }
     ensures { IfOk result (IsKept parts.now) }
 {
-    let harts = saved_harts(alloc, &parts.seats, &parts.devices, parts.mem.table_bytes())?;
+    let harts = saved_harts(alloc, &parts.slots, &parts.devices, parts.mem.table_bytes())?;
     let ram = parts.mem.ram().to_vec(alloc)?;
     let protection = parts.guard.protections().to_vec(alloc)?;
     let modules = parts.modules.gate.loaded().to_vec(alloc)?;
@@ -73,31 +73,31 @@ fn saved_loading(modules: &Modules) -> Option<SavedLoad>
 #[tactic(auto, using(crate::proofs::Kept::next_kept))]
 fn saved_harts(
     alloc: Global,
-    seats: &[Seat],
+    slots: &[HartSlot],
     devices: &Devices,
     tables: usize,
 ) -> Result<Vec<SavedHart>, AllocError>
-    requires few { length seats.now ≤ most_harts }
-    requires addresses { AreKeepable tables (hosts_of seats.now) }
-    ensures { IfOk result (λ harts. harts.items ≡ kept_harts tables devices.now.clock 0 (hosts_of seats.now)) }
+    requires few { length slots.now ≤ max_harts }
+    requires addresses { AreKeepable tables (hw_harts_of slots.now) }
+    ensures { IfOk result (λ harts. harts.items ≡ kept_harts tables devices.now.clock 0 (hw_harts_of slots.now)) }
 {
     let mut harts = Vec::new(alloc);
-    'saved: for h in 0..seats.len() {
+    'saved: for h in 0..slots.len() {
         let timer = devices.timer(h as u8);
-        harts.push(saved_hart(&seats[h], timer, tables))?;
+        harts.push(saved_hart(&slots[h], timer, tables))?;
     }
     Ok(harts)
 }
 
-fn saved_hart(seat: &Seat, timer: u64, tables: usize) -> SavedHart
-    requires { IsKeepable tables seat.now.hart.core.reservation }
-    ensures { result ≡ kept_hart tables timer (host_at seat.now) }
+fn saved_hart(slot: &HartSlot, timer: u64, tables: usize) -> SavedHart
+    requires { IsKeepable tables slot.now.hart.core.reservation }
+    ensures { result ≡ kept_hart tables timer (hw_at slot.now) }
 {
-    let hart = &seat.hart;
+    let hart = &slot.hart;
     let csrs = &hart.core.csrs;
     SavedHart {
         started: hart.started,
-        mode: seat.side.registers().mode,
+        mode: slot.privilege.registers().mode,
         pc: hart.core.pc,
         registers: hart.core.regs.values(),
         sstatus: csrs.vsstatus,
@@ -111,7 +111,7 @@ fn saved_hart(seat: &Seat, timer: u64, tables: usize) -> SavedHart
         sip: at_guest_places(csrs.hvip),
         satp: csrs.vsatp,
         reservation: saved_reservation(hart.core.reservation, tables),
-        entry: seat.side.entry(),
+        entry: slot.privilege.entry(),
         timer,
     }
 }
@@ -119,7 +119,7 @@ fn saved_hart(seat: &Seat, timer: u64, tables: usize) -> SavedHart
 // The guest-physical address of a host place that is reserved.
 fn saved_reservation(reservation: Option<u64>, tables: usize) -> Option<u64>
     requires { IsKeepable tables reservation }
-    ensures { result ≡ option_map (gpa_behind tables) reservation }
+    ensures { result ≡ option_map (gpa_after tables) reservation }
 {
     let place = reservation?;
     Some(RAM_BASE + (place - tables as u64))

@@ -1,46 +1,46 @@
 // The machine before its first event.
 
 ghost use Rattle.std.specs.Prelude.{◌≡◌, ◌+◌, [], ◌≤◌, ◌*◌, ◌/◌, ◌%◌, ◌↔◌, length, replicate, true, false, None, IfOk, OnOk, IfErr, IsTrue};
-ghost use Rattle.processor.specs.Bytes.{page_size};
-ghost use Rattle.sv_types.specs.Boot.{flat_ram_pages, most_flat_bytes};
-ghost use Rattle.sv_types.specs.Limits.{most_harts};
+ghost use Rattle.spec_processor.specs.Bytes.{page_size};
+ghost use Rattle.sv_types.specs.Boot.{flat_ram_pages, max_flat_bytes};
+ghost use Rattle.sv_types.specs.Limits.{max_harts};
 ghost use Rattle.sv_types.specs.Measure.{measure};
 ghost use Rattle.sv_types.specs.Policies.{rules_of};
-ghost use Rattle.gstage_tables.specs.Layout.{most_bound, table_size};
-ghost use Rattle.page_guard.specs.Guarded.{IsTheirs, Guards};
-ghost use Rattle.hart_answers.specs.Hosts.{host_at, hosts_of};
-ghost use Rattle.reference.specs.Start.{flat_rules, flat_start};
-ghost use Rattle.machine_model.specs.Reaches.{IsNew};
-ghost use Rattle.machine_model.specs.StandsFor.{bound_pages};
+ghost use Rattle.gstage_tables.specs.Layout.{max_bound, table_size};
+ghost use Rattle.page_guard.specs.Guarded.{TablesMatchGuard, Guards};
+ghost use Rattle.monitor_harts.specs.HwOfSlots.{hw_at, hw_harts_of};
+ghost use Rattle.spec_reference.specs.Start.{flat_rules, flat_start};
+ghost use Rattle.spec_hardware.specs.Reaches.{IsNew};
+ghost use Rattle.spec_hardware.specs.StandsFor.{bound_pages};
 ghost use Rattle.module_gate.specs.Gates.{no_modules};
-ghost use Rattle.standing_laws.specs.Starts.{host_at_boot, hosts_at_boot, machine_at_boot, first_approved, flat_ram, flat_machine, journal_at_boot, IsGuarded};
-ghost use Rattle.devices.specs.Ports.{port_disk};
-ghost use Rattle.reach.specs.Usable.{nothing_kept};
+ghost use Rattle.laws_standing.specs.Starts.{hw_at_boot, hw_harts_at_boot, machine_at_boot, first_approved, flat_ram, flat_machine, journal_at_boot, IsGuarded};
+ghost use Rattle.hw_devices.specs.Ports.{port_disk};
+ghost use Rattle.hw_tlb.specs.Usable.{nothing_kept};
 ghost use Rattle.machine.specs.Boot.{RefusesFlat};
 
 use crate::boot::BootRefusal;
-use devices::{Devices, Port};
 use gstage_tables::Trees;
 use hart::{Cpu, Hart};
-use hart_answers::Seat;
 use host_mem::HostMem;
-use journal_records::Journal;
-use machine_parts::Parts;
-use module_answers::Modules;
-use page_guard::{Entries, Guard, Side};
+use hw_devices::{Devices, Port};
+use hw_fast_path::MicroOpCache;
+use hw_tlb::HartCaches;
+use machine_events::Parts;
+use machine_journal::Journal;
+use monitor_harts::HartSlot;
+use monitor_modules::Modules;
+use page_guard::{Entries, Guard, PrivilegeView};
 use page_measure::{Silent, measure};
-use processor::{PAGE_SIZE, RAM_BASE};
-use quick_turns::Words;
-use reach::HartCaches;
+use spec_processor::{PAGE_SIZE, RAM_BASE};
 use std::alloc::{AllocError, Global};
 use std::thread::Threads;
-use sv_types::{Digest, FLAT_PAGES, FLAT_TRAP_PLACE, PLAIN_FORMAT, Policy, Span};
+use sv_types::{Digest, FLAT_PAGES, FLAT_TRAP_OFFSET, PLAIN_FORMAT, Policy, Span};
 
 /// The permitted entries of a machine of plain pages.
-const FLAT_ENTRIES: [u64; 2] = [RAM_BASE, RAM_BASE + FLAT_TRAP_PLACE];
+const FLAT_ENTRIES: [u64; 2] = [RAM_BASE, RAM_BASE + FLAT_TRAP_OFFSET];
 
 /// A machine under a policy, with pages that are guarded already and a disk behind its device: hart 0 begins at an entry, the others are stopped.
-#[tactic(auto, using(crate::proofs::Starting::empty_usable, crate::proofs::Starting::length_empty, crate::proofs::Starting::none_joined), unfolding(standing_laws::specs::Starts::machine_at_boot))]
+#[tactic(auto, using(crate::proofs::Starting::empty_usable, crate::proofs::Starting::length_empty, crate::proofs::Starting::none_joined), unfolding(laws_standing::specs::Starts::machine_at_boot))]
 pub(crate) fn at_boot(
     alloc: Global,
     policy: Policy,
@@ -49,18 +49,18 @@ pub(crate) fn at_boot(
     port: Port,
     entry: u64,
 ) -> Result<Parts, AllocError>
-    requires theirs { IsTheirs mem guard }
+    requires tables_match { TablesMatchGuard mem guard }
     requires pages { length guard.pages ≡ policy.ram_pages }
     requires places { guard.bound ≡ bound_pages (rules_of policy) }
     requires along { length policy.bound.items ≤ length policy.entries.items }
-    requires few { length policy.bound.items ≤ most_bound }
+    requires few { length policy.bound.items ≤ max_bound }
     requires one { 1 ≤ policy.harts }
-    requires four { policy.harts ≤ most_harts }
+    requires four { policy.harts ≤ max_harts }
     ensures { IfOk result (λ p. p ≡ machine_at_boot (rules_of policy) mem entry guard.pages (port_disk port)) }
 {
     let Begun {
         entries,
-        seats,
+        slots,
         caches,
         modules,
         journal,
@@ -71,7 +71,7 @@ pub(crate) fn at_boot(
         policy,
         entries,
         mem,
-        seats,
+        slots,
         caches,
         guard,
         modules,
@@ -86,7 +86,7 @@ pub(crate) fn at_boot(
 /// A machine of 16 pages of RAM with these pages at their start, all of them approved, where the hart begins. It has
 /// one hart, no modules and an empty disk. The pages are measured first: the SHA-256 of the pages' SHA-256 digests
 /// has to be the digest that is wanted.
-#[tactic(auto, unfolding(standing_laws::specs::Starts::machine_at_boot, standing_laws::specs::Starts::flat_machine))]
+#[tactic(auto, unfolding(laws_standing::specs::Starts::machine_at_boot, laws_standing::specs::Starts::flat_machine))]
 pub(crate) fn flat<R: Threads + Sync>(
     rt: &R,
     alloc: Global,
@@ -94,7 +94,7 @@ pub(crate) fn flat<R: Threads + Sync>(
     wanted: Digest,
 ) -> Result<Parts, BootRefusal>
     requires whole { length pages.now % page_size ≡ 0 }
-    requires size { length pages.now ≤ most_flat_bytes }
+    requires size { length pages.now ≤ max_flat_bytes }
     ensures start { IfOk result (λ p. p ≡ flat_machine p.region.tables pages.now wanted) }
     ensures new { IfOk result (λ p. IsNew p (flat_start pages.now wanted)) }
     ensures journal { IfOk result (λ p. p.journal ≡ journal_at_boot) }
@@ -109,12 +109,12 @@ pub(crate) fn flat<R: Threads + Sync>(
 /// What a machine begins with beside its memory and its devices.
 pub(crate) struct Begun {
     pub(crate) entries: Entries,
-    pub(crate) seats: Vec<Seat>,
+    pub(crate) slots: Vec<HartSlot>,
     pub(crate) caches: Vec<HartCaches>,
     pub(crate) modules: Modules,
     pub(crate) journal: Journal,
     pub(crate) cpu: Cpu,
-    pub(crate) words: Words,
+    pub(crate) words: MicroOpCache,
 }
 
 impl Begun {
@@ -122,11 +122,11 @@ impl Begun {
     /// recorded or kept.
     pub(crate) fn new(alloc: Global, policy: &Policy, entry: u64) -> Result<Begun, AllocError>
         requires along { length policy.now.bound.items ≤ length policy.now.entries.items }
-        requires few { length policy.now.bound.items ≤ most_bound }
+        requires few { length policy.now.bound.items ≤ max_bound }
         requires one { 1 ≤ policy.now.harts }
         ensures entries { IfOk result (λ b. b.entries ≡ record { entries = policy.now.entries.items; bound = policy.now.bound.items }) }
-        ensures hosts { IfOk result (λ b. hosts_of b.seats.items ≡ hosts_at_boot policy.now.harts entry) }
-        ensures number { IfOk result (λ b. length b.seats.items ≡ policy.now.harts) }
+        ensures hw_all { IfOk result (λ b. hw_harts_of b.slots.items ≡ hw_harts_at_boot policy.now.harts entry) }
+        ensures number { IfOk result (λ b. length b.slots.items ≡ policy.now.harts) }
         ensures caches { IfOk result (λ b. b.caches.items ≡ replicate policy.now.harts nothing_kept) }
         ensures gate { IfOk result (λ b. b.modules.gate ≡ no_modules) }
         ensures loading { IfOk result (λ b. b.modules.loading ≡ None) }
@@ -134,13 +134,13 @@ impl Begun {
         ensures attempts { IfOk result (λ b. b.words + b.cpu ≡ 0) }
     {
         let entries = Entries::new(alloc, &policy.entries, &policy.bound)?;
-        let seats = seats_at_boot(alloc, policy.harts, entry)?;
+        let slots = slots_at_boot(alloc, policy.harts, entry)?;
         let journal = Journal::new(alloc)?;
         let Idle { caches, cpu, words } = Idle::new(alloc, policy.harts)?;
         let modules = Modules::new(alloc)?;
         Ok(Begun {
             entries,
-            seats,
+            slots,
             caches,
             modules,
             journal,
@@ -154,7 +154,7 @@ impl Begun {
 pub(crate) struct Idle {
     pub(crate) caches: Vec<HartCaches>,
     pub(crate) cpu: Cpu,
-    pub(crate) words: Words,
+    pub(crate) words: MicroOpCache,
 }
 
 impl Idle {
@@ -165,42 +165,42 @@ impl Idle {
     {
         let caches = empty_caches(alloc, harts)?;
         let cpu = Cpu::new(alloc)?;
-        let words = Words::new(alloc)?;
+        let words = MicroOpCache::new(alloc)?;
         Ok(Idle { caches, cpu, words })
     }
 }
 
 // ---- harts
 
-fn seat_at_boot() -> Seat
-    ensures { host_at result ≡ host_at_boot 0 false }
+fn slot_at_boot() -> HartSlot
+    ensures { hw_at result ≡ hw_at_boot 0 false }
 {
-    Seat {
+    HartSlot {
         hart: Hart::at_boot(),
-        side: Side::at_boot(),
+        privilege: PrivilegeView::at_boot(),
     }
 }
 
-fn first_seat(entry: u64) -> Seat
-    ensures { host_at result ≡ host_at_boot entry true }
+fn first_slot(entry: u64) -> HartSlot
+    ensures { hw_at result ≡ hw_at_boot entry true }
 {
-    let mut seat = seat_at_boot();
-    seat.hart.core.pc = entry;
-    seat.hart.started = true;
-    seat
+    let mut slot = slot_at_boot();
+    slot.hart.core.pc = entry;
+    slot.hart.started = true;
+    slot
 }
 
-fn seats_at_boot(alloc: Global, harts: u8, entry: u64) -> Result<Vec<Seat>, AllocError>
+fn slots_at_boot(alloc: Global, harts: u8, entry: u64) -> Result<Vec<HartSlot>, AllocError>
     requires { 1 ≤ harts }
-    ensures hosts { IfOk result (λ seats. hosts_of seats.items ≡ hosts_at_boot harts entry) }
-    ensures number { IfOk result (λ seats. length seats.items ≡ harts) }
+    ensures hw_all { IfOk result (λ slots. hw_harts_of slots.items ≡ hw_harts_at_boot harts entry) }
+    ensures number { IfOk result (λ slots. length slots.items ≡ harts) }
 {
-    let mut seats = Vec::new(alloc);
-    seats.push(first_seat(entry))?;
+    let mut slots = Vec::new(alloc);
+    slots.push(first_slot(entry))?;
     'seated: for _ in 1..harts {
-        seats.push(seat_at_boot())?;
+        slots.push(slot_at_boot())?;
     }
-    Ok(seats)
+    Ok(slots)
 }
 
 // Nothing is kept for any hart.
@@ -244,7 +244,7 @@ fn is_same(a: &Digest, b: &Digest) -> bool
 #[tactic(auto, using(crate::proofs::Starting::flat_made))]
 fn assemble(alloc: Global, pages: &[u8], wanted: Digest) -> Result<Parts, AllocError>
     requires whole { length pages.now % page_size ≡ 0 }
-    requires size { length pages.now ≤ most_flat_bytes }
+    requires size { length pages.now ≤ max_flat_bytes }
     ensures start { IfOk result (λ p. p ≡ flat_machine p.region.tables pages.now wanted) }
     ensures guarded { IfOk result IsGuarded }
 {
@@ -275,7 +275,7 @@ fn flat_policy(alloc: Global, wanted: Digest) -> Result<Policy, AllocError>
 
 // A region of 16 pages of RAM with pages at their start, and room for its tables.
 fn flat_region(alloc: Global, pages: &[u8]) -> Result<HostMem, AllocError>
-    requires { length pages.now ≤ most_flat_bytes }
+    requires { length pages.now ≤ max_flat_bytes }
     ensures tables { IfOk result (λ m. length m.tables ≡ table_size flat_ram_pages 0) }
     ensures ram { IfOk result (λ m. m.ram ≡ flat_ram pages.now) }
 {

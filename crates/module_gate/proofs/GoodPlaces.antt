@@ -4,13 +4,13 @@ use Rattle.std.specs.Prelude.{Some, None, find, if◌then◌else◌, ◌||◌, �
 use Rattle.std.specs.List.{list_any}
 use Rattle.std.proofs.lemmas.Bool.{and_parts, not-true}
 use Rattle.std.proofs.lemmas.Bool.Decides.{nat_tests}
-use Rattle.processor.specs.Bytes.{page_of, in_ram, page_size}
+use Rattle.spec_processor.specs.Bytes.{page_of, in_ram, page_size}
 use Rattle.sv_types.specs.ApprovedPages.{numbers_from}
-use Rattle.sv_types.specs.declared.saved.SavedModule.{SavedModule}
+use Rattle.sv_types.specs.declared.saved.ModulePlacement.{ModulePlacement}
 use Rattle.sv_types.specs.declared.protection.Protection.{Protection}
 use Rattle.page_guard.specs.Guarded.{first_taken, IsInRam}
 use Rattle.module_gate.specs.Gates.{is_place, is_good_place, pages_at}
-use Rattle.reference.specs.Protections.{is_taken}
+use Rattle.spec_reference.specs.Protections.{is_taken}
 use Rattle.sv_types.proofs.PageNumbers.{numbers_more}
 
 -- ---- a test of numbers, one after another
@@ -60,13 +60,13 @@ none_found test (x ∷ xs) e = by (test x) e (none_found test xs)
 
 -- ---- the pages of a place
 
-good_parts : (ram : List ℕ) (guard : List Protection) (about : SavedModule) (pages : ℕ) → is_good_place ram guard about pages ≡ true
+good_parts : (ram : List ℕ) (guard : List Protection) (about : ModulePlacement) (pages : ℕ) → is_good_place ram guard about pages ≡ true
     → (is_place ram about.gpa about.va pages ≡ true) × (list_any (is_taken guard) (numbers_from (page_of about.gpa) pages) ≡ false)
 unfolding is_good_place
 good_parts ram guard about pages good =
     let parts = and_parts (is_place ram about.gpa about.va pages) (not (list_any (is_taken guard) (numbers_from (page_of about.gpa) pages))) good in (parts.0, not-true _ parts.1)
 
-pub none_taken : (ram : List ℕ) (guard : List Protection) (about : SavedModule) (pages : ℕ) → is_good_place ram guard about pages ≡ true
+pub none_taken : (ram : List ℕ) (guard : List Protection) (about : ModulePlacement) (pages : ℕ) → is_good_place ram guard about pages ≡ true
     → first_taken guard (pages_at about.gpa pages) ≡ None
 unfolding first_taken
 none_taken ram guard about pages good = none_found (is_taken guard) (numbers_from (page_of about.gpa) pages) (good_parts ram guard about pages good).1
@@ -76,6 +76,6 @@ pub place_inside : (ram : List ℕ) (guard : List Protection) (gpa va pages : �
 place_inside ram guard gpa va pages place size =
     let parts = and_parts (gpa % page_size == 0 && va % page_size == 0) (in_ram ram gpa (page_size * pages)) place in grind (arith, nat_tests, size)
 
-pub good_inside : (ram : List ℕ) (guard : List Protection) (about : SavedModule) (pages : ℕ) → is_good_place ram guard about pages ≡ true → length ram ≡ page_size * length guard
+pub good_inside : (ram : List ℕ) (guard : List Protection) (about : ModulePlacement) (pages : ℕ) → is_good_place ram guard about pages ≡ true → length ram ≡ page_size * length guard
     → IsInRam guard (pages_at about.gpa pages)
 good_inside ram guard about pages good size = place_inside ram guard about.gpa about.va pages (good_parts ram guard about pages good).0 size

@@ -4,7 +4,7 @@ use Rattle.std.specs.Prelude.{Option, Some, None, if◌then◌else◌}
 use Rattle.sv_types.specs.ApprovedPages.{numbers_from}
 use Rattle.sv_types.specs.declared.protection.Protection.{Protection}
 use Rattle.sv_types.specs.declared.protection.Protection.TheVariants.{Free, Held, Approved}
-use Rattle.reference.specs.Protections.{or_free, protection_at, freed_one, freed_by, with_each, with_pages}
+use Rattle.spec_reference.specs.Protections.{or_free, protection_at, freed_one, freed_by, with_each, with_pages}
 use Rattle.sv_types.specs.declared.module.Span.{Span}
 use Rattle.sv_types.specs.Protections.{is_approved}
 use Rattle.page_guard.specs.Guarded.{AllAre, with_span}

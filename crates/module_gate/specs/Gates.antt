@@ -1,36 +1,36 @@
 -- What the gate records, a load under way, and the pages that a module takes. This project's own.
 use Rattle.std.specs.Prelude.{◌≡◌, ℕ, ◌*◌, ◌%◌, ◌&&◌, Bool, true, false, List, [], ◌==◌, ◌-◌, not, Option, Some, None, slice_get}
 use Rattle.std.specs.List.{list_any}
-use Rattle.processor.specs.Bytes.{page_size, page_of, in_ram}
+use Rattle.spec_processor.specs.Bytes.{page_size, page_of, in_ram}
 use Rattle.sv_types.specs.Policies.{Rules, ModuleRule}
 use Rattle.sv_types.specs.ApprovedPages.{numbers_from}
 use Rattle.sv_types.specs.declared.module.Span.{Span}
-use Rattle.sv_types.specs.declared.saved.SavedModule.{SavedModule}
+use Rattle.sv_types.specs.declared.saved.ModulePlacement.{ModulePlacement}
 use Rattle.sv_types.specs.declared.protection.Protection.{Protection}
 use Rattle.sv_types.specs.declared.protection.Protection.TheVariants.{Approved}
-use Rattle.reference.specs.Protections.{is_taken}
-use Rattle.reference.specs.States.{pages_in_rule, find_module}
-use Rattle.machine_model.specs.HostExits.{page_counted}
-use Rattle.machine_model.specs.Machine.{HostLoad}
+use Rattle.spec_reference.specs.Protections.{is_taken}
+use Rattle.spec_reference.specs.States.{pages_in_rule, find_module}
+use Rattle.spec_hardware.specs.HwExits.{page_counted}
+use Rattle.spec_hardware.specs.Machine.{HwLoad}
 use Rattle.page_guard.specs.Guarded.{IsInRam, AllAre}
 
 -- the loaded modules, ascending by id, whether a load is under way, and whether the init pages are retired
 pub record Records : Type 0 where
-  pub loaded : List SavedModule
+  pub loaded : List ModulePlacement
   pub loading : Bool
   pub retired : Bool
 
 -- a load under way, with the number of its module's pages
 pub record PageTurns : Type 0 where
-  pub about : SavedModule
+  pub about : ModulePlacement
   pub pages : ℕ
   pub left : ℕ
   pub digests : List (List ℕ)
   pub right : Bool
 
 -- as the machine records it for a hart
-abbrev pub host_load : ℕ → PageTurns → HostLoad
-host_load hart load = record { hart = hart; about = load.about; left = load.left; digests = load.digests; right = load.right }
+abbrev pub hw_load : ℕ → PageTurns → HwLoad
+hw_load hart load = record { hart = hart; about = load.about; left = load.left; digests = load.digests; right = load.right }
 
 -- so many pages from an address on
 abbrev pub pages_at : ℕ → ℕ → Span
@@ -40,7 +40,7 @@ abbrev pub load_span : PageTurns → Span
 load_span load = pages_at load.about.gpa load.pages
 
 -- the pages of a loaded module, as many as the policy says
-abbrev pub module_span : Rules → SavedModule → Span
+abbrev pub module_span : Rules → ModulePlacement → Span
 module_span rules about = pages_at about.gpa (pages_in_rule (slice_get rules.modules about.id))
 
 -- no module is loaded, and none was
@@ -52,19 +52,19 @@ abbrev pub is_place : List ℕ → (gpa va pages : ℕ) → Bool
 is_place ram gpa va pages = gpa % page_size == 0 && va % page_size == 0 && in_ram ram gpa (page_size * pages)
 
 -- and all of them are free
-unfoldable pub is_good_place : List ℕ → List Protection → SavedModule → ℕ → Bool
+unfoldable pub is_good_place : List ℕ → List Protection → ModulePlacement → ℕ → Bool
 is_good_place ram guard about pages = is_place ram about.gpa about.va pages && not (list_any (is_taken guard) (numbers_from (page_of about.gpa) pages))
 
 -- nothing was counted yet
-abbrev pub new_load : SavedModule → ℕ → PageTurns
+abbrev pub new_load : ModulePlacement → ℕ → PageTurns
 new_load about pages = record { about = about; pages = pages; left = pages; digests = []; right = true }
 
 -- the pages of each loaded module are in RAM, and approved
-pub record AreApproved (rules : Rules) (guard : List Protection) (loaded : List SavedModule) : Type 0 where
-  pub inside : (id : ℕ) (about : SavedModule) → find_module loaded id ≡ Some about → IsInRam guard (module_span rules about)
-  pub approved : (id : ℕ) (about : SavedModule) → find_module loaded id ≡ Some about → AllAre guard (module_span rules about) Approved
+pub record AreApproved (rules : Rules) (guard : List Protection) (loaded : List ModulePlacement) : Type 0 where
+  pub inside : (id : ℕ) (about : ModulePlacement) → find_module loaded id ≡ Some about → IsInRam guard (module_span rules about)
+  pub approved : (id : ℕ) (about : ModulePlacement) → find_module loaded id ≡ Some about → AllAre guard (module_span rules about) Approved
 
 -- the load with its next page counted, whose bytes these are
-unfoldable pub next_counted : Rules → List ℕ → HostLoad → Option ModuleRule → HostLoad
+unfoldable pub next_counted : Rules → List ℕ → HwLoad → Option ModuleRule → HwLoad
 next_counted rules bytes load None = load
 next_counted rules bytes load (Some rule) = page_counted rules rule load (rule.pages - load.left) bytes (load.left - 1)

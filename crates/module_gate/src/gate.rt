@@ -1,12 +1,12 @@
 // The gate of modules.
 
 ghost use Rattle.std.specs.Prelude.{◌≡◌, ◌<◌, ◌≤◌, length, slice_get, Some, None, IfOk, IsTrue, IsSome, true, false, vec_capacity};
-ghost use Rattle.sv_types.specs.Limits.{most_modules, most_module_pages};
+ghost use Rattle.sv_types.specs.Limits.{max_modules, max_module_pages};
 ghost use Rattle.sv_types.specs.Policies.{rules_of, rules_within};
 ghost use Rattle.sv_types.specs.declared.protection.Protection.TheVariants.{Free, Held};
-ghost use Rattle.reference.specs.Protections.{with_each};
-ghost use Rattle.reference.specs.States.{find_module, with_module, without_module, pages_in_rule};
-ghost use Rattle.page_guard.specs.Guarded.{with_span, IsTheirs, StaysTheirs};
+ghost use Rattle.spec_reference.specs.Protections.{with_each};
+ghost use Rattle.spec_reference.specs.States.{find_module, with_module, without_module, pages_in_rule};
+ghost use Rattle.page_guard.specs.Guarded.{with_span, TablesMatchGuard, TablesStayMatched};
 ghost use Rattle.module_gate.specs.Ascending.{AscendsFrom};
 ghost use Rattle.module_gate.specs.Retiring.{kernel_pages};
 ghost use Rattle.module_gate.specs.Gates.{no_modules, new_load, is_good_place, load_span, module_span, AreApproved};
@@ -17,16 +17,16 @@ use crate::modules::{find_module, place_of, remove_module};
 use crate::rules::{module_pages, pages_at, rule_of};
 use host_mem::HostMem;
 use page_guard::Guard;
-use policy_limits::{MOST_MODULE_PAGES, MOST_MODULES};
+use policy_limits::{MAX_MODULE_PAGES, MAX_MODULES};
 use std::alloc::{AllocError, Global};
 use std::marker::Model;
-use sv_types::{Digest, Policy, SavedModule, Span};
+use sv_types::{Digest, ModulePlacement, Policy, Span};
 
 /// What is loaded. Contracts see the loaded modules, ascending by id, whether a load is under way, and whether the init
 /// pages are retired.
 #[derive(Drop)]
 pub struct Gate {
-    loaded: Vec<SavedModule>,
+    loaded: Vec<ModulePlacement>,
     /// For a load's digests, until a load takes it.
     room: Option<Vec<Digest>>,
     retired: bool,
@@ -49,8 +49,8 @@ impl Gate {
     pub fn new(alloc: Global) -> Result<Gate, AllocError>
         ensures { IfOk result (λ gate. gate ≡ no_modules) }
     {
-        let loaded = Vec::with_capacity(alloc, MOST_MODULES)?;
-        let room = Vec::with_capacity(alloc, MOST_MODULE_PAGES as usize)?;
+        let loaded = Vec::with_capacity(alloc, MAX_MODULES)?;
+        let room = Vec::with_capacity(alloc, MAX_MODULE_PAGES as usize)?;
         Ok(Gate {
             loaded,
             room: Some(room),
@@ -61,15 +61,15 @@ impl Gate {
     /// These modules are loaded, ascending by id, and no load is under way. The room that loads need is taken now.
     pub fn from_values(
         alloc: Global,
-        modules: &[SavedModule],
+        modules: &[ModulePlacement],
         retired: bool,
     ) -> Result<Gate, AllocError>
         requires ascends { AscendsFrom 0 modules.now }
         ensures { IfOk result (λ gate. gate ≡ record { loaded = modules.now; loading = false; retired = retired }) }
     {
-        let mut loaded = Vec::with_capacity(alloc, MOST_MODULES)?;
+        let mut loaded = Vec::with_capacity(alloc, MAX_MODULES)?;
         loaded.extend_from_slice(modules)?;
-        let room = Vec::with_capacity(alloc, MOST_MODULE_PAGES as usize)?;
+        let room = Vec::with_capacity(alloc, MAX_MODULE_PAGES as usize)?;
         Ok(Gate {
             loaded,
             room: Some(room),
@@ -78,7 +78,7 @@ impl Gate {
     }
 
     /// The loaded modules, ascending by id.
-    pub fn loaded(&self) -> &[SavedModule]
+    pub fn loaded(&self) -> &[ModulePlacement]
         ensures modules { result.now ≡ self.now.loaded }
         ensures ascends { AscendsFrom 0 result.now }
     {
@@ -100,7 +100,7 @@ impl Gate {
     }
 
     /// The loaded module of an id.
-    pub fn find(&self, id: u64) -> Option<SavedModule>
+    pub fn find(&self, id: u64) -> Option<ModulePlacement>
         ensures { result ≡ find_module self.now.loaded id }
     {
         find_module(&self.loaded, id)
@@ -113,17 +113,17 @@ impl Gate {
         guard: &mut Guard,
         mem: &mut HostMem,
         policy: &Policy,
-        about: SavedModule,
+        about: ModulePlacement,
     ) -> Load
         requires within { IsTrue (rules_within (rules_of policy.now)) }
         requires known { IsSome (slice_get (rules_of policy.now).modules about.id) }
         requires idle { self.old.loading ≡ false }
         requires place { is_good_place mem.old.ram guard.old.pages about (pages_in_rule (slice_get (rules_of policy.now).modules about.id)) ≡ true }
-        requires theirs { IsTheirs mem.old guard.old }
+        requires tables_match { TablesMatchGuard mem.old guard.old }
         ensures load { result ≡ new_load about (pages_in_rule (slice_get (rules_of policy.now).modules about.id)) }
         ensures gate { self.new ≡ record self.old { loading = true } }
         ensures guard { guard.new.pages ≡ with_span guard.old.pages (load_span result) Held }
-        ensures theirs { StaysTheirs mem.old mem.new guard.old guard.new }
+        ensures tables_match { TablesStayMatched mem.old mem.new guard.old guard.new }
     {
         let Some(rule) = rule_of(policy, about.id) else {
             unreachable!();
@@ -152,14 +152,14 @@ impl Gate {
         guard: &mut Guard,
         mem: &mut HostMem,
         policy: &Policy,
-        about: &SavedModule,
+        about: &ModulePlacement,
     )
         requires loaded { find_module self.old.loaded about.now.id ≡ Some about.now }
         requires approved { AreApproved (rules_of policy.now) guard.old.pages self.old.loaded }
-        requires theirs { IsTheirs mem.old guard.old }
+        requires tables_match { TablesMatchGuard mem.old guard.old }
         ensures gate { self.new ≡ record self.old { loaded = without_module self.old.loaded about.now.id } }
         ensures guard { guard.new.pages ≡ with_span guard.old.pages (module_span (rules_of policy.now) about.now) Free }
-        ensures theirs { StaysTheirs mem.old mem.new guard.old guard.new }
+        ensures tables_match { TablesStayMatched mem.old mem.new guard.old guard.new }
     {
         guard.unapprove(mem, module_pages(policy, about));
         remove_module(&mut self.loaded, about.id);
@@ -171,10 +171,10 @@ impl Gate {
         requires within { IsTrue (rules_within (rules_of policy.now)) }
         requires init { (rules_of policy.now).init ≡ Some init }
         requires pages { length guard.old.pages ≡ policy.now.ram_pages }
-        requires theirs { IsTheirs mem.old guard.old }
+        requires tables_match { TablesMatchGuard mem.old guard.old }
         ensures gate { self.new ≡ record self.old { retired = true } }
         ensures guard { guard.new.pages ≡ with_each guard.old.pages (kernel_pages (rules_of policy.now) self.old.loaded guard.old.pages init) Free }
-        ensures theirs { StaysTheirs mem.old mem.new guard.old guard.new }
+        ensures tables_match { TablesStayMatched mem.old mem.new guard.old guard.new }
     {
         self.retired = true;
         free_pages(guard, mem, policy, &self.loaded, init);
@@ -182,7 +182,7 @@ impl Gate {
 
     /// The load under way is over, and gives its room back.
     pub(crate) fn end_load(&mut self, mut room: Vec<Digest>)
-        requires { most_module_pages ≤ vec_capacity room }
+        requires { max_module_pages ≤ vec_capacity room }
         ensures { self.new ≡ record self.old { loading = false } }
     {
         room.clear();
@@ -190,8 +190,8 @@ impl Gate {
     }
 
     /// A module is loaded.
-    pub(crate) fn add(&mut self, about: SavedModule)
-        requires id { about.id < most_modules }
+    pub(crate) fn add(&mut self, about: ModulePlacement)
+        requires id { about.id < max_modules }
         requires other { find_module self.old.loaded about.id ≡ None }
         ensures { self.new ≡ record self.old { loaded = with_module self.old.loaded about } }
     {

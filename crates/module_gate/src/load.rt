@@ -1,32 +1,32 @@
 // A load under way.
 
 ghost use Rattle.std.specs.Prelude.{◌≡◌, ℕ, ◌%◌, ◌<◌, None, length, slice_get, All, IsTrue, false};
-ghost use Rattle.processor.specs.Bytes.{page_size};
+ghost use Rattle.spec_processor.specs.Bytes.{page_size};
 ghost use Rattle.sv_types.specs.Measure.{page_digest};
 ghost use Rattle.sv_types.specs.Policies.{rules_of, rules_within};
 ghost use Rattle.sv_types.specs.declared.protection.Protection.TheVariants.{Free, Held, Approved};
-ghost use Rattle.reference.specs.Relocations.{masked_text};
-ghost use Rattle.reference.specs.States.{find_module, with_module, pages_in_rule};
-ghost use Rattle.machine_model.specs.HostExits.{host_is_good};
-ghost use Rattle.relocated_fields.specs.Pieces.{piece_sites, IsAligned};
-ghost use Rattle.page_guard.specs.Guarded.{with_span, IsInRam, AllAre, IsTheirs, StaysTheirs};
-ghost use Rattle.module_gate.specs.Gates.{host_load, load_span, next_counted};
+ghost use Rattle.spec_reference.specs.Relocations.{masked_text};
+ghost use Rattle.spec_reference.specs.States.{find_module, with_module, pages_in_rule};
+ghost use Rattle.spec_hardware.specs.HwExits.{hw_is_good};
+ghost use Rattle.monitor_fields.specs.Pieces.{piece_sites, IsAligned};
+ghost use Rattle.page_guard.specs.Guarded.{with_span, IsInRam, AllAre, TablesMatchGuard, TablesStayMatched};
+ghost use Rattle.module_gate.specs.Gates.{hw_load, load_span, next_counted};
 
 use crate::gate::Gate;
 use crate::rules::rule_of;
 use host_mem::HostMem;
+use monitor_fields::{fields_right, mask};
 use page_guard::{Guard, Hold};
 use page_measure::{join_digests, page_digest};
-use processor::{PAGE_BYTES, PAGE_SIZE};
-use relocated_fields::{fields_right, mask};
+use spec_processor::{PAGE_BYTES, PAGE_SIZE};
 use std::marker::Model;
-use sv_types::{Bases, Digest, Policy, SavedModule, Site};
+use sv_types::{Bases, Digest, ModulePlacement, Policy, Site};
 
 /// A load under way, which can't be dropped. Contracts see the arguments of the load, the pages of the module, how many of
 /// them are left to count, and of those that were counted the digests and whether their fields are right.
 pub struct Load {
     pub(crate) hold: Hold,
-    pub(crate) about: SavedModule,
+    pub(crate) about: ModulePlacement,
     pub(crate) pages: u32,
     pub(crate) left: u32,
     pub(crate) digests: Vec<Digest>,
@@ -47,7 +47,7 @@ impl Model for Load {
 
 impl Load {
     /// The arguments of the load.
-    pub fn about(&self) -> SavedModule
+    pub fn about(&self) -> ModulePlacement
         ensures { result ≡ self.now.about }
     {
         self.about
@@ -67,7 +67,7 @@ impl Load {
         requires policy { pages_in_rule (slice_get (rules_of policy.now).modules self.old.about.id) ≡ self.old.pages }
         requires left { 0 < self.old.left }
         requires page { length bytes.now ≡ page_size }
-        ensures counted { (hart : ℕ) → host_load hart self.new ≡ next_counted (rules_of policy.now) bytes.now (host_load hart self.old) (slice_get (rules_of policy.now).modules self.old.about.id) }
+        ensures counted { (hart : ℕ) → hw_load hart self.new ≡ next_counted (rules_of policy.now) bytes.now (hw_load hart self.old) (slice_get (rules_of policy.now).modules self.old.about.id) }
         ensures pages { self.new.pages ≡ self.old.pages }
     {
         let Some(rule) = rule_of(policy, self.about.id) else {
@@ -89,7 +89,7 @@ impl Load {
 
     /// Whether the counted pages are those that the policy measured, with all fields right.
     pub fn is_good(&self, policy: &Policy) -> bool
-        ensures { (hart : ℕ) → result ≡ host_is_good (host_load hart self.now) (slice_get (rules_of policy.now).modules self.now.about.id) }
+        ensures { (hart : ℕ) → result ≡ hw_is_good (hw_load hart self.now) (slice_get (rules_of policy.now).modules self.now.about.id) }
     {
         match rule_of(policy, self.about.id) {
             None => false,
@@ -103,10 +103,10 @@ impl Load {
         requires counted { self.left ≡ 0 }
         requires inside { IsInRam guard.old.pages (load_span self) }
         requires held { AllAre guard.old.pages (load_span self) Held }
-        requires theirs { IsTheirs mem.old guard.old }
+        requires tables_match { TablesMatchGuard mem.old guard.old }
         ensures gate { gate.new ≡ record gate.old { loaded = with_module gate.old.loaded self.about; loading = false } }
         ensures guard { guard.new.pages ≡ with_span guard.old.pages (load_span self) Approved }
-        ensures theirs { StaysTheirs mem.old mem.new guard.old guard.new }
+        ensures tables_match { TablesStayMatched mem.old mem.new guard.old guard.new }
     {
         let Load {
             hold,
@@ -125,10 +125,10 @@ impl Load {
     pub fn release(self, gate: &mut Gate, guard: &mut Guard, mem: &mut HostMem)
         requires inside { IsInRam guard.old.pages (load_span self) }
         requires held { AllAre guard.old.pages (load_span self) Held }
-        requires theirs { IsTheirs mem.old guard.old }
+        requires tables_match { TablesMatchGuard mem.old guard.old }
         ensures gate { gate.new ≡ record gate.old { loading = false } }
         ensures guard { guard.new.pages ≡ with_span guard.old.pages (load_span self) Free }
-        ensures theirs { StaysTheirs mem.old mem.new guard.old guard.new }
+        ensures tables_match { TablesStayMatched mem.old mem.new guard.old guard.new }
     {
         let Load {
             hold,

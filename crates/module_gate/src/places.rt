@@ -3,15 +3,15 @@
 ghost use Rattle.std.specs.Prelude.{◌≡◌};
 ghost use Rattle.std.specs.List.{list_any};
 ghost use Rattle.sv_types.specs.ApprovedPages.{numbers_from};
-ghost use Rattle.page_guard.specs.Guarded.{IsTheirs};
+ghost use Rattle.page_guard.specs.Guarded.{TablesMatchGuard};
 ghost use Rattle.module_gate.specs.Gates.{is_place, is_good_place};
-ghost use Rattle.reference.specs.Protections.{is_taken};
+ghost use Rattle.spec_reference.specs.Protections.{is_taken};
 
 use crate::rules::pages_at;
 use host_mem::HostMem;
 use page_guard::Guard;
-use processor::PAGE_BYTES;
-use sv_types::{Protection, SavedModule, Span};
+use spec_processor::PAGE_BYTES;
+use sv_types::{ModulePlacement, Protection, Span};
 
 // Whether both addresses are multiples of a page's bytes, and so many pages from the first on are in RAM.
 fn is_place(mem: &HostMem, gpa: u64, va: u64, count: u32) -> bool
@@ -47,8 +47,8 @@ fn any_taken(guard: &Guard, span: Span) -> bool
 /// Whether so many pages of a module may be loaded at its addresses: these are multiples of a page's bytes, and the pages are
 /// in RAM and free.
 #[tactic(auto, unfolding(crate::specs::Gates::is_good_place))]
-pub fn is_good_place(guard: &Guard, mem: &HostMem, about: &SavedModule, pages: u32) -> bool
-    requires { IsTheirs mem.now guard.now }
+pub fn is_good_place(guard: &Guard, mem: &HostMem, about: &ModulePlacement, pages: u32) -> bool
+    requires { TablesMatchGuard mem.now guard.now }
     ensures { result ≡ is_good_place mem.now.ram guard.now.pages about.now pages }
 {
     is_place(mem, about.gpa, about.va, pages) && !any_taken(guard, pages_at(about.gpa, pages))

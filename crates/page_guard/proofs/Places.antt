@@ -2,7 +2,7 @@
 use Rattle.std.proofs.Common.{◌≡◌, ℕ, zero, suc, ◌+◌, ◌<◌, ◌≤◌, Bool, true, false, List, [], ◌∷◌, length, refl, ◌∙◌, ap, get_or, arith, add-one}
 use Rattle.std.specs.Prelude.{Option, Some, None, ◌==◌, if◌then◌else◌, option_map}
 use Rattle.std.proofs.lemmas.Bool.{eq-eqb}
-use Rattle.reference.specs.States.{place_of_entry}
+use Rattle.spec_reference.specs.States.{place_of_entry}
 
 -- an address isn't among the first n of a list
 unfoldable pub is_not_among : List ℕ → (va n : ℕ) → Bool

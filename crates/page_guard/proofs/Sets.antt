@@ -3,14 +3,14 @@ use Rattle.std.proofs.Common.{◌≡◌, ℕ, zero, suc, ◌*◌, ◌<◌, List,
 use Rattle.std.specs.Prelude.{Some, ◌==◌, if◌then◌else◌}
 use Rattle.std.proofs.lemmas.Bool.{eqb-true, eq-eqb}
 use Rattle.std.proofs.lemmas.List.{length-set}
-use Rattle.processor.specs.Regions.{Region}
+use Rattle.spec_processor.specs.Regions.{Region}
 use Rattle.sv_types.specs.Views.{protect, AreViews}
-use Rattle.processor.specs.Bytes.{page_size}
+use Rattle.spec_processor.specs.Bytes.{page_size}
 use Rattle.sv_types.specs.declared.protection.Protection.{Protection}
 use Rattle.gstage_tables.specs.Blocks.{CountsTaken}
 use Rattle.gstage_tables.specs.Layout.{Shape, HoldsTrees, AreDrawn}
-use Rattle.reference.specs.Protections.{protection_at, or_free}
-use Rattle.page_guard.specs.Guarded.{IsTheirs}
+use Rattle.spec_reference.specs.Protections.{protection_at, or_free}
+use Rattle.page_guard.specs.Guarded.{TablesMatchGuard}
 use Rattle.sv_types.proofs.SetElements.{set_other}
 
 pub get_same : (g : List Protection) (page : ℕ) (x : Protection) → page < length g → slice_get (slice_set g page x) page ≡ Some x
@@ -30,11 +30,11 @@ by_test g page k x false e below = ap or_free (set_other g page k x (λ same. le
 pub set_is_protect : (g : List Protection) (page : ℕ) (x : Protection) → page < length g → protect (protection_at g) page x ≡ protection_at (slice_set g page x)
 set_is_protect g page x below = λ i k. sym (by_test g page k x (k == page) refl below) i
 
-pub set_theirs : (r : Region) (g : List Protection) (bound : List ℕ) (page : ℕ) (x : Protection) → page < length g
+pub set_tables_match : (r : Region) (g : List Protection) (bound : List ℕ) (page : ℕ) (x : Protection) → page < length g
     → HoldsTrees r.tables (length g) bound (protect (protection_at g) page x)
     → AreViews r.tables (length g) bound (protect (protection_at g) page x)
-    → length r.ram ≡ page_size * length g → IsTheirs r (record { pages = slice_set g page x; bound = bound })
-set_theirs r g bound page x below trees views ram =
+    → length r.ram ≡ page_size * length g → TablesMatchGuard r (record { pages = slice_set g page x; bound = bound })
+set_tables_match r g bound page x below trees views ram =
     let same = set_is_protect g page x below in
     let size = sym (length-set g page x) in record {
       ram = ram ∙ ap (λ (n : ℕ). page_size * n) size;

@@ -6,19 +6,19 @@ use Rattle.std.proofs.lemmas.Bool.{eqb-true, eq-eqb}
 use Rattle.std.proofs.lemmas.List.{length-set, length-replicate}
 use Rattle.std.proofs.lemmas.Option.{slice_get_read}
 use Rattle.std.proofs.lemmas.List.Folds.{find-append}
-use Rattle.processor.specs.Bytes.{page_size}
+use Rattle.spec_processor.specs.Bytes.{page_size}
 use Rattle.sv_types.specs.ApprovedPages.{numbers_from}
-use Rattle.processor.specs.Regions.{Region}
+use Rattle.spec_processor.specs.Regions.{Region}
 use Rattle.sv_types.specs.Views.{AreViews, all_free}
 use Rattle.gstage_tables.specs.Layout.{HoldsTrees}
 use Rattle.sv_types.specs.declared.protection.Protection.{Protection}
 use Rattle.sv_types.specs.declared.protection.Protection.TheVariants.{Free}
-use Rattle.reference.specs.Protections.{protection_at, or_free, with_pages, is_taken}
+use Rattle.spec_reference.specs.Protections.{protection_at, or_free, with_pages, is_taken}
 use Rattle.sv_types.specs.Protections.{is_free}
-use Rattle.page_guard.specs.Guarded.{IsTheirs}
+use Rattle.page_guard.specs.Guarded.{TablesMatchGuard}
 use Rattle.page_guard.proofs.Sets.{get_same}
 use Rattle.sv_types.proofs.PageNumbers.{numbers_more}
-use Rattle.reference.proofs.Runs.{all_free_at}
+use Rattle.spec_reference.proofs.Runs.{all_free_at}
 use Rattle.sv_types.proofs.SetElements.{set_other}
 
 pub length_pages : (guard : List Protection) (first count : ℕ) (p : Protection) → length (with_pages guard first count p) ≡ length guard
@@ -96,9 +96,9 @@ free_bits (suc n) = ap (λ (bits : List Bool). true ∷ bits) (free_bits n)
 pub none_held : (n : ℕ) → all_free ≡ protection_at (replicate n Free)
 none_held n = λ i page. sym (all_free_at n page) i
 
-pub new_theirs : (r : Region) (n : ℕ) (bound : List ℕ) → length r.ram ≡ page_size * n → AreViews r.tables n bound all_free → HoldsTrees r.tables n bound all_free
-    → IsTheirs r (record { pages = replicate n Free; bound = bound })
-new_theirs r n bound ram views trees =
+pub new_tables_match : (r : Region) (n : ℕ) (bound : List ℕ) → length r.ram ≡ page_size * n → AreViews r.tables n bound all_free → HoldsTrees r.tables n bound all_free
+    → TablesMatchGuard r (record { pages = replicate n Free; bound = bound })
+new_tables_match r n bound ram views trees =
     let size : n ≡ length (replicate n Free) = sym (length-replicate n Free) in
     let same : all_free ≡ protection_at (replicate n Free) = none_held n in record {
       ram = ram ∙ ap (λ (n : ℕ). page_size * n) size;

@@ -1,8 +1,8 @@
 // The addresses at which user mode may enter the kernel.
 
 ghost use Rattle.std.specs.Prelude.{◌≡◌, ◌≤◌, length, IfOk, option_map, slice_get};
-ghost use Rattle.sv_types.specs.Limits.{most_entries};
-ghost use Rattle.reference.specs.States.{Binding, binding_of, has_number, place_of_entry};
+ghost use Rattle.sv_types.specs.Limits.{max_entries};
+ghost use Rattle.spec_reference.specs.States.{Binding, binding_of, has_number, place_of_entry};
 
 use std::alloc::{AllocError, Global};
 use std::marker::Model;
@@ -21,18 +21,18 @@ impl Model for Entries {
     ghost Value = { Permitted };
 
     ghost use Rattle.std.specs.Prelude.{◌≤◌, length};
-    ghost use Rattle.sv_types.specs.Limits.{most_entries};
+    ghost use Rattle.sv_types.specs.Limits.{max_entries};
 
     ghost view = { λ e. record { entries = e.list.items; bound = e.bound.items } };
 
-    ghost invariant = { λ e. (length e.bound.items ≤ length e.list.items) × (length e.bound.items ≤ most_entries) };
+    ghost invariant = { λ e. (length e.bound.items ≤ length e.list.items) × (length e.bound.items ≤ max_entries) };
 }
 
 impl Entries {
     /// The addresses of a list, and what they are bound to: none, or each.
     pub fn new(alloc: Global, list: &[u64], bound: &[u64]) -> Result<Entries, AllocError>
         requires along { length bound.now ≤ length list.now }
-        requires few { length bound.now ≤ most_entries }
+        requires few { length bound.now ≤ max_entries }
         ensures { IfOk result (λ e. e ≡ record { entries = list.now; bound = bound.now }) }
     {
         let list = list.to_vec(alloc)?;
@@ -71,7 +71,7 @@ impl Entries {
 // The first place of an address in a list, among those that go along with the other list.
 fn first_place(list: &[u64], bound: &[u64], target: u64) -> Option<u8>
     requires along { length bound.now ≤ length list.now }
-    requires few { length bound.now ≤ most_entries }
+    requires few { length bound.now ≤ max_entries }
     ensures { result ≡ place_of_entry list.now bound.now target }
 {
     'sought: for place in 0..bound.len() {

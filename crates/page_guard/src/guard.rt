@@ -1,11 +1,11 @@
 // The guard of pages.
 
 ghost use Rattle.std.specs.Prelude.{◌≡◌, ◌+◌, ◌/◌, ◌<◌, ◌≤◌, length, map, replicate, slice_set, slice_get, Some, None, IfOk, OnOk, IfErr, OnErr};
-ghost use Rattle.processor.specs.Bytes.{page_size};
+ghost use Rattle.spec_processor.specs.Bytes.{page_size};
 ghost use Rattle.sv_types.specs.declared.protection.Protection.TheVariants.{Free, Held, Approved};
-ghost use Rattle.gstage_tables.specs.Layout.{most_bound, table_size};
+ghost use Rattle.gstage_tables.specs.Layout.{max_bound, table_size};
 ghost use Rattle.sv_types.specs.Protections.{is_free};
-ghost use Rattle.page_guard.specs.Guarded.{with_span, IsInRam, AllAre, first_taken, IsTheirs, StaysTheirs, Guards};
+ghost use Rattle.page_guard.specs.Guarded.{with_span, IsInRam, AllAre, first_taken, TablesMatchGuard, TablesStayMatched, Guards};
 
 use dma_guard::DmaGuard;
 use gstage_tables::Trees;
@@ -29,14 +29,14 @@ impl Model for Guard {
     ghost Value = { Guarded };
 
     ghost use Rattle.std.specs.Prelude.{◌≡◌, ◌≤◌, length, map};
-    ghost use Rattle.processor.specs.Regions.{most_ram_pages};
+    ghost use Rattle.spec_processor.specs.Regions.{max_ram_pages};
     ghost use Rattle.gstage_tables.specs.Blocks.{CountsTaken};
     ghost use Rattle.sv_types.specs.Protections.{is_free};
-    ghost use Rattle.reference.specs.Protections.{protection_at};
+    ghost use Rattle.spec_reference.specs.Protections.{protection_at};
 
     ghost view = { λ g. record { pages = g.protections.items; bound = g.trees.bound } };
 
-    ghost invariant = { λ g. (g.trees.ram_pages ≡ length g.protections.items) × (CountsTaken g.trees.counts (length g.protections.items) (protection_at g.protections.items) × ((g.dma ≡ map is_free g.protections.items) × (length g.protections.items ≤ most_ram_pages))) };
+    ghost invariant = { λ g. (g.trees.ram_pages ≡ length g.protections.items) × (CountsTaken g.trees.counts (length g.protections.items) (protection_at g.protections.items) × ((g.dma ≡ map is_free g.protections.items) × (length g.protections.items ≤ max_ram_pages))) };
 }
 
 /// Pages that are held, until they are approved or released. It can't be dropped. Contracts see the span.
@@ -62,7 +62,7 @@ impl Guard {
     /// All pages free, where `bound` has the page that each entry is bound to. The region's table part has the size that the
     /// trees ask for.
     pub fn new(alloc: Global, mem: &mut HostMem, bound: &[u32]) -> Result<Guard, AllocError>
-        requires few { length bound.now ≤ most_bound }
+        requires few { length bound.now ≤ max_bound }
         requires size { length mem.old.tables ≡ table_size (length mem.old.ram / page_size) (length bound.now) }
         ensures guard { IfOk result (λ g. g.pages ≡ replicate (length mem.old.ram / page_size) Free) }
         ensures guards { IfOk result (λ g. Guards mem.new bound.now g) }
@@ -104,14 +104,14 @@ impl Guard {
     /// Holds the pages of a span, all of them or, where one is not free, none.
     pub fn hold(&mut self, mem: &mut HostMem, span: Span) -> Result<Hold, Taken>
         requires inside { IsInRam self.old.pages span }
-        requires theirs { IsTheirs mem.old self.old }
+        requires tables_match { TablesMatchGuard mem.old self.old }
         ensures free { OnOk result (first_taken self.old.pages span ≡ None) }
         ensures guard { OnOk result (self.new.pages ≡ with_span self.old.pages span Held) }
         ensures held { OnOk result (AllAre self.new.pages span Held) }
         ensures hold { IfOk result (λ hold. hold ≡ span) }
         ensures taken { IfErr result (λ taken. first_taken self.old.pages span ≡ Some taken.page) }
         ensures kept { OnErr result ((self.new ≡ self.old) × (mem.new ≡ mem.old)) }
-        ensures theirs { StaysTheirs mem.old mem.new self.old self.new }
+        ensures tables_match { TablesStayMatched mem.old mem.new self.old self.new }
     {
         self.all_free(span)?;
         self.set_all(mem, span, Protection::Held);
@@ -122,10 +122,10 @@ impl Guard {
     pub fn approve(&mut self, mem: &mut HostMem, hold: Hold)
         requires inside { IsInRam self.old.pages hold }
         requires held { AllAre self.old.pages hold Held }
-        requires theirs { IsTheirs mem.old self.old }
+        requires tables_match { TablesMatchGuard mem.old self.old }
         ensures guard { self.new.pages ≡ with_span self.old.pages hold Approved }
         ensures approved { AllAre self.new.pages hold Approved }
-        ensures theirs { StaysTheirs mem.old mem.new self.old self.new }
+        ensures tables_match { TablesStayMatched mem.old mem.new self.old self.new }
     {
         let Hold { span: approved } = hold;
         self.set_all(mem, approved, Protection::Approved);
@@ -135,9 +135,9 @@ impl Guard {
     pub fn release(&mut self, mem: &mut HostMem, hold: Hold)
         requires inside { IsInRam self.old.pages hold }
         requires held { AllAre self.old.pages hold Held }
-        requires theirs { IsTheirs mem.old self.old }
+        requires tables_match { TablesMatchGuard mem.old self.old }
         ensures guard { self.new.pages ≡ with_span self.old.pages hold Free }
-        ensures theirs { StaysTheirs mem.old mem.new self.old self.new }
+        ensures tables_match { TablesStayMatched mem.old mem.new self.old self.new }
     {
         let Hold { span: released } = hold;
         self.set_all(mem, released, Protection::Free);
@@ -147,9 +147,9 @@ impl Guard {
     pub fn unapprove(&mut self, mem: &mut HostMem, span: Span)
         requires inside { IsInRam self.old.pages span }
         requires approved { AllAre self.old.pages span Approved }
-        requires theirs { IsTheirs mem.old self.old }
+        requires tables_match { TablesMatchGuard mem.old self.old }
         ensures guard { self.new.pages ≡ with_span self.old.pages span Free }
-        ensures theirs { StaysTheirs mem.old mem.new self.old self.new }
+        ensures tables_match { TablesStayMatched mem.old mem.new self.old self.new }
     {
         self.set_all(mem, span, Protection::Free);
     }
@@ -171,22 +171,22 @@ impl Guard {
 
     fn set_all(&mut self, mem: &mut HostMem, span: Span, protection: Protection)
         requires inside { IsInRam self.old.pages span }
-        requires theirs { IsTheirs mem.old self.old }
+        requires tables_match { TablesMatchGuard mem.old self.old }
         ensures guard { self.new.pages ≡ with_span self.old.pages span protection }
         ensures all { AllAre self.new.pages span protection }
-        ensures theirs { StaysTheirs mem.old mem.new self.old self.new }
+        ensures tables_match { TablesStayMatched mem.old mem.new self.old self.new }
     {
         'changed: for i in 0..span.count {
             self.set(mem, span.first + i, protection);
         }
     }
 
-    #[tactic(auto, using(crate::proofs::Sets::set_theirs))]
+    #[tactic(auto, using(crate::proofs::Sets::set_tables_match))]
     fn set(&mut self, mem: &mut HostMem, page: u32, protection: Protection)
         requires inside { page < length self.old.pages }
-        requires theirs { IsTheirs mem.old self.old }
+        requires tables_match { TablesMatchGuard mem.old self.old }
         ensures guard { self.new.pages ≡ slice_set self.old.pages page protection }
-        ensures theirs { StaysTheirs mem.old mem.new self.old self.new }
+        ensures tables_match { TablesStayMatched mem.old mem.new self.old self.new }
     {
         self.trees.set(mem, page, protection);
         self.dma.set(page, protection.is_free());

@@ -4,8 +4,8 @@
 
 mod entries;
 mod guard;
-mod side;
+mod privilege;
 
 pub use entries::Entries;
 pub use guard::{Guard, Hold, Taken};
-pub use side::{Forbidden, Side};
+pub use privilege::{Forbidden, PrivilegeView};

@@ -3,15 +3,15 @@
 #![tactic(auto)]
 
 ghost use Rattle.std.specs.Prelude.{◌≡◌, ◌*◌, ◌%◌, ◌<◌, length, IfOk};
-ghost use Rattle.processor.specs.Bytes.{page_size};
+ghost use Rattle.spec_processor.specs.Bytes.{page_size};
 ghost use Rattle.sv_types.specs.Measure.{digests_of};
 ghost use Rattle.sv_types.specs.Measure as spec;
 
 mod meter;
 
 pub use meter::{Meter, Silent};
-use processor::PAGE_SIZE;
 use sha2::{Digest as _, Sha256};
+use spec_processor::PAGE_SIZE;
 use std::alloc::{AllocError, Global};
 use std::thread;
 use std::thread::Threads;

@@ -6,7 +6,7 @@ use Rattle.std.proofs.lemmas.List.{append_assoc, append-nil, map-append}
 use Rattle.std.proofs.lemmas.List.Elements.{All-head, All-tail}
 use Rattle.std.specs.List.{All, list_any}
 use Rattle.toml.specs.View.{items_of}
-use Rattle.processor.specs.Regions.{most_ram_pages}
+use Rattle.spec_processor.specs.Regions.{max_ram_pages}
 use Rattle.sv_types.specs.Policies.{Rules, each_within, entry_within, bound_fits, all_bound, bound_within, numbers_within, lists_within, init_within, modules_count_within, modules_within, rules_within}
 use Rattle.policy.specs.Bindings.{binding, bindings_of, entries_in, bound_in, is_bound, binding_of_two, binding_of, each_binding}
 use Rattle.policy.specs.declared.binding.Binding.{Binding}
@@ -16,16 +16,16 @@ use Rattle.policy.proofs.Judging.{then_ok}
 use Rattle.policy.proofs.WrittenValues.{address_back}
 use Rattle.policy.proofs.BindingsRead.{bound_among}
 
-fits_address : (ram_pages va gpa : ℕ) → bound_fits ram_pages va gpa ≡ true → ram_pages ≤ most_ram_pages → gpa < 2 ^ 64
+fits_address : (ram_pages va gpa : ℕ) → bound_fits ram_pages va gpa ≡ true → ram_pages ≤ max_ram_pages → gpa < 2 ^ 64
 fits_address ram_pages va gpa fits few = grind (arith, nat_tests)
 
-binding_back : (ram_pages : ℕ) (before : List Binding) (va gpa : ℕ) → ram_pages ≤ most_ram_pages → IsAddress va → entry_within va ≡ true →
+binding_back : (ram_pages : ℕ) (before : List Binding) (va gpa : ℕ) → ram_pages ≤ max_ram_pages → IsAddress va → entry_within va ≡ true →
     bound_fits ram_pages va gpa ≡ true → is_bound va before ≡ false → binding_of ram_pages before (binding_data (binding va gpa)) ≡ Ok (binding va gpa)
 unfolding binding_data binding_of_two
 binding_back ram_pages before va gpa few small instruction fits fresh =
     rw (address_back va small, instruction, address_back gpa (fits_address ram_pages va gpa fits few), fits, fresh) refl
 
-pub bindings_back : (ram_pages : ℕ) (before : List Binding) (met entries bound : List ℕ) → ram_pages ≤ most_ram_pages → All IsAddress entries →
+pub bindings_back : (ram_pages : ℕ) (before : List Binding) (met entries bound : List ℕ) → ram_pages ≤ max_ram_pages → All IsAddress entries →
     each_within (λ met entry. entry_within entry) met entries ≡ true → all_bound ram_pages (entries_in before) entries bound ≡ true →
     each_binding ram_pages before (items_of (map binding_data (bindings_of entries bound))) ≡ Ok (before ++ bindings_of entries bound)
 bindings_back ram_pages before met [] [] few ranges instructions bounds = ap Ok (sym (append-nil before))

@@ -11,12 +11,12 @@ use Rattle.policy.proofs.Judging.{bind_ok, ok_same, limited_ok}
 
 module _ {A : Type 0} (judged : List A → Data → Judged A) (fits : List A → A → Bool)
     (one : (before : List A) (d : Data) (a : A) → judged before d ≡ Ok a → fits before a ≡ true) where
-  each_within_behind : (before : List A) (items : Items) (xs : List A) → each_item judged before items ≡ Ok xs →
+  each_within_after : (before : List A) (items : Items) (xs : List A) → each_item judged before items ≡ Ok xs →
       (ys : List A) × (before ++ ys ≡ xs) × (length ys ≡ items_length items) × (each_within fits before ys ≡ true)
-  each_within_behind before no_items xs read = ([], append-nil before ∙ ok_same before xs read, refl, refl)
-  each_within_behind before (item d items) xs read =
+  each_within_after before no_items xs read = ([], append-nil before ∙ ok_same before xs read, refl, refl)
+  each_within_after before (item d items) xs read =
       let first = bind_ok (judged before d) (λ a. each_item judged (before ++ a ∷ []) items) xs read in
-      let rest = each_within_behind (before ++ first.0 ∷ []) items xs first.2 in (
+      let rest = each_within_after (before ++ first.0 ∷ []) items xs first.2 in (
         first.0 ∷ rest.0,
         sym (append_assoc before (first.0 ∷ []) rest.0) ∙ rest.1,
         ap suc rest.2,
@@ -25,7 +25,7 @@ module _ {A : Type 0} (judged : List A → Data → Judged A) (fits : List A →
 
   pub each_within_read : (items : Items) (xs : List A) → each_item judged [] items ≡ Ok xs → (length xs ≡ items_length items) × (each_within fits [] xs ≡ true)
   each_within_read items xs read =
-      let all = each_within_behind [] items xs read in
+      let all = each_within_after [] items xs read in
       (sym (ap length all.1) ∙ all.2, sym (ap (each_within fits []) all.1) ∙ all.3)
 
   -- a list whose length is limited, and each of whose items is judged

@@ -3,15 +3,15 @@ use Rattle.std.proofs.Common.{◌≡◌, ℕ, nat_le, ◌==◌, ℤ, pos, negsuc
 use Rattle.std.proofs.lemmas.Bool.{and_parts}
 use Rattle.std.specs.Cmp.Derive.{both_true}
 use Rattle.toml.specs.Data.{Data, Items, no_items, item, Members, get_member}
-use Rattle.processor.specs.Bytes.{ram_base}
-use Rattle.sv_types.specs.Policies.{Rules, ModuleRule, format_within, harts_within, ram_pages_within, entry_within, entries_count_within, entries_within, exports_count_within, export_within, exports_within, all_bound, bound_within, is_exported, span_within, init_within, place_within, is_aligned, base_within, anchor_within, is_behind, next_site_within, sites_within, sites_count_within, sites_of, module_within, modules_within, modules_count_within, is_module, module_pages_within, rules_within}
+use Rattle.spec_processor.specs.Bytes.{ram_base}
+use Rattle.sv_types.specs.Policies.{Rules, ModuleRule, format_within, harts_within, ram_pages_within, entry_within, entries_count_within, entries_within, exports_count_within, export_within, exports_within, all_bound, bound_within, is_exported, span_within, init_within, place_within, is_aligned, base_within, anchor_within, is_after, next_site_within, sites_within, sites_count_within, sites_of, module_within, modules_within, modules_count_within, is_module, module_pages_within, rules_within}
 use Rattle.sv_types.specs.declared.module.Span.{Span}
 use Rattle.sv_types.specs.declared.module.Site.{Site}
 use Rattle.sv_types.specs.declared.relocation_kind.RelocationKind.{RelocationKind}
 use Rattle.sv_types.specs.declared.policy.Export.{Export}
 use Rattle.sv_types.specs.Steps.{◌>>=◌}
 use Rattle.policy.specs.Values.{required_member, integer_of, members_in, with_known, if_within_limit, number_of, natural_of, items_in, items_length, address_of, entry_of, name_of}
-use Rattle.policy.specs.Text.{kernel_of, key_name, key_pages, key_measure, key_harts, key_ram_pages, key_entries, known_keys, module_keys, module_pages_of, module_rule_of, format_number, format_of, each_entry, plain_entries, bound_entries, entries_by, entries_of, export_of_two, export_of, export_of_items, exports_of, unless_repeated, page_span, page_address_of, page_count_of, init_of_two, init_of_items, init_of, kernel_rule, fitting_kind, offset_of, kind_of, base_of, anchor_of, site_of_five, site_of_items, site_of, sites_in, module_of_members, module_of, modules_of, rules_behind, rules_of_members}
+use Rattle.policy.specs.Text.{kernel_of, key_name, key_pages, key_measure, key_harts, key_ram_pages, key_entries, known_keys, module_keys, module_pages_of, module_rule_of, format_number, format_of, each_entry, plain_entries, bound_entries, entries_by, entries_of, export_of_two, export_of, export_of_items, exports_of, unless_repeated, page_span, page_address_of, page_count_of, init_of_two, init_of_items, init_of, kernel_rule, fitting_kind, offset_of, kind_of, base_of, anchor_of, site_of_five, site_of_items, site_of, sites_in, module_of_members, module_of, modules_of, rules_after, rules_of_members}
 use Rattle.policy.specs.Bindings.{each_binding, entries_in, bound_in}
 use Rattle.policy.proofs.ReadLists.{each_within_read, limited_read}
 use Rattle.policy.proofs.BindingsRead.{entry_read, bindings_read}
@@ -120,7 +120,7 @@ kernel_read ram_pages ms kernel read =
 
 next_site_true : (pages exports : ℕ) (before : List Site) (s : Site) → place_within pages s.offset ≡ true →
     is_aligned s.kind s.offset ≡ true → base_within exports s.base ≡ true → anchor_within pages s.kind s.offset s.anchor ≡ true →
-    is_behind before s ≡ true → next_site_within pages exports before s ≡ true
+    is_after before s ≡ true → next_site_within pages exports before s ≡ true
 next_site_true pages exports before s placed aligned based anchored behind =
     both_true (both_true (both_true (both_true placed aligned) based) anchored) behind
 
@@ -136,7 +136,7 @@ five_read pages exports before offset kind base addend anchor s read =
     after (anchor_of pages fit at anchor) _ s read λ to to_is read.
     let aligned = limited_ok (is_aligned any at) any fit fit_is in
     let site : Site = record { offset = at; kind = fit; base = from; addend = plus; anchor = to } in
-    let behind = if_ok (is_behind before site) site s PolicyFault.NotAscending read in
+    let behind = if_ok (is_after before site) site s PolicyFault.NotAscending read in
     subst (λ (x : Site). next_site_within pages exports before x ≡ true) behind.1
     (next_site_true pages exports before site
     (number_within (place_within pages) offset at at_is)
@@ -204,7 +204,7 @@ rules_true r format harts ram_pages entries exports bound init modules =
     (both_true (both_true (both_true (both_true entries.0 entries.1) exports.0) exports.1) bound)) init) modules.0) modules.1
 
 pub rules_read : (ms : Members) (r : Rules) → rules_of_members ms ≡ Ok r → rules_within r ≡ true
-unfolding rules_of_members rules_behind
+unfolding rules_of_members rules_after
 rules_read ms r read =
     after (format_of ms) _ r read λ format format_is read.
     after (known_keys ms) _ r read λ known known_is read.

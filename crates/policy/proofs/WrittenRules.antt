@@ -6,10 +6,10 @@ use Rattle.std.proofs.lemmas.Bool.Decides.{nat_tests}
 use Rattle.std.specs.List.{All}
 use Rattle.toml.specs.Data.{Items, Members, get_member}
 use Rattle.toml.specs.View.{items_of}
-use Rattle.processor.specs.Bytes.{ram_base, page_size}
-use Rattle.sv_types.specs.Policies.{Rules, ModuleRule, each_within, entry_within, entries_count_within, exports_count_within, export_within, is_exported, span_within, init_within, next_site_within, site_within, place_within, is_aligned, base_within, anchor_within, is_behind, sites_within, sites_count_within, sites_of, module_within, modules_within, modules_count_within, is_module, module_pages_within, format_within, harts_within, ram_pages_within, entries_within, exports_within, all_bound, bound_within, numbers_within, lists_within, rules_within}
+use Rattle.spec_processor.specs.Bytes.{ram_base, page_size}
+use Rattle.sv_types.specs.Policies.{Rules, ModuleRule, each_within, entry_within, entries_count_within, exports_count_within, export_within, is_exported, span_within, init_within, next_site_within, site_within, place_within, is_aligned, base_within, anchor_within, is_after, sites_within, sites_count_within, sites_of, module_within, modules_within, modules_count_within, is_module, module_pages_within, format_within, harts_within, ram_pages_within, entries_within, exports_within, all_bound, bound_within, numbers_within, lists_within, rules_within}
 use Rattle.sv_types.specs.RelocationKinds as kinds
-use Rattle.processor.specs.Regions.{most_ram_pages}
+use Rattle.spec_processor.specs.Regions.{max_ram_pages}
 use Rattle.sv_types.specs.declared.module.Span.{Span}
 use Rattle.sv_types.specs.declared.module.Site.{Site}
 use Rattle.sv_types.specs.declared.policy.Export.{Export}
@@ -17,7 +17,7 @@ use Rattle.sv_types.specs.declared.relocation_kind.RelocationKind.{RelocationKin
 use Rattle.sv_types.specs.declared.relocation_kind.RelocationKind.TheVariants.{Word64, Branch, Jal, PcrelHi20, PcrelLo12I, PcrelLo12S, Hi20, Lo12I, Lo12S}
 use Rattle.policy.specs.Values.{if_within_limit, entry_of, items_length}
 use Rattle.policy.specs.Bindings.{bindings_of, entries_in, bound_in}
-use Rattle.policy.specs.Text.{format_number, plain_entries, bound_entries, entries_of, export_of_two, export_of, some_exports_of, span_at, init_of_two, init_of, kernel_rule, site_of_five, site_of, sites_in, module_of_members, module_of, some_modules_of, rules_behind, rules_of_members, rules_of_text, table_of_text}
+use Rattle.policy.specs.Text.{format_number, plain_entries, bound_entries, entries_of, export_of_two, export_of, some_exports_of, span_at, init_of_two, init_of, kernel_rule, site_of_five, site_of, sites_in, module_of_members, module_of, some_modules_of, rules_after, rules_of_members, rules_of_text, table_of_text}
 use Rattle.policy.specs.Printed.{address_data, binding_data, entries_data, export_data, exports_data, span_data, site_data, sites_data, module_data, modules_data, kernel_data, rules_members}
 use Rattle.policy.specs.Ranges.{IsAddress, IsDigest, IsExport, IsModule, IsPolicy}
 use Rattle.policy.proofs.Judging.{then_ok, limited_true}
@@ -44,7 +44,7 @@ entry_count true ram_pages entries bound bounds = items_length-map address_data 
 entry_count false ram_pages entries bound bounds =
     items_length-map binding_data (bindings_of entries bound) ∙ pairs_length entries bound (bound_length ram_pages [] entries bound bounds)
 
-by_format_back : (is_plain : Bool) (ram_pages : ℕ) (entries bound : List ℕ) → ram_pages ≤ most_ram_pages → All IsAddress entries →
+by_format_back : (is_plain : Bool) (ram_pages : ℕ) (entries bound : List ℕ) → ram_pages ≤ max_ram_pages → All IsAddress entries →
     each_within (λ before entry. entry_within entry) [] entries ≡ true → binds is_plain ram_pages entries bound ≡ true →
     (if is_plain then plain_entries (entry_items is_plain entries bound) else bound_entries ram_pages (entry_items is_plain entries bound)) ≡ Ok (entries, bound)
 by_format_back true ram_pages entries bound few ranges within bounds =
@@ -57,7 +57,7 @@ by_format_back false ram_pages entries bound few ranges within bounds =
     (bindings_back ram_pages [] [] entries bound few ranges within bounds)
     (rw (entries_of_pairs entries bound same, bound_of_pairs entries bound same) refl)
 
-entries_back : (format ram_pages : ℕ) (entries bound : List ℕ) → ram_pages ≤ most_ram_pages → All IsAddress entries → entries_count_within (length entries) ≡ true →
+entries_back : (format ram_pages : ℕ) (entries bound : List ℕ) → ram_pages ≤ max_ram_pages → All IsAddress entries → entries_count_within (length entries) ≡ true →
     each_within (λ before entry. entry_within entry) [] entries ≡ true → binds (format == 1) ram_pages entries bound ≡ true →
     entries_of format ram_pages (entries_data format entries bound) ≡ Ok (entries, bound)
 entries_back format ram_pages entries bound few ranges count within bounds =
@@ -76,7 +76,7 @@ exports_back exports ranges count within =
 
 -- ---- the kernel
 
-first_below : (ram_pages : ℕ) (span : Span) → span_within ram_pages span ≡ true → ram_pages ≤ most_ram_pages → span.first < most_ram_pages
+first_below : (ram_pages : ℕ) (span : Span) → span_within ram_pages span ≡ true → ram_pages ≤ max_ram_pages → span.first < max_ram_pages
 first_below ram_pages span within few = grind (arith, nat_tests)
 
 page_address : (first : ℕ) → (ram_base + page_size * first) % page_size ≡ 0
@@ -91,16 +91,16 @@ span_at_back ram_pages span within =
     let below : nat_le ram_base (ram_base + page_size * span.first) ≡ true = le-leb _ _ (omega arith) in
     rw (below, page_of_address span.first, within) refl
 
-span_back : (ram_pages : ℕ) (span : Span) → span_within ram_pages span ≡ true → ram_pages ≤ most_ram_pages →
+span_back : (ram_pages : ℕ) (span : Span) → span_within ram_pages span ≡ true → ram_pages ≤ max_ram_pages →
     init_of ram_pages (Some (span_data span)) ≡ Ok (Some span)
 unfolding init_of init_of_two span_data
 span_back ram_pages span within few =
-    let below : span.first < most_ram_pages = first_below ram_pages span within few in
+    let below : span.first < max_ram_pages = first_below ram_pages span within few in
     let some : nat_le 1 span.count ≡ true = (and_parts (nat_le 1 span.count) _ within).0 in
     rw (address_back (ram_base + page_size * span.first) (omega arith), page_address span.first, some, span_at_back ram_pages span within) refl
 
 init_back : (ram_pages : ℕ) (kernel : List ℕ) (init : Option Span) (ms : Members) → get_member (codes "kernel") ms ≡ Some (kernel_data kernel init) →
-    IsDigest kernel → init_within ram_pages init ≡ true → ram_pages ≤ most_ram_pages → kernel_rule ram_pages ms ≡ Ok (kernel, init)
+    IsDigest kernel → init_within ram_pages init ≡ true → ram_pages ≤ max_ram_pages → kernel_rule ram_pages ms ≡ Ok (kernel, init)
 unfolding kernel_data
 init_back ram_pages kernel None ms at digest within few =
     rw (at, measure_back kernel digest) (unfold init_of in refl)
@@ -124,7 +124,7 @@ site_back : (pages exports : ℕ) (before : List Site) (s : Site) → next_site_
     site_of pages exports before (site_data s) ≡ Ok s
 unfolding site_data site_of_five
 site_back pages exports before s within =
-    let behind = and_parts (site_within pages exports s) (is_behind before s) within in
+    let behind = and_parts (site_within pages exports s) (is_after before s) within in
     let anchor = and_parts _ (anchor_within pages s.kind s.offset s.anchor) behind.0 in
     let base = and_parts _ (base_within exports s.base) anchor.0 in
     let aligned = and_parts (place_within pages s.offset) (is_aligned s.kind s.offset) base.0 in
@@ -178,7 +178,7 @@ parts_back r is within =
     let exports = and_parts _ (exports_within r.exports) bound.0 in
     let exports_count = and_parts _ (exports_count_within (length r.exports)) exports.0 in
     let entries = and_parts (entries_count_within (length r.entries)) (entries_within r.entries) exports_count.0 in
-    let few : r.ram_pages ≤ most_ram_pages = leb-true r.ram_pages most_ram_pages (and_parts (nat_le 16 r.ram_pages) (nat_le r.ram_pages most_ram_pages) numbers.1).1 in
+    let few : r.ram_pages ≤ max_ram_pages = leb-true r.ram_pages max_ram_pages (and_parts (nat_le 16 r.ram_pages) (nat_le r.ram_pages max_ram_pages) numbers.1).1 in
     record {
       format = format_back r.format harts.0;
       harts = harts.1;
@@ -206,7 +206,7 @@ rules_from format harts ram_pages entries bound exports kernel init modules = re
 lists_back : (format harts ram_pages : ℕ) (entries bound : List ℕ) (exports : List Export) (kernel : List ℕ) (init : Option Span) (modules : List ModuleRule) →
     Back (rules_from format harts ram_pages entries bound exports kernel init modules) →
     rules_of_members (rules_members (rules_from format harts ram_pages entries bound exports kernel init modules)) ≡ Ok (rules_from format harts ram_pages entries bound exports kernel init modules)
-unfolding rules_of_members rules_behind rules_members
+unfolding rules_of_members rules_after rules_members
 lists_back format harts ram_pages entries bound [] kernel init [] b = rw (b.format, b.harts, b.ram_pages, b.entries, b.kernel _ refl) refl
 lists_back format harts ram_pages entries bound [] kernel init (m ∷ ms) b = rw (b.format, b.harts, b.ram_pages, b.entries, b.kernel _ refl, b.modules) refl
 lists_back format harts ram_pages entries bound (e ∷ es) kernel init [] b = rw (b.format, b.harts, b.ram_pages, b.entries, b.exports, b.kernel _ refl) refl

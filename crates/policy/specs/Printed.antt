@@ -6,7 +6,7 @@ use Rattle.std.specs.Cmp.Lexicographic.{slice_cmp}
 use Rattle.hex.specs.Hex.{encode_lower}
 use Rattle.toml.specs.Data.{Data, string, integer, array, table, Members, no_members, member}
 use Rattle.toml.specs.View.{items_of}
-use Rattle.processor.specs.Bytes.{page_size, ram_base}
+use Rattle.spec_processor.specs.Bytes.{page_size, ram_base}
 use Rattle.sv_types.specs.Limits.{plain_format}
 use Rattle.sv_types.specs.Output.{address_text}
 use Rattle.sv_types.specs.Policies.{Rules, ModuleRule}

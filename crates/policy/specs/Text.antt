@@ -5,9 +5,9 @@ use Rattle.std.specs.Prelude.{ℕ, ◌%◌, ℤ, pos, negsuc, Bool, true, false,
 use Rattle.std.specs.Str.{is_utf8}
 use Rattle.toml.specs.Data.{Data, Items, no_items, item, Members, get_member}
 use Rattle.toml.specs.Parse.{parse_document}
-use Rattle.processor.specs.Bytes.{page_size, ram_base, page_of}
+use Rattle.spec_processor.specs.Bytes.{page_size, ram_base, page_of}
 use Rattle.sv_types.specs.Limits.{plain_format}
-use Rattle.sv_types.specs.Policies.{Rules, ModuleRule, format_within, harts_within, ram_pages_within, entries_count_within, exports_count_within, modules_count_within, module_pages_within, sites_count_within, is_exported, span_within, place_within, is_aligned, base_within, anchor_within, is_behind, is_module, sites_of}
+use Rattle.sv_types.specs.Policies.{Rules, ModuleRule, format_within, harts_within, ram_pages_within, entries_count_within, exports_count_within, modules_count_within, module_pages_within, sites_count_within, is_exported, span_within, place_within, is_aligned, base_within, anchor_within, is_after, is_module, sites_of}
 use Rattle.sv_types.specs.RelocationKinds as kinds
 use Rattle.sv_types.specs.declared.module.Span.{Span}
 use Rattle.sv_types.specs.declared.module.Site.{Site}
@@ -120,7 +120,7 @@ kernel_of members = required_member (codes "kernel") members >>= members_in >>= 
 
 -- a site that stands behind those before it
 abbrev pub in_order : List Site → Site → Judged Site
-in_order before site = if is_behind before site then Ok site else Err PolicyFault.NotAscending
+in_order before site = if is_after before site then Ok site else Err PolicyFault.NotAscending
 
 abbrev pub offset_of : ℕ → Data → Judged ℕ
 offset_of pages = number_of (place_within pages)
@@ -232,8 +232,8 @@ kernel_rule ram_pages members = do
   Ok (measure, init)
 
 -- behind the entries
-unfoldable pub rules_behind : (format harts ram_pages : ℕ) → List ℕ × List ℕ → Members → Judged Rules
-rules_behind format harts ram_pages entries known = do
+unfoldable pub rules_after : (format harts ram_pages : ℕ) → List ℕ × List ℕ → Members → Judged Rules
+rules_after format harts ram_pages entries known = do
   exports ← exports_of (get_member (codes "exports") known)
   kernel ← kernel_rule ram_pages known
   modules ← modules_of (length exports) (get_member (codes "module") known)
@@ -246,7 +246,7 @@ rules_of_members members = do
   harts ← key_harts known
   ram_pages ← key_ram_pages known
   entries ← key_entries format ram_pages known
-  rules_behind format harts ram_pages entries known
+  rules_after format harts ram_pages entries known
 
 -- the table of a text
 abbrev pub table_of_text : List ℕ → Judged Members

@@ -1,7 +1,7 @@
 // Permitted entries and exports.
 
 ghost use Rattle.std.specs.Prelude.{◌≡◌, ◌≤◌, List, length, [], IfOk, IfErr, option_map};
-ghost use Rattle.sv_types.specs.Limits.{most_exports};
+ghost use Rattle.sv_types.specs.Limits.{max_exports};
 ghost use Rattle.toml.specs.View.{view, items_view};
 ghost use Rattle.policy.specs.Refusals.{Refuses};
 ghost use Rattle.policy.specs.ExportNames.{HasNames};
@@ -11,7 +11,7 @@ ghost use Rattle.policy.specs.Text as spec;
 use crate::binding::{bound_in, each_binding, entries_in};
 use crate::refusal::PolicyRefusal;
 use crate::values::{address, entry, items, name};
-use policy_limits::{MOST_ENTRIES, MOST_EXPORTS, PLAIN_FORMAT, PolicyFault};
+use policy_limits::{MAX_ENTRIES, MAX_EXPORTS, PLAIN_FORMAT, PolicyFault};
 use std::alloc::Global;
 use std::collections::BTreeSet;
 use sv_types::Export;
@@ -87,7 +87,7 @@ pub fn entries(
     ensures refused { IfErr result (Refuses (spec.entries_of format ram_pages (view value.now))) }
 {
     let items = items(value)?;
-    if items.len() < 1 || items.len() > MOST_ENTRIES {
+    if items.len() < 1 || items.len() > MAX_ENTRIES {
         return Err(PolicyRefusal::Fault(PolicyFault::BeyondLimit));
     }
     entries_by(alloc, format, ram_pages, items)
@@ -144,11 +144,11 @@ pub(crate) fn each_export(alloc: Global, items: &[Value]) -> Result<Vec<Export>,
 #[tactic(auto, using(crate::proofs::Lists::items_length_view))]
 fn some_exports(alloc: Global, value: &Value) -> Result<Vec<Export>, PolicyRefusal>
     ensures ok { IfOk result (λ exports. spec.some_exports_of (view value.now) ≡ Ok exports.items) }
-    ensures few { IfOk result (λ exports. length exports.items ≤ most_exports) }
+    ensures few { IfOk result (λ exports. length exports.items ≤ max_exports) }
     ensures refused { IfErr result (Refuses (spec.some_exports_of (view value.now))) }
 {
     let items = items(value)?;
-    if items.len() > MOST_EXPORTS {
+    if items.len() > MAX_EXPORTS {
         return Err(PolicyRefusal::Fault(PolicyFault::BeyondLimit));
     }
     each_export(alloc, items)
@@ -157,7 +157,7 @@ fn some_exports(alloc: Global, value: &Value) -> Result<Vec<Export>, PolicyRefus
 /// The exports. None are listed where the key is missing.
 pub fn exports(alloc: Global, value: Option<&Value>) -> Result<Vec<Export>, PolicyRefusal>
     ensures ok { IfOk result (λ exports. spec.exports_of (option_map (λ v. view v.now) value.entry) ≡ Ok exports.items) }
-    ensures few { IfOk result (λ exports. length exports.items ≤ most_exports) }
+    ensures few { IfOk result (λ exports. length exports.items ≤ max_exports) }
     ensures refused { IfErr result (Refuses (spec.exports_of (option_map (λ v. view v.now) value.entry))) }
 {
     match value {

@@ -7,7 +7,7 @@ ghost use Rattle.policy.specs.Text as spec;
 
 use crate::values::{address, items, members, natural, required_member, with_known};
 use policy_limits::PolicyFault;
-use processor::{PAGE_BYTES, RAM_BASE, page_of};
+use spec_processor::{PAGE_BYTES, RAM_BASE, page_of};
 use sv_types::Span;
 use toml::{Table, Value};
 

@@ -1,7 +1,7 @@
 // Where a policy's text is refused in a module, for a person.
 
 ghost use Rattle.std.specs.Prelude.{◌≤◌};
-ghost use Rattle.sv_types.specs.Limits.{most_exports};
+ghost use Rattle.sv_types.specs.Limits.{max_exports};
 
 use crate::first::{first_refused, refuses};
 use crate::modules::{MODULE_KEYS, each_module, key_measure, key_name, key_pages};
@@ -9,7 +9,7 @@ use crate::place::list_key;
 use crate::refusal::PolicyRefusal;
 use crate::sites::{Bounds, each_site};
 use crate::values::{first_unknown, items, members, optional};
-use policy_limits::{MOST_MODULE_SITES, MOST_MODULES, MOST_SITES};
+use policy_limits::{MAX_MODULE_SITES, MAX_MODULES, MAX_SITES};
 use std::alloc::{AllocError, Global};
 use sv_types::ModulePolicy;
 use toml::{Table, Value};
@@ -20,7 +20,7 @@ pub(crate) fn modules_place(
     exports: usize,
     value: Option<&Value>,
 ) -> Result<Option<String>, AllocError>
-    requires { exports ≤ most_exports }
+    requires { exports ≤ max_exports }
 {
     let Some(value) = value else {
         return Ok(None);
@@ -28,7 +28,7 @@ pub(crate) fn modules_place(
     let Ok(items) = items(value) else {
         return Ok(Some(String::from_str(alloc, "key module")?));
     };
-    if items.len() > MOST_MODULES {
+    if items.len() > MAX_MODULES {
         return Ok(Some(String::from_str(alloc, "key module")?));
     }
     let refused = first_refused(items, |part| refuses(&each_module(alloc, exports, part)));
@@ -44,7 +44,7 @@ fn module_place(
     items: &[Value],
     i: usize,
 ) -> Result<Option<String>, AllocError>
-    requires { exports ≤ most_exports }
+    requires { exports ≤ max_exports }
 {
     let i = i.min(items.len());
     let Some(before) = sites_before(alloc, exports, &items[..i])? else {
@@ -58,7 +58,7 @@ fn module_place(
 
 // The sites of the modules of a list. None where it is refused.
 fn sites_before(alloc: Global, exports: usize, items: &[Value]) -> Result<Option<usize>, AllocError>
-    requires { exports ≤ most_exports }
+    requires { exports ≤ max_exports }
 {
     match each_module(alloc, exports, items) {
         Ok(before) => Ok(Some(sites_of(&before))),
@@ -74,7 +74,7 @@ fn item_place(
     i: usize,
     value: &Value,
 ) -> Result<Option<String>, AllocError>
-    requires { exports ≤ most_exports }
+    requires { exports ≤ max_exports }
 {
     match members(value) {
         Ok(table) => {
@@ -100,7 +100,7 @@ fn key_place(
     sites_before: usize,
     table: &Table,
 ) -> Result<String, AllocError>
-    requires { exports ≤ most_exports }
+    requires { exports ≤ max_exports }
 {
     if let Some(unknown) = first_unknown(&MODULE_KEYS, table) {
         return String::from_str(alloc, unknown);
@@ -130,7 +130,7 @@ fn sites_place(
     let Ok(items) = items(value) else {
         return String::from_str(alloc, "sites");
     };
-    if items.len() > MOST_MODULE_SITES || before.saturating_add(items.len()) > MOST_SITES {
+    if items.len() > MAX_MODULE_SITES || before.saturating_add(items.len()) > MAX_SITES {
         return String::from_str(alloc, "sites");
     }
     match first_refused(items, |part| refuses(&each_site(alloc, bounds, part))) {

@@ -1,7 +1,7 @@
 // The modules that may be loaded.
 
 ghost use Rattle.std.specs.Prelude.{◌≡◌, ◌+◌, ◌≤◌, [], IfOk, IfErr, option_map, map, length};
-ghost use Rattle.sv_types.specs.Limits.{most_exports, most_module_pages, most_sites};
+ghost use Rattle.sv_types.specs.Limits.{max_exports, max_module_pages, max_sites};
 ghost use Rattle.sv_types.specs.Policies as limits;
 ghost use Rattle.toml.specs.View.{view, table_view, items_view};
 ghost use Rattle.policy.specs.Refusals.{Refuses, judged_map};
@@ -10,7 +10,7 @@ ghost use Rattle.policy.specs.Text as spec;
 use crate::refusal::PolicyRefusal;
 use crate::sites::{Bounds, sites};
 use crate::values::{items, measure, members, name, natural, required_member, with_known};
-use policy_limits::{MOST_MODULE_PAGES, MOST_MODULES, PolicyFault, is_module};
+use policy_limits::{MAX_MODULE_PAGES, MAX_MODULES, PolicyFault, is_module};
 use std::alloc::Global;
 use sv_types::{Digest, ModulePolicy, Name};
 use toml::{Table, Value};
@@ -20,10 +20,10 @@ pub(crate) const MODULE_KEYS: [&str; 4] = ["name", "pages", "measure", "sites"];
 
 fn module_pages(value: &Value) -> Result<u32, PolicyFault>
     ensures value { result ≡ spec.module_pages_of (view value.now) }
-    ensures within { IfOk result (λ pages. pages ≤ most_module_pages) }
+    ensures within { IfOk result (λ pages. pages ≤ max_module_pages) }
 {
     let pages = natural(value)?;
-    if pages < 1 || pages > u64::from(MOST_MODULE_PAGES) {
+    if pages < 1 || pages > u64::from(MAX_MODULE_PAGES) {
         return Err(PolicyFault::BeyondLimit);
     }
     Ok(pages as u32)
@@ -38,7 +38,7 @@ pub(crate) fn key_name(table: &Table) -> Result<Name, PolicyFault>
 
 pub(crate) fn key_pages(table: &Table) -> Result<u32, PolicyFault>
     ensures value { result ≡ spec.key_pages (table_view table.now) }
-    ensures within { IfOk result (λ pages. pages ≤ most_module_pages) }
+    ensures within { IfOk result (λ pages. pages ≤ max_module_pages) }
 {
     let value = required_member(table, "pages")?;
     module_pages(value)
@@ -70,14 +70,14 @@ fn module_of_members(
     sites_before: usize,
     table: &Table,
 ) -> Result<ModulePolicy, PolicyRefusal>
-    requires few_exports { exports ≤ most_exports }
+    requires few_exports { exports ≤ max_exports }
     requires sites_of { sites_before ≡ limits.sites_of (map limits.module_rule before.now) }
-    requires few_sites { sites_before ≤ most_sites }
+    requires few_sites { sites_before ≤ max_sites }
     ensures ok { IfOk result (λ m.
         spec.module_of_members exports (map limits.module_rule before.now) (table_view table.now)
         ≡ Ok (limits.module_rule m)) }
     ensures refused { IfErr result (Refuses (spec.module_of_members exports (map limits.module_rule before.now) (table_view table.now))) }
-    ensures few { IfOk result (λ m. sites_before + length m.sites.items ≤ most_sites) }
+    ensures few { IfOk result (λ m. sites_before + length m.sites.items ≤ max_sites) }
 {
     let name = key_name(table)?;
     let pages = key_pages(table)?;
@@ -100,13 +100,13 @@ fn module(
     sites_before: usize,
     value: &Value,
 ) -> Result<ModulePolicy, PolicyRefusal>
-    requires few_exports { exports ≤ most_exports }
+    requires few_exports { exports ≤ max_exports }
     requires sites_of { sites_before ≡ limits.sites_of (map limits.module_rule before.now) }
-    requires few_sites { sites_before ≤ most_sites }
+    requires few_sites { sites_before ≤ max_sites }
     ensures ok { IfOk result (λ m.
         spec.module_of exports (map limits.module_rule before.now) (view value.now) ≡ Ok (limits.module_rule m)) }
     ensures refused { IfErr result (Refuses (spec.module_of exports (map limits.module_rule before.now) (view value.now))) }
-    ensures few { IfOk result (λ m. sites_before + length m.sites.items ≤ most_sites) }
+    ensures few { IfOk result (λ m. sites_before + length m.sites.items ≤ max_sites) }
 {
     let table = members(value)?;
     let table = with_known(MODULE_KEYS.as_slice(), table)?;
@@ -118,7 +118,7 @@ pub(crate) fn each_module(
     exports: usize,
     items: &[Value],
 ) -> Result<Vec<ModulePolicy>, PolicyRefusal>
-    requires { exports ≤ most_exports }
+    requires { exports ≤ max_exports }
     ensures ok { IfOk result (λ modules.
         spec.each_module exports [] (items_view items.now) ≡ Ok (map limits.module_rule modules.items)) }
     ensures refused { IfErr result (Refuses (spec.each_module exports [] (items_view items.now))) }
@@ -139,12 +139,12 @@ fn some_modules(
     exports: usize,
     value: &Value,
 ) -> Result<Vec<ModulePolicy>, PolicyRefusal>
-    requires { exports ≤ most_exports }
+    requires { exports ≤ max_exports }
     ensures ok { IfOk result (λ modules. spec.some_modules_of exports (view value.now) ≡ Ok (map limits.module_rule modules.items)) }
     ensures refused { IfErr result (Refuses (spec.some_modules_of exports (view value.now))) }
 {
     let items = items(value)?;
-    if items.len() > MOST_MODULES {
+    if items.len() > MAX_MODULES {
         return Err(PolicyRefusal::Fault(PolicyFault::BeyondLimit));
     }
     each_module(alloc, exports, items)
@@ -156,7 +156,7 @@ pub fn modules(
     exports: usize,
     value: Option<&Value>,
 ) -> Result<Vec<ModulePolicy>, PolicyRefusal>
-    requires { exports ≤ most_exports }
+    requires { exports ≤ max_exports }
     ensures ok { IfOk result (λ modules.
         spec.modules_of exports (option_map (λ v. view v.now) value.entry) ≡ Ok (map limits.module_rule modules.items)) }
     ensures refused { IfErr result (Refuses (spec.modules_of exports (option_map (λ v. view v.now) value.entry))) }

@@ -8,7 +8,7 @@ use crate::modules::key_measure;
 use crate::refusal::PolicyRefusal;
 use crate::text::{POLICY_KEYS, format, harts, key_entries, ram_pages};
 use crate::values::{first_unknown, items, members, optional};
-use policy_limits::{MOST_ENTRIES, MOST_EXPORTS};
+use policy_limits::{MAX_ENTRIES, MAX_EXPORTS};
 use std::alloc::{AllocError, Global};
 use std::str;
 use toml::de::Error;
@@ -106,7 +106,7 @@ fn entries_place(
     ram_pages: u32,
     value: Option<&Value>,
 ) -> Result<Option<String>, AllocError> {
-    let items = few_items(value, MOST_ENTRIES);
+    let items = few_items(value, MAX_ENTRIES);
     let item = first_refused(
         items,
         |part| refuses(&entries_by(alloc, format, ram_pages, part)),
@@ -115,7 +115,7 @@ fn entries_place(
 }
 
 fn exports_place(alloc: Global, value: Option<&Value>) -> Result<Option<String>, AllocError> {
-    let items = few_items(value, MOST_EXPORTS);
+    let items = few_items(value, MAX_EXPORTS);
     let item = first_refused(items, |part| refuses(&each_export(alloc, part)));
     list_key(alloc, "exports", item)
 }

@@ -12,7 +12,7 @@ ghost use Rattle.policy.specs.Text.{table_of_text, rules_of_text};
 ghost use Rattle.policy.specs.Printed as spec;
 
 use policy_limits::PLAIN_FORMAT;
-use processor::{PAGE_BYTES, RAM_BASE};
+use spec_processor::{PAGE_BYTES, RAM_BASE};
 use std::alloc::{AllocError, Global};
 use sv_types::{Digest, Export, ModulePolicy, Policy, Site, Span};
 use text_numbers::address_text;

@@ -1,7 +1,7 @@
 // The relocated fields of a module.
 
 ghost use Rattle.std.specs.Prelude.{◌≡◌, ◌≤◌, [], ◌+◌, length, IfOk, IfErr};
-ghost use Rattle.sv_types.specs.Limits.{most_exports, most_module_pages, most_sites};
+ghost use Rattle.sv_types.specs.Limits.{max_exports, max_module_pages, max_sites};
 ghost use Rattle.toml.specs.View.{view, items_view};
 ghost use Rattle.policy.specs.Refusals.{Refuses};
 ghost use Rattle.policy.specs.Text as spec;
@@ -9,7 +9,7 @@ ghost use Rattle.policy.specs.Text as spec;
 use crate::refusal::PolicyRefusal;
 use crate::values::{integer, items, natural};
 use policy_limits::{
-    MOST_MODULE_SITES, MOST_SITES, PolicyFault, is_aligned, is_anchor, is_behind, is_place,
+    MAX_MODULE_SITES, MAX_SITES, PolicyFault, is_after, is_aligned, is_anchor, is_place,
 };
 use std::alloc::Global;
 use sv_types::{FIRST_EXPORT_BASE, RelocationKind, Site};
@@ -20,12 +20,12 @@ use toml::Value;
 pub struct Bounds {
     pub pages: u32,
     pub exports: usize,
-    ghost few_pages: { pages ≤ most_module_pages },
-    ghost few_exports: { exports ≤ most_exports },
+    ghost few_pages: { pages ≤ max_module_pages },
+    ghost few_exports: { exports ≤ max_exports },
 }
 
 fn offset(pages: u32, value: &Value) -> Result<u32, PolicyFault>
-    requires { pages ≤ most_module_pages }
+    requires { pages ≤ max_module_pages }
     ensures { result ≡ spec.offset_of pages (view value.now) }
 {
     let offset = natural(value)?;
@@ -52,7 +52,7 @@ fn fitting_kind(kind: RelocationKind, offset: u32) -> Result<RelocationKind, Pol
 }
 
 fn base(exports: usize, value: &Value) -> Result<u16, PolicyFault>
-    requires { exports ≤ most_exports }
+    requires { exports ≤ max_exports }
     ensures { result ≡ spec.base_of exports (view value.now) }
 {
     let base = natural(value)?;
@@ -63,7 +63,7 @@ fn base(exports: usize, value: &Value) -> Result<u16, PolicyFault>
 }
 
 fn anchor(pages: u32, kind: RelocationKind, offset: u32, value: &Value) -> Result<u32, PolicyFault>
-    requires { pages ≤ most_module_pages }
+    requires { pages ≤ max_module_pages }
     ensures { result ≡ spec.anchor_of pages kind offset (view value.now) }
 {
     let anchor = natural(value)?;
@@ -76,7 +76,7 @@ fn anchor(pages: u32, kind: RelocationKind, offset: u32, value: &Value) -> Resul
 fn in_order(before: &[Site], site: Site) -> Result<Site, PolicyFault>
     ensures { result ≡ spec.in_order before.now site }
 {
-    if is_behind(before, &site) {
+    if is_after(before, &site) {
         Ok(site)
     } else {
         Err(PolicyFault::NotAscending)
@@ -157,13 +157,13 @@ pub fn sites(
     before: usize,
     value: &Value,
 ) -> Result<Vec<Site>, PolicyRefusal>
-    requires { before ≤ most_sites }
+    requires { before ≤ max_sites }
     ensures ok { IfOk result (λ sites. spec.sites_in bounds.pages bounds.exports before (view value.now) ≡ Ok sites.items) }
-    ensures few { IfOk result (λ sites. before + length sites.items ≤ most_sites) }
+    ensures few { IfOk result (λ sites. before + length sites.items ≤ max_sites) }
     ensures refused { IfErr result (Refuses (spec.sites_in bounds.pages bounds.exports before (view value.now))) }
 {
     let items = items(value)?;
-    if items.len() > MOST_MODULE_SITES || before + items.len() > MOST_SITES {
+    if items.len() > MAX_MODULE_SITES || before + items.len() > MAX_SITES {
         return Err(PolicyRefusal::Fault(PolicyFault::BeyondLimit));
     }
     each_site(alloc, bounds, items)

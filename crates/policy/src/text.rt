@@ -12,7 +12,7 @@ use crate::modules::{key_measure, modules};
 use crate::refusal::PolicyRefusal;
 use crate::values::{integer, natural, optional, required_member, with_known};
 use policy_limits::{
-    BOUND_FORMAT, FEWEST_RAM_PAGES, MOST_HARTS, MOST_RAM_PAGES, PLAIN_FORMAT, PolicyFault,
+    BOUND_FORMAT, MAX_HARTS, MAX_RAM_PAGES, MIN_RAM_PAGES, PLAIN_FORMAT, PolicyFault,
 };
 use std::alloc::Global;
 use std::str;
@@ -46,7 +46,7 @@ pub(crate) fn harts(table: &Table) -> Result<u8, PolicyFault>
 {
     let value = required_member(table, "harts")?;
     let harts = natural(value)?;
-    if harts < 1 || harts > u64::from(MOST_HARTS) {
+    if harts < 1 || harts > u64::from(MAX_HARTS) {
         return Err(PolicyFault::BeyondLimit);
     }
     Ok(harts as u8)
@@ -57,7 +57,7 @@ pub(crate) fn ram_pages(table: &Table) -> Result<u32, PolicyFault>
 {
     let value = required_member(table, "ram_pages")?;
     let pages = natural(value)?;
-    if pages < u64::from(FEWEST_RAM_PAGES) || pages > u64::from(MOST_RAM_PAGES) {
+    if pages < u64::from(MIN_RAM_PAGES) || pages > u64::from(MAX_RAM_PAGES) {
         return Err(PolicyFault::BeyondLimit);
     }
     Ok(pages as u32)
@@ -93,8 +93,8 @@ fn kernel_rule(ram_pages: u32, table: &Table) -> Result<(Digest, Option<Span>), 
 }
 
 // A policy, of what stands behind its entries.
-#[tactic(auto, unfolding(crate::specs::Text::rules_behind), using(crate::proofs::Judging::refused_on))]
-fn read_behind(
+#[tactic(auto, unfolding(crate::specs::Text::rules_after), using(crate::proofs::Judging::refused_on))]
+fn read_after(
     alloc: Global,
     format: u8,
     harts: u8,
@@ -103,8 +103,8 @@ fn read_behind(
     table: &Table,
 ) -> Result<Policy, PolicyRefusal>
     ensures ok { IfOk result (λ policy.
-        spec.rules_behind format harts ram_pages (entries.list.items, entries.bound.items) (table_view table.now) ≡ Ok (rules_of policy)) }
-    ensures refused { IfErr result (Refuses (spec.rules_behind format harts ram_pages (entries.list.items, entries.bound.items) (table_view table.now))) }
+        spec.rules_after format harts ram_pages (entries.list.items, entries.bound.items) (table_view table.now) ≡ Ok (rules_of policy)) }
+    ensures refused { IfErr result (Refuses (spec.rules_after format harts ram_pages (entries.list.items, entries.bound.items) (table_view table.now))) }
 {
     let exports = exports(alloc, optional(table, "exports"))?;
     let (kernel, init) = kernel_rule(ram_pages, table)?;
@@ -131,7 +131,7 @@ fn read_table(alloc: Global, table: &Table) -> Result<Policy, PolicyRefusal>
     let harts = harts(table)?;
     let ram_pages = ram_pages(table)?;
     let entries = key_entries(alloc, format, ram_pages, table)?;
-    read_behind(alloc, format, harts, ram_pages, entries, table)
+    read_after(alloc, format, harts, ram_pages, entries, table)
 }
 
 fn table(alloc: Global, bytes: &[u8]) -> Result<Table, PolicyRefusal>

@@ -9,7 +9,7 @@ ghost use Rattle.policy.specs.Refusals.{judged_map};
 ghost use Rattle.policy.specs.Values as spec;
 
 use policy_limits::PolicyFault;
-use processor::INSTRUCTION_BYTES;
+use spec_processor::INSTRUCTION_BYTES;
 use sv_types::{Digest, Name};
 use text_numbers::{address_of, digest_of};
 use toml::{Table, Value};

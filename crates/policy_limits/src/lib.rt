@@ -7,12 +7,12 @@ mod places;
 mod policy_fault;
 
 pub use limits::{
-    FEWEST_RAM_PAGES, MOST_EXPORTS, MOST_MODULE_PAGES, MOST_MODULE_SITES, MOST_MODULES,
-    MOST_RAM_PAGES, MOST_SITES, within,
+    MAX_EXPORTS, MAX_MODULE_PAGES, MAX_MODULE_SITES, MAX_MODULES, MAX_RAM_PAGES, MAX_SITES,
+    MIN_RAM_PAGES, within,
 };
 pub use names::is_module;
 pub use places::{
-    bound_fits, field_end, is_aligned, is_anchor, is_behind, is_low_part, is_place, site_size,
+    bound_fits, field_end, is_after, is_aligned, is_anchor, is_low_part, is_place, site_size,
 };
 pub use policy_fault::PolicyFault;
-pub use sv_types::{BOUND_FORMAT, MOST_ENTRIES, MOST_HARTS, PLAIN_FORMAT};
+pub use sv_types::{BOUND_FORMAT, MAX_ENTRIES, MAX_HARTS, PLAIN_FORMAT};

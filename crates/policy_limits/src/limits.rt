@@ -2,37 +2,37 @@
 
 ghost use Rattle.std.specs.Prelude.{◌≡◌, ◌==◌, ◌+◌, ◌≤◌, IsTrue, [], map, length};
 ghost use Rattle.std.specs.List.{list_any};
-ghost use Rattle.sv_types.specs.Limits.{most_exports, most_sites};
+ghost use Rattle.sv_types.specs.Limits.{max_exports, max_sites};
 ghost use Rattle.sv_types.specs.Policies as limits;
 
 use crate::names::{is_exported, is_module};
-use crate::places::{bound_fits, is_aligned, is_anchor, is_behind, is_place};
-use processor::INSTRUCTION_BYTES;
+use crate::places::{bound_fits, is_after, is_aligned, is_anchor, is_place};
+use spec_processor::INSTRUCTION_BYTES;
 use sv_types::{
-    BOUND_FORMAT, Export, FIRST_EXPORT_BASE, MOST_ENTRIES, MOST_HARTS, ModulePolicy, PLAIN_FORMAT,
+    BOUND_FORMAT, Export, FIRST_EXPORT_BASE, MAX_ENTRIES, MAX_HARTS, ModulePolicy, PLAIN_FORMAT,
     Policy, Site, Span,
 };
 
 /// The fewest pages of RAM.
-pub const FEWEST_RAM_PAGES: u32 = 16;
+pub const MIN_RAM_PAGES: u32 = 16;
 
 /// The most pages of RAM.
-pub const MOST_RAM_PAGES: u32 = 262_144;
+pub const MAX_RAM_PAGES: u32 = 262_144;
 
 /// The most exports.
-pub const MOST_EXPORTS: usize = 4096;
+pub const MAX_EXPORTS: usize = 4096;
 
 /// The most pages of a module.
-pub const MOST_MODULE_PAGES: u32 = 1024;
+pub const MAX_MODULE_PAGES: u32 = 1024;
 
 /// The most sites of a module.
-pub const MOST_MODULE_SITES: usize = 65_536;
+pub const MAX_MODULE_SITES: usize = 65_536;
 
 /// The most sites of all modules together.
-pub const MOST_SITES: usize = 131_072;
+pub const MAX_SITES: usize = 131_072;
 
 /// The most modules.
-pub const MOST_MODULES: usize = 64;
+pub const MAX_MODULES: usize = 64;
 
 fn entries_within(entries: &[u64]) -> bool
     ensures { result ≡ limits.entries_within entries.now }
@@ -72,14 +72,14 @@ fn init_within(ram_pages: u32, init: Option<Span>) -> bool
 }
 
 fn base_within(exports: usize, base: u16) -> bool
-    requires { exports ≤ most_exports }
+    requires { exports ≤ max_exports }
     ensures { result ≡ limits.base_within exports base }
 {
     usize::from(base) < usize::from(FIRST_EXPORT_BASE) + exports
 }
 
 fn site_within(pages: u32, exports: usize, site: Site) -> bool
-    requires { exports ≤ most_exports }
+    requires { exports ≤ max_exports }
     ensures { result ≡ limits.site_within pages exports site }
 {
     is_place(pages, u64::from(site.offset))
@@ -89,11 +89,11 @@ fn site_within(pages: u32, exports: usize, site: Site) -> bool
 }
 
 fn sites_within(pages: u32, exports: usize, sites: &[Site]) -> bool
-    requires { exports ≤ most_exports }
+    requires { exports ≤ max_exports }
     ensures { result ≡ limits.sites_within pages exports sites.now }
 {
     for (i, site) in sites.iter().enumerate() {
-        if !site_within(pages, exports, *site) || !is_behind(&sites[..i], site) {
+        if !site_within(pages, exports, *site) || !is_after(&sites[..i], site) {
             return false;
         }
     }
@@ -101,11 +101,11 @@ fn sites_within(pages: u32, exports: usize, sites: &[Site]) -> bool
 }
 
 fn sites_count_within(before: usize, count: usize) -> bool
-    requires { before ≤ most_sites }
+    requires { before ≤ max_sites }
     ensures value { result ≡ limits.sites_count_within before count }
-    ensures few { IsTrue result → before + count ≤ most_sites }
+    ensures few { IsTrue result → before + count ≤ max_sites }
 {
-    count <= MOST_MODULE_SITES && before + count <= MOST_SITES
+    count <= MAX_MODULE_SITES && before + count <= MAX_SITES
 }
 
 fn module_within(
@@ -114,21 +114,21 @@ fn module_within(
     sites_before: usize,
     m: &ModulePolicy,
 ) -> bool
-    requires few_exports { exports ≤ most_exports }
+    requires few_exports { exports ≤ max_exports }
     requires sites_of { sites_before ≡ limits.sites_of (map limits.module_rule before.now) }
-    requires few_sites { sites_before ≤ most_sites }
+    requires few_sites { sites_before ≤ max_sites }
     ensures value { result ≡ limits.module_within exports (map limits.module_rule before.now) (limits.module_rule m.now) }
-    ensures few { IsTrue result → sites_before + length m.now.sites.items ≤ most_sites }
+    ensures few { IsTrue result → sites_before + length m.now.sites.items ≤ max_sites }
 {
     1 <= m.pages
-        && m.pages <= MOST_MODULE_PAGES
+        && m.pages <= MAX_MODULE_PAGES
         && sites_count_within(sites_before, m.sites.len())
         && sites_within(m.pages, exports, m.sites.as_slice())
         && !is_module(&m.name, before)
 }
 
 fn modules_within(exports: usize, modules: &[ModulePolicy]) -> bool
-    requires { exports ≤ most_exports }
+    requires { exports ≤ max_exports }
     ensures { result ≡ limits.modules_within exports (map limits.module_rule modules.now) }
 {
     let mut sites = 0;
@@ -147,9 +147,9 @@ fn numbers_within(policy: &Policy) -> bool
     PLAIN_FORMAT <= policy.format
         && policy.format <= BOUND_FORMAT
         && 1 <= policy.harts
-        && policy.harts <= MOST_HARTS
-        && FEWEST_RAM_PAGES <= policy.ram_pages
-        && policy.ram_pages <= MOST_RAM_PAGES
+        && policy.harts <= MAX_HARTS
+        && MIN_RAM_PAGES <= policy.ram_pages
+        && policy.ram_pages <= MAX_RAM_PAGES
 }
 
 fn has_met(before: &[u64], entry: u64) -> bool
@@ -189,12 +189,12 @@ fn bound_within(policy: &Policy) -> bool
 
 fn lists_within(policy: &Policy) -> bool
     ensures value { result ≡ limits.lists_within (limits.rules_of policy.now) }
-    ensures few_exports { IsTrue result → length policy.now.exports.items ≤ most_exports }
+    ensures few_exports { IsTrue result → length policy.now.exports.items ≤ max_exports }
 {
     1 <= policy.entries.len()
-        && policy.entries.len() <= MOST_ENTRIES
+        && policy.entries.len() <= MAX_ENTRIES
         && entries_within(policy.entries.as_slice())
-        && policy.exports.len() <= MOST_EXPORTS
+        && policy.exports.len() <= MAX_EXPORTS
         && exports_within(policy.exports.as_slice())
         && bound_within(policy)
 }
@@ -206,6 +206,6 @@ pub fn within(policy: &Policy) -> bool
     numbers_within(policy)
         && lists_within(policy)
         && init_within(policy.ram_pages, policy.init)
-        && policy.modules.len() <= MOST_MODULES
+        && policy.modules.len() <= MAX_MODULES
         && modules_within(policy.exports.len(), policy.modules.as_slice())
 }

@@ -3,7 +3,7 @@
 ghost use Rattle.std.specs.Prelude.{◌≡◌, ◌≤◌, Some};
 ghost use Rattle.sv_types.specs.Policies as limits;
 
-use processor::{INSTRUCTION_BYTES, PAGE_BYTES, is_in_ram};
+use spec_processor::{INSTRUCTION_BYTES, PAGE_BYTES, is_in_ram};
 use sv_types::{RelocationKind, Site};
 
 /// The bytes of a field.
@@ -65,8 +65,8 @@ fn end(sites: &[Site]) -> u64
 }
 
 /// The site begins behind the fields of the sites before it.
-pub fn is_behind(before: &[Site], site: &Site) -> bool
-    ensures { result ≡ limits.is_behind before.now site.now }
+pub fn is_after(before: &[Site], site: &Site) -> bool
+    ensures { result ≡ limits.is_after before.now site.now }
 {
     end(before) <= u64::from(site.offset)
 }

@@ -6,7 +6,7 @@ use Rattle.std.specs.Str.{bytes_eq}
 use Rattle.std.proofs.lemmas.Bool.{and_parts}
 use Rattle.std.proofs.lemmas.Bool.Decides.{nat_tests}
 use Rattle.std.specs.Cmp.Derive.{both_true}
-use Rattle.processor.specs.Regions.{most_ram_pages}
+use Rattle.spec_processor.specs.Regions.{max_ram_pages}
 use Rattle.sv_types.specs.Kernel.{LoadedSegment, kernel_refusal, kernel_segments, text_of}
 use Rattle.sv_types.specs.Measure.{measure}
 use Rattle.sv_types.specs.Policies.{Rules, all_bound, bound_within, each_within, entries_count_within, entries_within, exports_count_within, exports_within, format_within, harts_within, init_within, lists_within, modules_count_within, modules_within, numbers_within, ram_pages_within, rules_within}
@@ -63,7 +63,7 @@ module _ (ram_pages : ℕ) (ss : List LoadedSegment) (all : All (IsInRam ram_pag
       let parts = and_parts (is_new before entry) (each_within is_new (before ++ entry ∷ []) entries) new in
       rw (well_fits ram_pages ss entry place bound.0, parts.0, bound_all (before ++ entry ∷ []) entries places bound.1 parts.1) refl
 
-  bound_text : (entries places : List ℕ) → ram_pages ≤ most_ram_pages → AreBound ram_pages ss entries places → list_all (is_in_text ss) places ≡ true
+  bound_text : (entries places : List ℕ) → ram_pages ≤ max_ram_pages → AreBound ram_pages ss entries places → list_all (is_in_text ss) places ≡ true
   bound_text [] [] few bound = refl
   bound_text [] (place ∷ places) few bound = absurd bound
   bound_text (entry ∷ entries) [] few bound = refl
@@ -153,7 +153,7 @@ count_of n most within some few = grind (arith, nat_tests)
 some_of : (n : ℕ) → entries_count_within n ≡ true → 1 ≤ n
 some_of n within = grind (arith, nat_tests)
 
-few_pages : (n : ℕ) → ram_pages_within n ≡ true → n ≤ most_ram_pages
+few_pages : (n : ℕ) → ram_pages_within n ≡ true → n ≤ max_ram_pages
 few_pages n within = grind (arith, nat_tests)
 
 with_places_within : (r : Rules) (ss : List LoadedSegment) (places : List ℕ) → All (IsInRam r.ram_pages) ss → HasLimits r

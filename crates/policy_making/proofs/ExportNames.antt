@@ -1,6 +1,6 @@
 -- Exports have the names that are wanted.
 use Rattle.std.proofs.Common.{◌≡◌, ℕ, Bool, true, false, List, [], ◌∷◌, ◌++◌, length, map, Ok, Err, Some, None, Option, refl, ap, sym, subst, ◌∙◌, arith}
-use Rattle.sv_types.specs.Limits.{most_exports}
+use Rattle.sv_types.specs.Limits.{max_exports}
 use Rattle.std.specs.Prelude.{◌==◌, nat_lt, if◌then◌else◌}
 use Rattle.std.proofs.lemmas.Bool.{eqb-true}
 use Rattle.std.proofs.lemmas.List.{append_assoc, append-nil, map-append}
@@ -47,7 +47,7 @@ few false exports found e = cc e
 few_of : (tables : Tables) (names : List (List ℕ)) (judged : refusals.Judged (List Export)) (found : List Export) → each (images.export_of tables) [] names ≡ judged
     → (judged >>= images.if_few) ≡ Ok found → names_of found ≡ names
 few_of tables names (Ok exports) found is e =
-    subst (λ (l : List Export). names_of l ≡ names) (few (nat_lt most_exports (length exports)) exports found e) (each_name tables [] exports names is)
+    subst (λ (l : List Export). names_of l ≡ names) (few (nat_lt max_exports (length exports)) exports found e) (each_name tables [] exports names is)
 few_of tables names (Err x) found is e = absurd (cc e)
 
 names_in : (o : Option Tables) (names : List (List ℕ)) (found : List Export) → images.exports_in o names ≡ Ok found → names_of found ≡ names

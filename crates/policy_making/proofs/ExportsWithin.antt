@@ -1,6 +1,6 @@
 -- Exports of wanted names are within the limits of a policy.
 use Rattle.std.proofs.Common.{◌≡◌, ℕ, ◌≤◌, Bool, true, false, not, ◌&&◌, ◌||◌, List, [], ◌∷◌, ◌++◌, length, map, Ok, refl, ap, sym, ◌∙◌, Less, subst, arith}
-use Rattle.sv_types.specs.Limits.{most_exports}
+use Rattle.sv_types.specs.Limits.{max_exports}
 use Rattle.std.specs.Prelude.{nat_le}
 use Rattle.std.specs.Cmp.Lexicographic.{slice_cmp}
 use Rattle.std.specs.List.{AllByRecursion}
@@ -52,9 +52,9 @@ wanted_within : (kernel : List ℕ) (names : List (List ℕ)) (exports : List Ex
 wanted_within kernel names exports is =
     each_within_from [] exports tt (subst (IsStrictlySortedBy (slice_cmp nat_cmp)) (sym (export_names kernel (each_once names) exports is)) (once_sorted names))
 
-few_wanted : (kernel : List ℕ) (names : List (List ℕ)) (exports : List Export) → exports_wanted kernel names ≡ Ok exports → nat_le (length exports) most_exports ≡ true
+few_wanted : (kernel : List ℕ) (names : List (List ℕ)) (exports : List Export) → exports_wanted kernel names ≡ Ok exports → nat_le (length exports) max_exports ≡ true
 few_wanted kernel names exports is =
-    let few : length exports ≤ most_exports = few_exports kernel (each_once names) exports is in grind (arith, nat_tests)
+    let few : length exports ≤ max_exports = few_exports kernel (each_once names) exports is in grind (arith, nat_tests)
 
 all_but : (a b c d e : Bool) → a ≡ true → b ≡ true → c ≡ true → d ≡ true → (a && b && c && d && e) ≡ e
 all_but a b c d e p q r s = rw (p, q, r, s) refl

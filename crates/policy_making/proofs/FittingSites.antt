@@ -1,20 +1,20 @@
 -- The fields of a module that is within its limits are aligned, and lie in its text.
 use Rattle.std.proofs.Common.{◌≡◌, ℕ, ◌-◌, ◌*◌, ◌%◌, ◌<◌, Bool, true, ◌&&◌, List, [], ◌∷◌, ◌++◌, length, refl, ap, ◌∙◌, arith, All}
-use Rattle.processor.specs.Bytes.{page_size}
+use Rattle.spec_processor.specs.Bytes.{page_size}
 use Rattle.std.specs.Prelude.{nat_lt, ◌==◌, if◌then◌else◌}
 use Rattle.std.proofs.lemmas.Bool.{and_parts}
 use Rattle.std.proofs.lemmas.Bool.Decides.{nat_tests}
-use Rattle.sv_types.specs.Policies.{module_pages_within, sites_count_within, sites_within, each_within, next_site_within, site_within, is_behind, place_within}
+use Rattle.sv_types.specs.Policies.{module_pages_within, sites_count_within, sites_within, each_within, next_site_within, site_within, is_after, place_within}
 use Rattle.sv_types.specs.declared.module.Site.{Site}
-use Rattle.relocated_fields.specs.Pieces.{piece_sites, lies_in, site_from, IsAligned}
+use Rattle.monitor_fields.specs.Pieces.{piece_sites, lies_in, site_from, IsAligned}
 use Rattle.elf64_reloc.specs.Modules.{Module, module_fits, pages_of}
-use Rattle.relocated_fields.proofs.RulesWithin.{sites_aligned, site_parts}
+use Rattle.monitor_fields.proofs.RulesWithin.{sites_aligned, site_parts}
 
 -- ---- one field
 
 inside : (pages exports : ℕ) (before : List Site) (site : Site) → next_site_within pages exports before site ≡ true → place_within pages site.offset ≡ true
 inside pages exports before site within =
-    (site_parts pages exports site (and_parts (site_within pages exports site) (is_behind before site) within).0).0
+    (site_parts pages exports site (and_parts (site_within pages exports site) (is_after before site) within).0).0
 
 lies : (text : List ℕ) (site : Site) → place_within (pages_of text) site.offset ≡ true → lies_in 0 (length text) site ≡ true
 lies text site at =

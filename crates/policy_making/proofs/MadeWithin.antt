@@ -16,7 +16,7 @@ use Rattle.elf64_sections.proofs.Steps.{ok_same}
 use Rattle.elf64_reloc.specs.Modules.{Module, module_judged}
 use Rattle.elf64_reloc.specs.declared.fault.ObjectFault.{ObjectFault}
 use Rattle.elf64_reloc.proofs.ModuleLimits.{module_within}
-use Rattle.policy_making.specs.Making.{ModuleFile, Terms, exports_wanted, file_names, file_of, few_sites, if_few_sites, module_made, modules_made, policy_behind, rule_of, rules_with}
+use Rattle.policy_making.specs.Making.{ModuleFile, Terms, exports_wanted, file_names, file_of, few_sites, if_few_sites, module_made, modules_made, policy_after, rule_of, rules_with}
 use Rattle.policy_making.specs.Ranges.{IsShort, terms_within}
 use Rattle.policy_making.specs.Refusals.{Judged, in_module}
 use Rattle.policy_making.specs.WordRanges.{all_new_names, are_module_names, is_among, is_new_name}
@@ -51,11 +51,11 @@ record AreMade (exports : ℕ) (names : List (List ℕ)) (rules : List ModuleRul
   names_are : rule_names rules ≡ names
   within : list_all (is_within exports) rules ≡ true
 
-all_behind : {A : Type 0} (p : A → Bool) (before : List A) (x : A) → list_all p before ≡ true → p x ≡ true → list_all p (before ++ x ∷ []) ≡ true
-all_behind p [] x all one = rw one refl
-all_behind p (y ∷ ys) x all one =
+all_after : {A : Type 0} (p : A → Bool) (before : List A) (x : A) → list_all p before ≡ true → p x ≡ true → list_all p (before ++ x ∷ []) ≡ true
+all_after p [] x all one = rw one refl
+all_after p (y ∷ ys) x all one =
     let parts = and_parts (p y) (list_all p ys) all in
-    rw (parts.0, all_behind p ys x parts.1 one) refl
+    rw (parts.0, all_after p ys x parts.1 one) refl
 
 one_more : (exports : ℕ) (names : List (List ℕ)) (before : List ModuleRule) (o : ModuleFile) (rule : ModuleRule) → AreMade exports names before → IsMade exports o rule
     → AreMade exports (names ++ o.name ∷ []) (before ++ rule ∷ [])
@@ -63,7 +63,7 @@ one_more exports names before o rule made one = record {
   names_are =
       map-append (λ (m : ModuleRule). m.name) before (rule ∷ []) ∙ ap (λ (n : List ℕ). rule_names before ++ (n ∷ [])) one.name
       ∙ ap (λ (ns : List (List ℕ)). ns ++ (o.name ∷ [])) made.names_are;
-  within = all_behind (is_within exports) before rule made.within one.within;
+  within = all_after (is_within exports) before rule made.within one.within;
 }
 
 all_by : (exports : List Export) (names : List (List ℕ)) (before rules : List ModuleRule) (o : ModuleFile) (objects : List ModuleFile) (judged : Judged ModuleRule) → module_made exports o ≡ judged
@@ -139,8 +139,8 @@ by_exports s digest kernel names objects rules (Ok exports) is e good named shor
 by_exports s digest kernel names objects rules (Err fault) is e good named short = absurd (cc e)
 
 pub policy_within : (s : Terms) (digest kernel : List ℕ) (names : List (List ℕ)) (objects : List ModuleFile) (rules : Rules) → terms_within s ≡ true → are_module_names (file_names objects) ≡ true
-    → All IsShort objects → policy_behind s kernel digest names objects ≡ Ok rules → rules_within rules ≡ true
-unfolding policy_behind
+    → All IsShort objects → policy_after s kernel digest names objects ≡ Ok rules → rules_within rules ≡ true
+unfolding policy_after
 policy_within s digest kernel names objects rules good named short e = by_exports s digest kernel names objects rules (exports_wanted kernel names) refl e good named short
 
 -- ---- the same of what the program makes

@@ -10,12 +10,12 @@ use Rattle.policy_making.specs.Binding.{each_once, with_entry}
 abbrev pub is_new : (before : List ℕ) (entry : ℕ) → Bool
 is_new before entry = not (list_any (λ e. e == entry) before)
 
-within_behind : {A : Type 0} (fits : List A → A → Bool) (before xs : List A) (y : A) → each_within fits before xs ≡ true → fits (before ++ xs) y ≡ true
+within_after : {A : Type 0} (fits : List A → A → Bool) (before xs : List A) (y : A) → each_within fits before xs ≡ true → fits (before ++ xs) y ≡ true
     → each_within fits before (xs ++ y ∷ []) ≡ true
-within_behind fits before [] y all one = rw (subst (λ (bs : List _). fits bs y ≡ true) (append-nil before) one) refl
-within_behind fits before (x ∷ xs) y all one =
+within_after fits before [] y all one = rw (subst (λ (bs : List _). fits bs y ≡ true) (append-nil before) one) refl
+within_after fits before (x ∷ xs) y all one =
     let parts = and_parts (fits before x) (each_within fits (before ++ x ∷ []) xs) all in
-    let rest = within_behind fits (before ++ x ∷ []) xs y parts.1 (subst (λ (bs : List _). fits bs y ≡ true) (sym (append_assoc before (x ∷ []) xs)) one) in
+    let rest = within_after fits (before ++ x ∷ []) xs y parts.1 (subst (λ (bs : List _). fits bs y ≡ true) (sym (append_assoc before (x ∷ []) xs)) one) in
     rw (parts.0, rest) refl
 
 -- what a list of entries is
@@ -30,8 +30,8 @@ once_more most once entry are whole = by_met (list_any (λ e. e == entry) once) 
     by_met : (b : Bool) → list_any (λ e. e == entry) once ≡ b → AreOnce (most + 1) (cond b once (once ++ entry ∷ []))
     by_met true is = record { new = are.new; whole = are.whole; few = let few = are.few in omega arith }
     by_met false is = record {
-      new = within_behind is_new [] once entry are.new (rw is refl);
-      whole = within_behind (λ before e. entry_within e) [] once entry are.whole whole;
+      new = within_after is_new [] once entry are.new (rw is refl);
+      whole = within_after (λ before e. entry_within e) [] once entry are.whole whole;
       few = let few = are.few in let long = length-append once (entry ∷ []) in omega arith;
     }
 

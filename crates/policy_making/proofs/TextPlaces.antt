@@ -6,8 +6,8 @@ use Rattle.std.proofs.lemmas.Bool.{and_parts, eqb-true}
 use Rattle.std.proofs.lemmas.Bool.Decides.{nat_tests}
 use Rattle.std.proofs.lemmas.List.Elements.{All-nil, All-cons, All-head, All-tail}
 use Rattle.std.proofs.lemmas.Map.Views.{any-filter_same}
-use Rattle.processor.specs.Bytes.{page_of, page_size, ram_base, ram_place}
-use Rattle.processor.specs.Regions.{most_ram_pages}
+use Rattle.spec_processor.specs.Bytes.{page_of, page_size, ram_base, ram_offset}
+use Rattle.spec_processor.specs.Regions.{max_ram_pages}
 use Rattle.sv_types.specs.ApprovedPages.{numbers_from}
 use Rattle.sv_types.specs.Kernel.{LoadedSegment, first_refusal, is_text_of, kernel_refusal, kernel_segments, loaded_headers, loaded_segment, segment_checks, text_pages}
 use Rattle.sv_types.specs.Policies.{bound_fits}
@@ -24,11 +24,11 @@ use Rattle.sv_types.proofs.FileChecks.{first_passed, rest_passed, accepted_heade
 
 pub record IsInRam (ram_pages : ℕ) (s : LoadedSegment) : Type 0 where
   pub above : ram_base ≤ s.gpa
-  pub inside : ram_place s.gpa + s.memory ≤ page_size * ram_pages
+  pub inside : ram_offset s.gpa + s.memory ≤ page_size * ram_pages
 
 in_ram : (file : List ℕ) (ram_pages : ℕ) (h : ProgramHeader) → Passed (length file) ram_pages h → IsInRam ram_pages (loaded_segment file h)
 in_ram file ram_pages h passed =
-    let tests : (nat_le ram_base h.gpa && nat_le (ram_place h.gpa + h.memory_size) (page_size * ram_pages)) ≡ true = passed.in_ram in
+    let tests : (nat_le ram_base h.gpa && nat_le (ram_offset h.gpa + h.memory_size) (page_size * ram_pages)) ≡ true = passed.in_ram in
     record { above = grind (arith, nat_tests); inside = grind (arith, nat_tests) }
 
 all_in_ram : (file : List ℕ) (ram_pages : ℕ) (hs : List ProgramHeader) → first_refusal (flat_map (segment_checks (length file) ram_pages) hs) ≡ None
@@ -152,15 +152,15 @@ there_from first (suc count) page low high = there_by (first == page) refl (λ l
     there_by true is rest = rw is refl
     there_by false is rest = rw (is, rest (grind (arith, nat_tests))) refl
 
-pub is_text_page : (ss : List LoadedSegment) (page : ℕ) → page < most_ram_pages → list_any (is_text_of page) ss ≡ true → list_any (λ p. p == page) (text_pages ss) ≡ true
+pub is_text_page : (ss : List LoadedSegment) (page : ℕ) → page < max_ram_pages → list_any (is_text_of page) ss ≡ true → list_any (λ p. p == page) (text_pages ss) ≡ true
 unfolding text_pages
 is_text_page ss page few is =
     any-filter_same (λ p. p == page) (λ p. list_any (is_text_of p) ss) true
     (λ p same. subst (λ (q : ℕ). list_any (is_text_of q) ss ≡ true) (sym (eqb-true p page same)) is)
-    (numbers_from 0 most_ram_pages)
-    ∙ there_from 0 most_ram_pages page (omega arith) few
+    (numbers_from 0 max_ram_pages)
+    ∙ there_from 0 max_ram_pages page (omega arith) few
 
-pub well_in_text : (ram_pages : ℕ) (ss : List LoadedSegment) (entry gpa : ℕ) → ram_pages ≤ most_ram_pages → IsBoundWell ram_pages ss entry gpa → is_in_text ss gpa ≡ true
+pub well_in_text : (ram_pages : ℕ) (ss : List LoadedSegment) (entry gpa : ℕ) → ram_pages ≤ max_ram_pages → IsBoundWell ram_pages ss entry gpa → is_in_text ss gpa ≡ true
 well_in_text ram_pages ss entry gpa few well =
     let s = well.place.segment in
     let above = well.place.in_ram.above in
@@ -169,9 +169,9 @@ well_in_text ram_pages ss entry gpa few well =
     let high = well.place.before in
     let first : nat_le ram_base gpa ≡ true = grind (arith, nat_tests) in
     let begins : nat_le (page_of s.gpa) (page_of gpa) ≡ true = grind (arith, nat_tests) in
-    let ends : nat_lt (page_size * page_of gpa) (ram_place s.gpa + s.memory) ≡ true = grind (arith, nat_tests) in
+    let ends : nat_lt (page_size * page_of gpa) (ram_offset s.gpa + s.memory) ≡ true = grind (arith, nat_tests) in
     let text : is_text_of (page_of gpa) s ≡ true = rw (well.place.executable, begins, ends) refl in
-    let page : page_of gpa < most_ram_pages = omega arith in
+    let page : page_of gpa < max_ram_pages = omega arith in
     rw (first, is_text_page ss (page_of gpa) page (well.place.among (is_text_of (page_of gpa)) text)) refl
 
 -- ---- ends

@@ -4,11 +4,11 @@ use Rattle.sv_types.proofs.InPages.{IsWhole}
 use Rattle.std.specs.Prelude.{flat_map, find, ◌==◌, if◌then◌else◌}
 use Rattle.std.specs.List.{list_all}
 use Rattle.std.proofs.lemmas.List.{length-replicate}
-use Rattle.processor.specs.Bytes.{with_padding, page_of, page_size}
+use Rattle.spec_processor.specs.Bytes.{with_padding, page_of, page_size}
 use Rattle.sv_types.specs.Kernel as kernels
 use Rattle.sv_types.specs.Kernel.{LoadedSegment, is_text_of, text_page, text_page_in}
 use Rattle.sv_types.specs.ApprovedPages.{numbers_from}
-use Rattle.processor.specs.Regions.{most_ram_pages}
+use Rattle.spec_processor.specs.Regions.{max_ram_pages}
 use Rattle.sv_types.specs.declared.module.Site.{Site}
 use Rattle.sv_types.specs.declared.policy.Export.{Export}
 use Rattle.sv_types.specs.Steps.{◌>>=◌}
@@ -42,7 +42,7 @@ pages_are_whole ss (page ∷ pages) =
 
 segments_are_whole : (ss : List LoadedSegment) → IsWhole (kernels.text_of ss)
 unfolding kernels.text_of
-segments_are_whole ss = pages_are_whole ss (numbers_from 0 most_ram_pages)
+segments_are_whole ss = pages_are_whole ss (numbers_from 0 max_ram_pages)
 
 pub text_is_whole : (text : List ℕ) (ss : List LoadedSegment) → text ≡ kernels.text_of ss → length text % page_size ≡ 0
 text_is_whole text ss is = subst IsWhole (sym is) (segments_are_whole ss)

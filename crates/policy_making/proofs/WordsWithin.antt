@@ -5,7 +5,7 @@ use Rattle.std.specs.List.{list_all, before_first, after_first}
 use Rattle.std.specs.Option.{option_map_or}
 use Rattle.std.proofs.lemmas.Bool.{and_parts}
 use Rattle.std.proofs.lemmas.List.{length-map}
-use Rattle.processor.specs.Bytes.{ram_base, page_size}
+use Rattle.spec_processor.specs.Bytes.{ram_base, page_size}
 use Rattle.sv_types.specs.Numbers.{number_within}
 use Rattle.sv_types.specs.Policies.{each_within, entry_within, entries_count_within, entries_within, span_within}
 use Rattle.sv_types.specs.declared.module.Span.{Span}

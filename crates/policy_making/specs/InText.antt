@@ -1,7 +1,7 @@
 -- Segments of a kernel, and addresses in its text.
 use Rattle.std.specs.Prelude.{◌≡◌, ℕ, ◌+◌, ◌<◌, ◌^◌, Bool, ◌&&◌, ◌==◌, nat_le, List, None}
 use Rattle.std.specs.List.{All, list_any}
-use Rattle.processor.specs.Bytes.{page_of, ram_base}
+use Rattle.spec_processor.specs.Bytes.{page_of, ram_base}
 use Rattle.sv_types.specs.Kernel.{LoadedSegment, kernel_refusal, kernel_segments, text_pages}
 
 -- an address in RAM, in one of the pages of text

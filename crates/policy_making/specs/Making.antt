@@ -6,13 +6,13 @@ use Rattle.std.specs.BTreeSet.{replace_key}
 use Rattle.std.specs.Cmp.Lexicographic.{slice_cmp}
 use Rattle.std.specs.Ordering.{nat_cmp}
 use Rattle.sv_types.specs.Kernel.{kernel_refusal, kernel_segments, text_of}
-use Rattle.sv_types.specs.Limits.{most_sites, plain_format}
+use Rattle.sv_types.specs.Limits.{max_sites, plain_format}
 use Rattle.sv_types.specs.Measure.{measure}
 use Rattle.sv_types.specs.Policies.{Rules, ModuleRule, sites_of}
 use Rattle.sv_types.specs.declared.image_fault.ImageFault.{ImageFault}
 use Rattle.sv_types.specs.declared.module.Span.{Span}
 use Rattle.sv_types.specs.declared.policy.Export.{Export}
-use Rattle.reference.specs.Relocations.{masked_text}
+use Rattle.spec_reference.specs.Relocations.{masked_text}
 use Rattle.sv_types.specs.Steps.{◌>>=◌}
 use Rattle.elf64_sections.specs.Judged.{each}
 use Rattle.elf64_load.specs.Exports.{exports_judged}
@@ -47,13 +47,13 @@ terms_of s = record { harts = s.harts; ram_pages = s.ram_pages; entries = s.entr
 
 -- ---- the kernel
 
-abbrev pub digest_behind : Option ImageFault → List ℕ → Judged (List ℕ)
-digest_behind (Some fault) kernel = Err (Image fault)
-digest_behind None kernel = Ok (measure (text_of (kernel_segments kernel)))
+abbrev pub digest_after : Option ImageFault → List ℕ → Judged (List ℕ)
+digest_after (Some fault) kernel = Err (Image fault)
+digest_after None kernel = Ok (measure (text_of (kernel_segments kernel)))
 
 -- the measure of its text
 unfoldable pub kernel_digest : List ℕ → ℕ → Judged (List ℕ)
-kernel_digest kernel ram_pages = digest_behind (kernel_refusal kernel ram_pages) kernel
+kernel_digest kernel ram_pages = digest_after (kernel_refusal kernel ram_pages) kernel
 
 -- ---- wanted names
 
@@ -112,13 +112,13 @@ rules_with s digest exports modules = record {
 
 -- the modules' sites together are few enough
 abbrev pub few_sites : List ModuleRule → Bool
-few_sites modules = nat_le (sites_of modules) most_sites
+few_sites modules = nat_le (sites_of modules) max_sites
 
 abbrev pub if_few_sites : Rules → Judged Rules
 if_few_sites r = if few_sites r.modules then Ok r else Err TooManySites
 
 -- the stages behind those of the kernel and of the wanted names
-unfoldable pub policy_behind : Terms → (kernel digest : List ℕ) → List (List ℕ) → List ModuleFile → Judged Rules
-policy_behind s kernel digest names objects =
+unfoldable pub policy_after : Terms → (kernel digest : List ℕ) → List (List ℕ) → List ModuleFile → Judged Rules
+policy_after s kernel digest names objects =
     exports_wanted kernel names >>= λ exports. modules_made exports objects >>= λ modules.
     if_few_sites (rules_with s digest exports modules)

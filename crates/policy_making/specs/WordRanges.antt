@@ -4,7 +4,7 @@ use Rattle.std.specs.List.{list_all, list_any, slice_split, before_first, after_
 use Rattle.std.specs.Option.{option_map_or}
 use Rattle.std.specs.Str.{bytes_eq}
 use Rattle.sv_types.specs.Numbers.{number_within}
-use Rattle.processor.specs.Bytes.{page_size, ram_base, page_of}
+use Rattle.spec_processor.specs.Bytes.{page_size, ram_base, page_of}
 use Rattle.sv_types.specs.Policies.{each_within, entries_count_within, entry_within, modules_count_within, span_within}
 use Rattle.sv_types.specs.declared.module.Span.{Span}
 use Rattle.sv_types.specs.Addresses.{address_of}

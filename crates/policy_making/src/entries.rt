@@ -4,8 +4,8 @@ ghost use Rattle.std.specs.Prelude.{◌≡◌, length, IfOk};
 ghost use Rattle.std.specs.List.{list_all};
 ghost use Rattle.policy_making.specs.WordRanges as spec;
 
-use policy_limits::MOST_ENTRIES;
-use processor::INSTRUCTION_BYTES;
+use policy_limits::MAX_ENTRIES;
+use spec_processor::INSTRUCTION_BYTES;
 use std::alloc::{AllocError, Global};
 use text_numbers::address_of;
 
@@ -36,7 +36,7 @@ fn all_entries(word: &str) -> bool
 pub fn are_entries(word: &str) -> bool
     ensures { result ≡ spec.are_entries word.now }
 {
-    1 <= parts_count(word) && parts_count(word) <= MOST_ENTRIES && all_entries(word)
+    1 <= parts_count(word) && parts_count(word) <= MAX_ENTRIES && all_entries(word)
 }
 
 fn address_or_zero(part: &str) -> u64

@@ -1,7 +1,7 @@
 // The exports that modules want of the kernel.
 
 ghost use Rattle.std.specs.Prelude.{◌≡◌, ◌≤◌, Ok, length, IfOk, IfErr};
-ghost use Rattle.sv_types.specs.Limits.{most_exports};
+ghost use Rattle.sv_types.specs.Limits.{max_exports};
 ghost use Rattle.policy_making.specs.Making as spec;
 ghost use Rattle.policy_making.specs.Refusals.{Refuses};
 
@@ -34,7 +34,7 @@ pub fn wanted_exports(
     names: &[Name],
 ) -> Result<Vec<Export>, MakingRefusal>
     ensures exports { IfOk result (λ exports. spec.exports_wanted kernel.now names.now ≡ Ok exports.items) }
-    ensures few { IfOk result (λ exports. length exports.items ≤ most_exports) }
+    ensures few { IfOk result (λ exports. length exports.items ≤ max_exports) }
     ensures refused { IfErr result (Refuses (spec.exports_wanted kernel.now names.now)) }
 {
     let once = each_once(alloc, names)?;

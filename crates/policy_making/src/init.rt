@@ -3,7 +3,7 @@
 ghost use Rattle.std.specs.Prelude.{◌≡◌, ◌≤◌};
 ghost use Rattle.policy_making.specs.WordRanges as spec;
 
-use processor::{PAGE_BYTES, is_in_ram, page_of};
+use spec_processor::{PAGE_BYTES, is_in_ram, page_of};
 use sv_types::Span;
 use text_numbers::{address_of, number_within};
 

@@ -5,7 +5,7 @@ ghost use Rattle.std.specs.Cmp.Lexicographic.{slice_cmp};
 ghost use Rattle.std.specs.List.{list_any};
 ghost use Rattle.std.specs.List.Sorted.{IsStrictlySortedBy};
 ghost use Rattle.std.specs.Ordering.{nat_cmp};
-ghost use Rattle.policy_making.specs.Making.{ModuleFile, Terms, each_once, exports_wanted, file_names, policy_behind};
+ghost use Rattle.policy_making.specs.Making.{ModuleFile, Terms, each_once, exports_wanted, file_names, policy_after};
 ghost use Rattle.policy_making.specs.Ranges.{IsShort, terms_within};
 ghost use Rattle.policy_making.specs.WordRanges.{are_module_names};
 ghost use Rattle.sv_types.specs.Policies.{Rules, rules_within};
@@ -22,5 +22,5 @@ pub fn law_exports_of_names()
 /// A policy that is made is within its limits, where the words are in their ranges, the objects have names of modules and
 /// each file of an object is at most 4 GiB.
 pub fn law_within_limits()
-    ensures { (s : Terms) (digest kernel : List ℕ) (names : List (List ℕ)) (objects : List ModuleFile) (rules : Rules) → terms_within s ≡ true → are_module_names (file_names objects) ≡ true → All IsShort objects → policy_behind s kernel digest names objects ≡ Ok rules → rules_within rules ≡ true }
+    ensures { (s : Terms) (digest kernel : List ℕ) (names : List (List ℕ)) (objects : List ModuleFile) (rules : Rules) → terms_within s ≡ true → are_module_names (file_names objects) ≡ true → All IsShort objects → policy_after s kernel digest names objects ≡ Ok rules → rules_within rules ≡ true }
 {}

@@ -6,13 +6,13 @@ ghost use Rattle.std.specs.Str.{bytes_eq};
 ghost use Rattle.policy_making.specs.WordRanges as spec;
 ghost use Rattle.sv_types.specs.Names.{name_within};
 
-use policy_limits::MOST_MODULES;
-use sv_types::MOST_NAME_BYTES;
+use policy_limits::MAX_MODULES;
+use sv_types::MAX_NAME_BYTES;
 
 fn is_name(word: &str) -> bool
     ensures { result ≡ name_within word.now }
 {
-    1 <= word.len() && word.len() <= MOST_NAME_BYTES
+    1 <= word.len() && word.len() <= MAX_NAME_BYTES
 }
 
 fn is_among(name: &str, words: &[String]) -> bool
@@ -43,5 +43,5 @@ fn all_new_names(words: &[String]) -> bool
 pub fn are_module_names(words: &[String]) -> bool
     ensures { result ≡ spec.are_module_names (map string_bytes words.now) }
 {
-    words.len() <= MOST_MODULES && all_new_names(words)
+    words.len() <= MAX_MODULES && all_new_names(words)
 }

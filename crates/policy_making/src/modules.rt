@@ -1,23 +1,23 @@
 // What a policy says of modules.
 
 ghost use Rattle.std.specs.Prelude.{◌≡◌, ◌≤◌, ◌%◌, ◌/◌, Ok, IsTrue, map, length, All, IfOk, IfErr};
-ghost use Rattle.processor.specs.Bytes.{page_size};
-ghost use Rattle.sv_types.specs.Limits.{most_exports};
+ghost use Rattle.spec_processor.specs.Bytes.{page_size};
+ghost use Rattle.sv_types.specs.Limits.{max_exports};
 ghost use Rattle.sv_types.specs.Measure as measures;
 ghost use Rattle.sv_types.specs.Policies.{module_pages_within, module_rule};
-ghost use Rattle.reference.specs.Relocations.{masked_text};
+ghost use Rattle.spec_reference.specs.Relocations.{masked_text};
 ghost use Rattle.elf64_reloc.specs.Modules.{pages_of};
 ghost use Rattle.elf64_reloc.specs.ModuleViews.{module_view};
-ghost use Rattle.relocated_fields.specs.Pieces.{piece_sites, IsAligned};
+ghost use Rattle.monitor_fields.specs.Pieces.{piece_sites, IsAligned};
 ghost use Rattle.policy_making.specs.Making as spec;
 ghost use Rattle.policy_making.specs.Refusals.{Refuses};
 
 use crate::object_file::ObjectFile;
 use crate::refusal::{MakingRefusal, of_module};
 use elf64_reloc::{ModuleImage, read_module};
+use monitor_fields::mask;
 use page_measure::{Silent, measure};
-use processor::PAGE_BYTES;
-use relocated_fields::mask;
+use spec_processor::PAGE_BYTES;
 use std::alloc::{AllocError, Global};
 use std::thread::Threads;
 use sv_types::{Digest, Export, ModulePolicy, Name, Site};
@@ -69,7 +69,7 @@ fn made_module<R: Threads + Sync>(
     exports: &[Export],
     object: &ObjectFile,
 ) -> Result<ModulePolicy, MakingRefusal>
-    requires few { length exports.now ≤ most_exports }
+    requires few { length exports.now ≤ max_exports }
     ensures made { IfOk result (λ made. spec.module_made exports.now (spec.file_of object.now) ≡ Ok (module_rule made)) }
     ensures refused { IfErr result (Refuses (spec.module_made exports.now (spec.file_of object.now))) }
 {
@@ -88,7 +88,7 @@ pub fn made_modules<R: Threads + Sync>(
     exports: &[Export],
     objects: &[ObjectFile],
 ) -> Result<Vec<ModulePolicy>, MakingRefusal>
-    requires few { length exports.now ≤ most_exports }
+    requires few { length exports.now ≤ max_exports }
     ensures made { IfOk result (λ made. spec.modules_made exports.now (map spec.file_of objects.now) ≡ Ok (map module_rule made.items)) }
     ensures refused { IfErr result (Refuses (spec.modules_made exports.now (map spec.file_of objects.now))) }
 {

@@ -8,7 +8,7 @@ ghost use Rattle.policy_making.specs.InText.{EndInWords};
 
 use crate::bind_fault::{BindFault, ConvertFault};
 use elf64_load::Segment;
-use processor::PAGE_BYTES;
+use spec_processor::PAGE_BYTES;
 
 // The memory of an executable segment, from this address on, holds the entry.
 fn holds_from(segment: &Segment, start: u64, entry: u64) -> bool

@@ -11,7 +11,7 @@ use crate::exports::wanted_exports;
 use crate::modules::made_modules;
 use crate::object_file::ObjectFile;
 use crate::refusal::{MakingFault, MakingRefusal};
-use policy_limits::MOST_SITES;
+use policy_limits::MAX_SITES;
 use std::alloc::Global;
 use std::thread::Threads;
 use sv_types::{Digest, ModulePolicy, Name, PLAIN_FORMAT, Policy, Span};
@@ -29,7 +29,7 @@ pub struct Settings {
 fn few_sites(modules: &[ModulePolicy]) -> bool
     ensures { result ≡ spec.few_sites (map module_rule modules.now) }
 {
-    let mut room = MOST_SITES;
+    let mut room = MAX_SITES;
     'modules: for module in modules {
         if module.sites.len() > room {
             return false;
@@ -53,8 +53,8 @@ fn if_few_sites(policy: Policy) -> Result<Policy, MakingRefusal>
 /// The policy of a kernel whose digest is known, and of modules, of which these names are wanted. Refuses the exports, the
 /// objects and more than 131,072 sites of all modules, and for want of memory. Where the settings are in their ranges and
 /// the objects have names of modules, the policy is within its limits. Each parameter comes of a word or a file of its own.
-#[tactic(auto, unfolding(crate::specs::Making::policy_behind), using(crate::proofs::Refused::refused_on))]
-pub fn policy_behind<R: Threads + Sync>(
+#[tactic(auto, unfolding(crate::specs::Making::policy_after), using(crate::proofs::Refused::refused_on))]
+pub fn policy_after<R: Threads + Sync>(
     rt: &R,
     alloc: Global,
     settings: Settings,
@@ -63,9 +63,9 @@ pub fn policy_behind<R: Threads + Sync>(
     names: &[Name],
     objects: &[ObjectFile],
 ) -> Result<Policy, MakingRefusal>
-    ensures policy { IfOk result (λ policy. spec.policy_behind (spec.terms_of settings) kernel.now digest names.now (map spec.file_of objects.now) ≡ Ok (rules_of policy)) }
+    ensures policy { IfOk result (λ policy. spec.policy_after (spec.terms_of settings) kernel.now digest names.now (map spec.file_of objects.now) ≡ Ok (rules_of policy)) }
     ensures within { terms_within (spec.terms_of settings) ≡ true → are_module_names (spec.file_names (map spec.file_of objects.now)) ≡ true → IfOk result (λ policy. rules_within (rules_of policy) ≡ true) }
-    ensures refused { IfErr result (Refuses (spec.policy_behind (spec.terms_of settings) kernel.now digest names.now (map spec.file_of objects.now))) }
+    ensures refused { IfErr result (Refuses (spec.policy_after (spec.terms_of settings) kernel.now digest names.now (map spec.file_of objects.now))) }
 {
     let exports = wanted_exports(alloc, kernel, names)?;
     let modules = made_modules(rt, alloc, &exports, objects)?;

@@ -3,7 +3,7 @@ ghost use Rattle.std.specs.Prelude.{◌≡◌, ◌++◌, OnOk, IfOk, string_byte
 ghost use Rattle.std.specs.Fmt.{signed_decimal};
 ghost use Rattle.sv_types.specs.declared.event.Note.TheVariants.{Demote, Denied, Load, Unload, Retire};
 ghost use Rattle.sv_types.specs.SbiCodes.{code_number};
-ghost use Rattle.reference.specs.Report as spec;
+ghost use Rattle.spec_reference.specs.Report as spec;
 
 use std::alloc::{AllocError, Global};
 use sv_types::{Note, SbiCode};
@@ -16,7 +16,7 @@ fn code_text(alloc: Global, code: SbiCode) -> Result<String, AllocError>
     format!(in alloc; "{number}")
 }
 
-#[tactic(auto, unfolding(reference::specs::Report::note_line))]
+#[tactic(auto, unfolding(spec_reference::specs::Report::note_line))]
 fn demote_line(alloc: Global, hart: u8, turn: u64, pc: u64, gpa: u64) -> Result<String, AllocError>
     ensures { IfOk result (λ t. string_bytes t ≡ spec.note_line (Demote hart turn pc gpa)) }
 {
@@ -25,7 +25,7 @@ fn demote_line(alloc: Global, hart: u8, turn: u64, pc: u64, gpa: u64) -> Result<
     format!(in alloc; "demote hart {hart} turn {turn} pc {pc} gpa {gpa}\n")
 }
 
-#[tactic(auto, unfolding(reference::specs::Report::note_line))]
+#[tactic(auto, unfolding(spec_reference::specs::Report::note_line))]
 fn denied_line(alloc: Global, gpa: u64) -> Result<String, AllocError>
     ensures { IfOk result (λ t. string_bytes t ≡ spec.note_line (Denied gpa)) }
 {
@@ -33,7 +33,7 @@ fn denied_line(alloc: Global, gpa: u64) -> Result<String, AllocError>
     format!(in alloc; "denied gpa {gpa}\n")
 }
 
-#[tactic(auto, unfolding(reference::specs::Report::note_line))]
+#[tactic(auto, unfolding(spec_reference::specs::Report::note_line))]
 fn load_line(
     alloc: Global,
     hart: u8,
@@ -47,7 +47,7 @@ fn load_line(
     format!(in alloc; "load hart {hart} turn {turn} id {id} code {code}\n")
 }
 
-#[tactic(auto, unfolding(reference::specs::Report::note_line))]
+#[tactic(auto, unfolding(spec_reference::specs::Report::note_line))]
 fn unload_line(
     alloc: Global,
     hart: u8,
@@ -61,7 +61,7 @@ fn unload_line(
     format!(in alloc; "unload hart {hart} turn {turn} id {id} code {code}\n")
 }
 
-#[tactic(auto, unfolding(reference::specs::Report::note_line))]
+#[tactic(auto, unfolding(spec_reference::specs::Report::note_line))]
 fn retire_line(alloc: Global, hart: u8, turn: u64, code: SbiCode) -> Result<String, AllocError>
     ensures { IfOk result (λ t. string_bytes t ≡ spec.note_line (Retire hart turn code)) }
 {

@@ -1,7 +1,7 @@
 // The whole report.
 ghost use Rattle.std.specs.Prelude.{◌≡◌, IfOk, string_bytes};
 ghost use Rattle.sv_types.specs.Output.{report_lines};
-ghost use Rattle.reference.specs.Report as spec;
+ghost use Rattle.spec_reference.specs.Report as spec;
 ghost use Rattle.report.specs.Journals.{journal_with};
 
 use crate::counts::{denied_line, events_line, notes_line, retired_line};

@@ -1,11 +1,11 @@
 -- A word's fields lead to its row of the instruction table, by each kind of row.
 use Rattle.std.proofs.Common.{◌≡◌, ℕ, ◌+◌, ◌*◌, ◌^◌, ◌<◌, sym, ◌∙◌, ap, Some, None, refl, ◌≢◌, inl, inr, Bool, true, false}
-use Rattle.processor.specs.declared.instruction.Instr.{Instr}
-use Rattle.processor.specs.Instructions.{bits, rows, rd, instruction_of, sc, lr, hyper_store}
-use Rattle.processor_laws.proofs.Decoding.{IsOnlyRow, found, mask_opcode, mask_funct3, mask_funct7, mask_funct6, mask_funct5, mask_funct5_rs2, mask_funct7_rs2, mask_funct7_no_rd, mask_whole}
+use Rattle.spec_processor.specs.declared.instruction.Instr.{Instr}
+use Rattle.spec_processor.specs.Instructions.{bits, rows, rd, instruction_of, sc, lr, hyper_store}
+use Rattle.laws_processor.proofs.Decoding.{IsOnlyRow, found, mask_opcode, mask_funct3, mask_funct7, mask_funct6, mask_funct5, mask_funct5_rs2, mask_funct7_rs2, mask_funct7_no_rd, mask_whole}
 use Rattle.std.specs.Prelude.{◌==◌, if◌then◌else◌}
 use Rattle.std.proofs.lemmas.Bool.{eqb-true, eqb-false}
-use Rattle.processor.specs.declared.instruction.HyperOp.{HyperOp}
+use Rattle.spec_processor.specs.declared.instruction.HyperOp.{HyperOp}
 use Rattle.rv64_decode.specs.Widths.{IsWidthCode}
 
 -- an instruction in a form, where its operation was chosen

@@ -1,7 +1,7 @@
 // The fields of a word: opcode, function codes, register numbers and immediates.
 
 ghost use Rattle.std.specs.Prelude.{◌≡◌, ◌+◌, ◌-◌, ◌^◌, ◌<◌, ◌≤◌};
-ghost use Rattle.processor.specs.Instructions as table;
+ghost use Rattle.spec_processor.specs.Instructions as table;
 
 // The bits from `low` up to below `high`.
 pub fn bits(word: u32, low: u32, high: u32) -> u32

@@ -1,10 +1,10 @@
 // The instructions of the forms: which fields each keeps.
 
 ghost use Rattle.std.specs.Prelude.{◌≡◌};
-ghost use Rattle.processor.specs.Instructions as table;
+ghost use Rattle.spec_processor.specs.Instructions as table;
 
 use crate::fields::{aq, bits, imm_b, imm_i, imm_j, imm_s, imm_u, rd, rl, rs1, rs2};
-use processor::{
+use spec_processor::{
     AmoOp, BranchOp, CsrOp, HyperOp, Instr, LoadOp, Op32Op, OpImm32Op, OpImmOp, OpOp, StoreOp,
 };
 

@@ -1,12 +1,12 @@
 // Words of jumps, branches and computations.
 
 ghost use Rattle.std.specs.Prelude.{◌≡◌};
-ghost use Rattle.processor.specs.Instructions as table;
-ghost use Rattle.processor.specs.Opcodes.{branch_opcode, jalr_opcode, op_32_opcode, op_imm_32_opcode, op_imm_opcode, op_opcode};
+ghost use Rattle.spec_processor.specs.Instructions as table;
+ghost use Rattle.spec_processor.specs.Opcodes.{branch_opcode, jalr_opcode, op_32_opcode, op_imm_32_opcode, op_imm_opcode, op_opcode};
 
 use crate::fields::{bits, funct3, funct7};
 use crate::forms;
-use processor::{BranchOp, Instr, Op32Op, OpImm32Op, OpImmOp, OpOp};
+use spec_processor::{BranchOp, Instr, Op32Op, OpImm32Op, OpImmOp, OpOp};
 
 pub fn jalr(word: u32) -> Option<Instr>
     requires { table.bits word 0 7 ≡ jalr_opcode }

@@ -8,18 +8,18 @@ mod memory;
 mod system;
 
 ghost use Rattle.std.specs.Prelude.{◌≡◌, IfSome, IsTrue};
-ghost use Rattle.processor.specs.Encoding.{fits};
-ghost use Rattle.processor.specs.Instructions.{instruction_of};
+ghost use Rattle.spec_processor.specs.Encoding.{fits};
+ghost use Rattle.spec_processor.specs.Instructions.{instruction_of};
 
 use fields::opcode;
 use integer::{branch, jalr, op, op_32, op_imm, op_imm_32};
 use memory::{atomic, fence, load, store};
-use processor::{
+use spec_processor::{
     AMO_OPCODE, AUIPC_OPCODE, BRANCH_OPCODE, JAL_OPCODE, JALR_OPCODE, LOAD_OPCODE, LUI_OPCODE,
     MISC_MEM_OPCODE, OP_32_OPCODE, OP_IMM_32_OPCODE, OP_IMM_OPCODE, OP_OPCODE, STORE_OPCODE,
     SYSTEM_OPCODE,
 };
-pub use processor::{
+pub use spec_processor::{
     AmoOp, BranchOp, CsrOp, HyperOp, Instr, LoadOp, Op32Op, OpImm32Op, OpImmOp, OpOp, StoreOp,
 };
 use system::system;

@@ -1,13 +1,13 @@
 // Words of loads, stores, fences and atomic operations.
 
 ghost use Rattle.std.specs.Prelude.{◌≡◌};
-ghost use Rattle.processor.specs.Instructions as table;
-ghost use Rattle.processor.specs.Opcodes.{amo_opcode, load_opcode, misc_mem_opcode, store_opcode};
+ghost use Rattle.spec_processor.specs.Instructions as table;
+ghost use Rattle.spec_processor.specs.Opcodes.{amo_opcode, load_opcode, misc_mem_opcode, store_opcode};
 ghost use Rattle.rv64_decode.specs.Widths.{IsWidthCode};
 
 use crate::fields::{bits, funct3, rs2};
 use crate::forms;
-use processor::{AmoOp, Instr, LoadOp, StoreOp};
+use spec_processor::{AmoOp, Instr, LoadOp, StoreOp};
 
 pub fn load(word: u32) -> Option<Instr>
     requires { table.bits word 0 7 ≡ load_opcode }

@@ -1,12 +1,12 @@
 // Words of the opcode SYSTEM.
 
 ghost use Rattle.std.specs.Prelude.{◌≡◌, ◌≢◌, ◌==◌, if◌then◌else◌};
-ghost use Rattle.processor.specs.Instructions as table;
-ghost use Rattle.processor.specs.Opcodes.{system_opcode};
+ghost use Rattle.spec_processor.specs.Instructions as table;
+ghost use Rattle.spec_processor.specs.Opcodes.{system_opcode};
 
 use crate::fields::{funct3, funct7, rd, rs2};
 use crate::forms;
-use processor::{CsrOp, EBREAK, ECALL, HyperOp, Instr, SRET, WFI};
+use spec_processor::{CsrOp, EBREAK, ECALL, HyperOp, Instr, SRET, WFI};
 
 pub fn system(word: u32) -> Option<Instr>
     requires { table.bits word 0 7 ≡ system_opcode }

@@ -1,13 +1,13 @@
 // The function codes of the operations.
 
 ghost use Rattle.std.specs.Prelude.{◌≡◌, ◌<◌};
-ghost use Rattle.processor.specs.Encoding as table;
+ghost use Rattle.spec_processor.specs.Encoding as table;
 
 use rv64_decode::{
     AmoOp, BranchOp, CsrOp, HyperOp, LoadOp, Op32Op, OpImm32Op, OpImmOp, OpOp, StoreOp,
 };
 
-#[tactic(auto, unfolding(processor::specs::Encoding::branch_funct3))]
+#[tactic(auto, unfolding(spec_processor::specs::Encoding::branch_funct3))]
 pub fn branch_funct3(op: BranchOp) -> u32
     ensures value { result ≡ table.branch_funct3 op }
     ensures bound { result < 8 }
@@ -22,7 +22,7 @@ pub fn branch_funct3(op: BranchOp) -> u32
     }
 }
 
-#[tactic(auto, unfolding(processor::specs::Encoding::load_funct3))]
+#[tactic(auto, unfolding(spec_processor::specs::Encoding::load_funct3))]
 pub fn load_funct3(op: LoadOp) -> u32
     ensures value { result ≡ table.load_funct3 op }
     ensures bound { result < 8 }
@@ -38,7 +38,7 @@ pub fn load_funct3(op: LoadOp) -> u32
     }
 }
 
-#[tactic(auto, unfolding(processor::specs::Encoding::store_funct3))]
+#[tactic(auto, unfolding(spec_processor::specs::Encoding::store_funct3))]
 pub fn store_funct3(op: StoreOp) -> u32
     ensures value { result ≡ table.store_funct3 op }
     ensures bound { result < 8 }
@@ -51,7 +51,7 @@ pub fn store_funct3(op: StoreOp) -> u32
     }
 }
 
-#[tactic(auto, unfolding(processor::specs::Encoding::op_imm_funct3))]
+#[tactic(auto, unfolding(spec_processor::specs::Encoding::op_imm_funct3))]
 pub fn op_imm_funct3(op: OpImmOp) -> u32
     ensures value { result ≡ table.op_imm_funct3 op }
     ensures bound { result < 8 }
@@ -68,7 +68,7 @@ pub fn op_imm_funct3(op: OpImmOp) -> u32
     }
 }
 
-#[tactic(auto, unfolding(processor::specs::Encoding::op_imm_32_funct3))]
+#[tactic(auto, unfolding(spec_processor::specs::Encoding::op_imm_32_funct3))]
 pub fn op_imm_32_funct3(op: OpImm32Op) -> u32
     ensures value { result ≡ table.op_imm_32_funct3 op }
     ensures bound { result < 8 }
@@ -80,7 +80,7 @@ pub fn op_imm_32_funct3(op: OpImm32Op) -> u32
     }
 }
 
-#[tactic(auto, unfolding(processor::specs::Encoding::arithmetic_bit))]
+#[tactic(auto, unfolding(spec_processor::specs::Encoding::arithmetic_bit))]
 pub fn arithmetic_bit(op: OpImmOp) -> u32
     ensures value { result ≡ table.arithmetic_bit op }
     ensures bound { result < 2048 }
@@ -91,7 +91,7 @@ pub fn arithmetic_bit(op: OpImmOp) -> u32
     }
 }
 
-#[tactic(auto, unfolding(processor::specs::Encoding::arithmetic_bit_32))]
+#[tactic(auto, unfolding(spec_processor::specs::Encoding::arithmetic_bit_32))]
 pub fn arithmetic_bit_32(op: OpImm32Op) -> u32
     ensures value { result ≡ table.arithmetic_bit_32 op }
     ensures bound { result < 2048 }
@@ -102,7 +102,7 @@ pub fn arithmetic_bit_32(op: OpImm32Op) -> u32
     }
 }
 
-#[tactic(auto, unfolding(processor::specs::Encoding::op_funct7))]
+#[tactic(auto, unfolding(spec_processor::specs::Encoding::op_funct7))]
 pub fn op_funct7(op: OpOp) -> u32
     ensures value { result ≡ table.op_funct7 op }
     ensures bound { result < 128 }
@@ -121,7 +121,7 @@ pub fn op_funct7(op: OpOp) -> u32
     }
 }
 
-#[tactic(auto, unfolding(processor::specs::Encoding::op_funct3))]
+#[tactic(auto, unfolding(spec_processor::specs::Encoding::op_funct3))]
 pub fn op_funct3(op: OpOp) -> u32
     ensures value { result ≡ table.op_funct3 op }
     ensures bound { result < 8 }
@@ -138,7 +138,7 @@ pub fn op_funct3(op: OpOp) -> u32
     }
 }
 
-#[tactic(auto, unfolding(processor::specs::Encoding::op_32_funct7))]
+#[tactic(auto, unfolding(spec_processor::specs::Encoding::op_32_funct7))]
 pub fn op_32_funct7(op: Op32Op) -> u32
     ensures value { result ≡ table.op_32_funct7 op }
     ensures bound { result < 128 }
@@ -150,7 +150,7 @@ pub fn op_32_funct7(op: Op32Op) -> u32
     }
 }
 
-#[tactic(auto, unfolding(processor::specs::Encoding::op_32_funct3))]
+#[tactic(auto, unfolding(spec_processor::specs::Encoding::op_32_funct3))]
 pub fn op_32_funct3(op: Op32Op) -> u32
     ensures value { result ≡ table.op_32_funct3 op }
     ensures bound { result < 8 }
@@ -165,7 +165,7 @@ pub fn op_32_funct3(op: Op32Op) -> u32
     }
 }
 
-#[tactic(auto, unfolding(processor::specs::Encoding::csr_funct3))]
+#[tactic(auto, unfolding(spec_processor::specs::Encoding::csr_funct3))]
 pub fn csr_funct3(op: CsrOp) -> u32
     ensures value { result ≡ table.csr_funct3 op }
     ensures bound { result < 8 }
@@ -180,7 +180,7 @@ pub fn csr_funct3(op: CsrOp) -> u32
     }
 }
 
-#[tactic(auto, unfolding(processor::specs::Encoding::amo_funct5))]
+#[tactic(auto, unfolding(spec_processor::specs::Encoding::amo_funct5))]
 pub fn amo_funct5(op: AmoOp) -> u32
     ensures value { result ≡ table.amo_funct5 op }
     ensures bound { result < 32 }
@@ -198,7 +198,7 @@ pub fn amo_funct5(op: AmoOp) -> u32
     }
 }
 
-#[tactic(auto, unfolding(processor::specs::Encoding::hyper_funct7))]
+#[tactic(auto, unfolding(spec_processor::specs::Encoding::hyper_funct7))]
 pub fn hyper_funct7(op: HyperOp) -> u32
     ensures value { result ≡ table.hyper_funct7 op }
     ensures bound { result < 128 }
@@ -216,7 +216,7 @@ pub fn hyper_funct7(op: HyperOp) -> u32
     }
 }
 
-#[tactic(auto, unfolding(processor::specs::Encoding::hyper_funct3))]
+#[tactic(auto, unfolding(spec_processor::specs::Encoding::hyper_funct3))]
 pub fn hyper_funct3(op: HyperOp) -> u32
     ensures value { result ≡ table.hyper_funct3 op }
     ensures bound { result < 8 }
@@ -227,7 +227,7 @@ pub fn hyper_funct3(op: HyperOp) -> u32
     }
 }
 
-#[tactic(auto, unfolding(processor::specs::Encoding::hyper_number))]
+#[tactic(auto, unfolding(spec_processor::specs::Encoding::hyper_number))]
 pub fn hyper_number(op: HyperOp) -> u32
     ensures value { result ≡ table.hyper_number op }
     ensures bound { result < 4 }

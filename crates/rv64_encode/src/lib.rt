@@ -6,8 +6,8 @@ mod range;
 mod words;
 
 ghost use Rattle.std.specs.Prelude.{◌≡◌, Some, IsTrue};
-ghost use Rattle.processor.specs.Encoding as table;
-ghost use Rattle.processor.specs.Instructions.{instruction_of};
+ghost use Rattle.spec_processor.specs.Encoding as table;
+ghost use Rattle.spec_processor.specs.Instructions.{instruction_of};
 
 pub use range::fits;
 pub use rv64_decode::Instr;

@@ -1,13 +1,13 @@
 // Which instructions have a word.
 
 ghost use Rattle.std.specs.Prelude.{◌≡◌, ◌<◌, ◌≤◌, ◌&&◌, ◌==◌, if◌then◌else◌};
-ghost use Rattle.processor.specs.Encoding as table;
+ghost use Rattle.spec_processor.specs.Encoding as table;
 
-use processor::REGISTERS;
 use rv64_decode::{HyperOp, Instr, OpImm32Op, OpImmOp};
+use spec_processor::REGISTERS;
 
 /// Whether an instruction's fields are in range, so that a word encodes it.
-#[tactic(auto, unfolding(processor::specs::Encoding::fits))]
+#[tactic(auto, unfolding(spec_processor::specs::Encoding::fits))]
 pub fn fits(instr: &Instr) -> bool
     ensures { result ≡ table.fits instr.now }
 {
@@ -97,14 +97,14 @@ fn operand(is_shift: bool, limit: u8, imm: i64, shamt: u8) -> bool
     }
 }
 
-#[tactic(auto, unfolding(processor::specs::Encoding::is_shift))]
+#[tactic(auto, unfolding(spec_processor::specs::Encoding::is_shift))]
 fn is_shift(op: OpImmOp) -> bool
     ensures { result ≡ table.is_shift op }
 {
     matches!(op, OpImmOp::Slli | OpImmOp::Srli | OpImmOp::Srai)
 }
 
-#[tactic(auto, unfolding(processor::specs::Encoding::is_shift_32))]
+#[tactic(auto, unfolding(spec_processor::specs::Encoding::is_shift_32))]
 fn is_shift_32(op: OpImm32Op) -> bool
     ensures { result ≡ table.is_shift_32 op }
 {
@@ -124,7 +124,7 @@ fn fixed_field(op: HyperOp, rd: u8, rs2: u8) -> bool
     if is_hyper_load(op) { rs2 == 0 } else { rd == 0 }
 }
 
-#[tactic(auto, unfolding(processor::specs::Encoding::is_hyper_load))]
+#[tactic(auto, unfolding(spec_processor::specs::Encoding::is_hyper_load))]
 fn is_hyper_load(op: HyperOp) -> bool
     ensures { result ≡ table.is_hyper_load op }
 {

@@ -1,18 +1,18 @@
 // Words by their fields.
 
 ghost use Rattle.std.specs.Prelude.{◌≡◌, ◌+◌, ◌-◌, ◌^◌, ◌<◌, ◌≤◌, IsTrue};
-ghost use Rattle.processor.specs.Encoding as table;
+ghost use Rattle.spec_processor.specs.Encoding as table;
 
 use crate::codes;
-use processor::{
+use rv64_decode::{HyperOp, Instr};
+use spec_processor::{
     AMO_OPCODE, AUIPC_OPCODE, BRANCH_OPCODE, EBREAK, ECALL, JAL_OPCODE, JALR_OPCODE, LOAD_OPCODE,
     LUI_OPCODE, OP_32_OPCODE, OP_IMM_32_OPCODE, OP_IMM_OPCODE, OP_OPCODE, SRET, STORE_OPCODE,
     SYSTEM_OPCODE, WFI,
 };
-use rv64_decode::{HyperOp, Instr};
 
 /// The word of an instruction whose fields are in range.
-#[tactic(auto, unfolding(processor::specs::Encoding::fits, processor::specs::Encoding::word_of))]
+#[tactic(auto, unfolding(spec_processor::specs::Encoding::fits, spec_processor::specs::Encoding::word_of))]
 pub fn word(instr: &Instr) -> u32
     requires { IsTrue (table.fits instr.now) }
     ensures { result ≡ table.word_of instr.now }
@@ -168,7 +168,7 @@ fn amo_funct7(funct5: u32, aq: bool, rl: bool) -> u32
     4 * funct5 + 2 * u32::from(aq) + u32::from(rl)
 }
 
-#[tactic(auto, unfolding(processor::specs::Encoding::fits, processor::specs::Encoding::word_of, processor::specs::Encoding::is_hyper_load, processor::specs::Encoding::hyper_number))]
+#[tactic(auto, unfolding(spec_processor::specs::Encoding::fits, spec_processor::specs::Encoding::word_of, spec_processor::specs::Encoding::is_hyper_load, spec_processor::specs::Encoding::hyper_number))]
 fn hyper_word(op: HyperOp, rd: u8, rs1: u8, rs2: u8) -> u32
     requires { IsTrue (table.fits (Instr.Hyper op rd rs1 rs2)) }
     ensures { result ≡ table.word_of (Instr.Hyper op rd rs1 rs2) }

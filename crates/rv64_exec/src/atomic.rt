@@ -1,7 +1,7 @@
 // What an atomic operation stores.
 
 ghost use Rattle.std.specs.Prelude.{◌≡◌, ◌⊎◌, ◌%◌, ◌^◌};
-ghost use Rattle.processor.specs.Effects as table;
+ghost use Rattle.spec_processor.specs.Effects as table;
 ghost use Rattle.std.specs.Int.{w32, w64};
 
 use crate::word::low_word;
@@ -9,7 +9,7 @@ use rv64_decode::AmoOp;
 
 /// The value that an atomic operation stores, from the value that it read and its source. At a width of 4 bytes it
 /// takes both by their low 32 bits, and its value is below 2^32.
-#[tactic(auto, unfolding(processor::specs::Effects::amo_value))]
+#[tactic(auto, unfolding(spec_processor::specs::Effects::amo_value))]
 pub fn amo(op: AmoOp, width: u8, old: u64, src: u64) -> u64
     requires { (width ≡ 4) ⊎ (width ≡ 8) }
     ensures { result ≡ table.amo_value op width old src }
@@ -21,7 +21,7 @@ pub fn amo(op: AmoOp, width: u8, old: u64, src: u64) -> u64
     }
 }
 
-#[tactic(auto, unfolding(processor::specs::Effects::amo_word))]
+#[tactic(auto, unfolding(spec_processor::specs::Effects::amo_word))]
 fn amo_word(op: AmoOp, low_old: u32, low_src: u32) -> u32
     ensures { result ≡ table.low_word (table.amo_word w32 op low_old low_src) }
 {
@@ -44,7 +44,7 @@ fn amo_word(op: AmoOp, low_old: u32, low_src: u32) -> u32
     }
 }
 
-#[tactic(auto, using(crate::proofs::WordLemmas::or_whole, crate::proofs::WordLemmas::xor_whole), unfolding(processor::specs::Effects::amo_word))]
+#[tactic(auto, using(crate::proofs::WordLemmas::or_whole, crate::proofs::WordLemmas::xor_whole), unfolding(spec_processor::specs::Effects::amo_word))]
 fn amo_double(op: AmoOp, old: u64, src: u64) -> u64
     ensures { result ≡ table.amo_word w64 op old src % 2 ^ 64 }
 {

@@ -1,7 +1,7 @@
 // Computations on machine words.
 
 ghost use Rattle.std.specs.Prelude.{◌≡◌, ◌<◌, ◌*◌, ◌/◌, ◌%◌, ◌^◌, ◌*ℤ◌, pos};
-ghost use Rattle.processor.specs.Effects as table;
+ghost use Rattle.spec_processor.specs.Effects as table;
 
 use crate::divide::{quotient, quotient_unsigned, remainder, remainder_unsigned};
 use rv64_decode::{BranchOp, OpImmOp, OpOp};
@@ -61,7 +61,7 @@ fn upper_unsigned(a: u64, b: u64) -> u64
     ((u128::from(a) * u128::from(b)) >> 64) as u64
 }
 
-#[tactic(auto, unfolding(processor::specs::Effects::op_value))]
+#[tactic(auto, unfolding(spec_processor::specs::Effects::op_value))]
 #[inline(always)]
 pub fn op(op: OpOp, a: u64, b: u64) -> u64
     ensures { result ≡ table.op_value op a b }
@@ -88,7 +88,7 @@ pub fn op(op: OpOp, a: u64, b: u64) -> u64
     }
 }
 
-#[tactic(auto, unfolding(processor::specs::Effects::op_imm_value))]
+#[tactic(auto, unfolding(spec_processor::specs::Effects::op_imm_value))]
 #[inline(always)]
 pub fn op_imm(op: OpImmOp, a: u64, imm: u64, shamt: u8) -> u64
     requires { shamt < 64 }
@@ -107,7 +107,7 @@ pub fn op_imm(op: OpImmOp, a: u64, imm: u64, shamt: u8) -> u64
     }
 }
 
-#[tactic(auto, unfolding(processor::specs::Effects::branch_taken))]
+#[tactic(auto, unfolding(spec_processor::specs::Effects::branch_taken))]
 #[inline(always)]
 pub fn branch_taken(op: BranchOp, a: u64, b: u64) -> bool
     ensures { result ≡ table.branch_taken op a b }

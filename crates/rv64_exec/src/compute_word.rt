@@ -1,7 +1,7 @@
 // Computations on the low 32 bits, whose results are sign-extended.
 
 ghost use Rattle.std.specs.Prelude.{◌≡◌, ◌<◌, ◌%◌};
-ghost use Rattle.processor.specs.Effects as table;
+ghost use Rattle.spec_processor.specs.Effects as table;
 
 use crate::divide::{quotient_low, quotient_unsigned_low, remainder_low, remainder_unsigned_low};
 use crate::word::{low_word, sign_extend, sign_extended, signed_low};
@@ -39,7 +39,7 @@ fn shift_right_signed(a: u64, count: u32) -> u64
     sign_extended(signed_low(a).wrapping_shr(count))
 }
 
-#[tactic(auto, unfolding(processor::specs::Effects::op_32_value))]
+#[tactic(auto, unfolding(spec_processor::specs::Effects::op_32_value))]
 #[inline(always)]
 pub fn op_32(op: Op32Op, a: u64, b: u64) -> u64
     ensures { result ≡ table.op_32_value op a b }
@@ -58,7 +58,7 @@ pub fn op_32(op: Op32Op, a: u64, b: u64) -> u64
     }
 }
 
-#[tactic(auto, unfolding(processor::specs::Effects::op_imm_32_value))]
+#[tactic(auto, unfolding(spec_processor::specs::Effects::op_imm_32_value))]
 #[inline(always)]
 pub fn op_imm_32(op: OpImm32Op, a: u64, imm: u64, shamt: u8) -> u64
     requires { shamt < 32 }

@@ -1,7 +1,7 @@
 // Quotients and remainders. Division by zero gives all ones, and leaves the dividend as remainder.
 
 ghost use Rattle.std.specs.Prelude.{◌≡◌};
-ghost use Rattle.processor.specs.Effects as table;
+ghost use Rattle.spec_processor.specs.Effects as table;
 
 use crate::word::{low_word, sign_extend, sign_extended, signed_low};
 

@@ -1,17 +1,17 @@
 // The effect of an instruction.
 
 ghost use Rattle.std.specs.Prelude.{◌≡◌, IsTrue};
-ghost use Rattle.processor.specs.Effects as table;
-ghost use Rattle.processor.specs.Encoding.{fits};
+ghost use Rattle.spec_processor.specs.Effects as table;
+ghost use Rattle.spec_processor.specs.Encoding.{fits};
 
 use crate::compute::{branch_taken, op, op_imm};
 use crate::compute_word::{op_32, op_imm_32};
 use crate::registers::Regs;
-use processor::{Effect, INSTRUCTION_BYTES};
 use rv64_decode::{CsrOp, Instr, LoadOp, StoreOp};
+use spec_processor::{Effect, INSTRUCTION_BYTES};
 
 /// What an instruction whose fields are in range does on these registers at this pc, or asks of the rest of the machine.
-#[tactic(auto, unfolding(processor::specs::Effects::effect_of, processor::specs::Encoding::fits))]
+#[tactic(auto, unfolding(spec_processor::specs::Effects::effect_of, spec_processor::specs::Encoding::fits))]
 #[inline(always)]
 pub fn effect(instr: &Instr, regs: &Regs, pc: u64) -> Effect
     requires { IsTrue (fits instr.now) }
@@ -146,7 +146,7 @@ fn branch(taken: bool, target: u64, next: u64) -> Effect
     }
 }
 
-#[tactic(auto, unfolding(processor::specs::Effects::load_width, processor::specs::Effects::load_signed))]
+#[tactic(auto, unfolding(spec_processor::specs::Effects::load_width, spec_processor::specs::Effects::load_signed))]
 #[inline(always)]
 fn load(op: LoadOp, rd: u8, addr: u64) -> Effect
     ensures { result ≡ Effect.Load rd addr (table.load_width op) (table.load_signed op) }
@@ -168,7 +168,7 @@ fn load(op: LoadOp, rd: u8, addr: u64) -> Effect
     }
 }
 
-#[tactic(auto, unfolding(processor::specs::Effects::store_width))]
+#[tactic(auto, unfolding(spec_processor::specs::Effects::store_width))]
 #[inline(always)]
 fn store(op: StoreOp, addr: u64, value: u64) -> Effect
     ensures { result ≡ Effect.Store addr (table.store_width op) value }
@@ -182,7 +182,7 @@ fn store(op: StoreOp, addr: u64, value: u64) -> Effect
     Effect::Store { addr, width, value }
 }
 
-#[tactic(auto, unfolding(processor::specs::Effects::csr_operand, processor::specs::Effects::csr_writes))]
+#[tactic(auto, unfolding(spec_processor::specs::Effects::csr_operand, spec_processor::specs::Effects::csr_writes))]
 #[inline(always)]
 fn access(op: CsrOp, rd: u8, rs1: u8, number: u16, register: u64) -> Effect
     ensures { result ≡ Effect.Csr rd number op (table.csr_operand op register rs1) (table.csr_writes op rs1) }

@@ -13,5 +13,5 @@ mod word;
 pub use atomic::amo;
 pub use effects::effect;
 pub use loaded::loaded_value;
-pub use processor::Effect;
 pub use registers::Regs;
+pub use spec_processor::Effect;

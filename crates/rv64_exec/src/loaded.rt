@@ -1,11 +1,11 @@
 // Loaded values.
 
 ghost use Rattle.std.specs.Prelude.{◌≡◌, ◌<◌, ◌^◌};
-ghost use Rattle.processor.specs.Regions.{IsWidth};
-ghost use Rattle.processor.specs.Requests.{loaded_value};
+ghost use Rattle.spec_processor.specs.Regions.{IsWidth};
+ghost use Rattle.spec_processor.specs.Requests.{loaded_value};
 
 /// A word of `width` bytes that was read as a register takes it.
-#[tactic(auto, unfolding(processor::specs::Requests::loaded_value))]
+#[tactic(auto, unfolding(spec_processor::specs::Requests::loaded_value))]
 #[inline(always)]
 pub fn loaded_value(signed: bool, width: u8, word: u64) -> u64
     requires width { IsWidth width }

@@ -1,6 +1,6 @@
 // The integer registers.
 
-use processor::REGISTERS;
+use spec_processor::REGISTERS;
 use std::marker::Model;
 
 /// The 32 integer registers, of which register 0 is 0. Contracts see the list of their values.
@@ -21,8 +21,8 @@ impl Model for Regs {
 
 impl Regs {
     ghost use Rattle.std.specs.Prelude.{◌≡◌, ◌<◌, length, replicate, slice_index};
-    ghost use Rattle.processor.specs.Effects.{register, set_register};
-    ghost use Rattle.processor.specs.IntegerRegisters.{register_count};
+    ghost use Rattle.spec_processor.specs.Effects.{register, set_register};
+    ghost use Rattle.spec_processor.specs.IntegerRegisters.{register_count};
 
     /// All registers are 0.
     pub fn new() -> Self

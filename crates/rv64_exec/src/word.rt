@@ -2,7 +2,7 @@
 
 ghost use Rattle.std.specs.Int.{cast_signed};
 ghost use Rattle.std.specs.Prelude.{◌≡◌};
-ghost use Rattle.processor.specs.Effects as table;
+ghost use Rattle.spec_processor.specs.Effects as table;
 
 #[inline(always)]
 pub fn low_word(a: u64) -> u32

@@ -4,7 +4,7 @@ use Rattle.std.specs.Prelude.{nat_lt}
 use Rattle.std.proofs.lemmas.Nat.{one_shl}
 use Rattle.sv_types.specs.declared.event.Event.{Event}
 use Rattle.sv_types.specs.declared.event.Event.TheVariants.{Turn, Beat, Tick}
-use Rattle.sv_types.specs.Schedule.{Schedule, Auto, Bursts, next_event, after_event, next_random, drawn_hart, event_among, kind_place, first_ticks, drawn_ticks}
+use Rattle.sv_types.specs.Schedule.{Schedule, Auto, Bursts, next_event, after_event, next_random, drawn_hart, event_among, kind_shift, first_ticks, drawn_ticks}
 use Rattle.script.specs.Runs.{Draws}
 use Rattle.script.specs.TurnNumbers.{is_turn, DrawTurns}
 
@@ -17,7 +17,7 @@ shifted n = one_shl (n % 13) 64 (omega arith)
 
 turn_among : (hart x : ℕ) → is_turn x ≡ true → Turn hart ≡ event_among hart x
 turn_among hart x is =
-    ap (λ (b : Bool). if b then Turn hart else if nat_lt (x / 2 ^ kind_place) first_ticks then Beat else Tick drawn_ticks) (sym is)
+    ap (λ (b : Bool). if b then Turn hart else if nat_lt (x / 2 ^ kind_shift) first_ticks then Beat else Tick drawn_ticks) (sym is)
 
 -- ---- turns in a row
 

@@ -37,9 +37,9 @@ begins_once old new run one is behind = once_by old new run run.count one is beh
 
 -- ---- one more
 
-same_behind : (n : ℕ) (event : Event) (rest : List Event) → replicate n event ++ (event ∷ rest) ≡ event ∷ (replicate n event ++ rest)
-same_behind zero event rest = refl
-same_behind (suc n) event rest = ap (λ (events : List Event). event ∷ events) (same_behind n event rest)
+same_after : (n : ℕ) (event : Event) (rest : List Event) → replicate n event ++ (event ∷ rest) ≡ event ∷ (replicate n event ++ rest)
+same_after zero event rest = refl
+same_after (suc n) event rest = ap (λ (events : List Event). event ∷ events) (same_after n event rest)
 
 -- the first events are the same one so often, and then others
 abbrev pub Begins : (n : ℕ) → Event → (old new : Schedule) → Type 0
@@ -51,7 +51,7 @@ begins_more n event old mid new begun is behind = λ later.
     ap (λ (k : ℕ). first_events k old) counted
     ∙ begun (suc later)
     ∙ ap (λ (events : List Event). replicate n event ++ events) (one_first mid new event later is behind)
-    ∙ same_behind n event (first_events later new)
+    ∙ same_after n event (first_events later new)
 
 -- ---- what is drawn
 
@@ -59,14 +59,14 @@ pub draws_more : (n : ℕ) (event : Event) (old mid new : Schedule) → Draws n 
 draws_more n event old mid new drawn is behind =
     subst (λ (k : ℕ). Draws k event old new) (sym (add-one n)) (mid, (drawn, (is, behind)))
 
-draws_behind : (n : ℕ) (event : Event) (old mid new : Schedule) → Some event ≡ next_event old → mid ≡ after_event old → Draws n event mid new → Draws (suc n) event old new
-draws_behind zero event old mid new is behind same = (old, (refl, (is, same ∙ behind)))
-draws_behind (suc n) event old mid new is behind (last, (drawn, next)) = (last, (draws_behind n event old mid last is behind drawn, next))
+draws_after : (n : ℕ) (event : Event) (old mid new : Schedule) → Some event ≡ next_event old → mid ≡ after_event old → Draws n event mid new → Draws (suc n) event old new
+draws_after zero event old mid new is behind same = (old, (refl, (is, same ∙ behind)))
+draws_after (suc n) event old mid new is behind (last, (drawn, next)) = (last, (draws_after n event old mid last is behind drawn, next))
 
 -- an event, and the same one drawn so often behind it
 pub drawn_again : (n : ℕ) (event : Event) (old mid new : Schedule) → Some event ≡ next_event old → mid ≡ after_event old → Draws n event mid new → Draws (n + 1) event old new
 drawn_again n event old mid new is behind drawn =
-    subst (λ (k : ℕ). Draws k event old new) (sym (add-one n)) (draws_behind n event old mid new is behind drawn)
+    subst (λ (k : ℕ). Draws k event old new) (sym (add-one n)) (draws_after n event old mid new is behind drawn)
 
 drawn_first : (n : ℕ) (event : Event) (old new : Schedule) → Draws n event old new → Begins n event old new
 drawn_first zero event old new drawn = λ later. ap (λ (k : ℕ). first_events k old) (zero-add later) ∙ ap (λ (s : Schedule). first_events later s) (sym drawn)

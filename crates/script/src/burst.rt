@@ -25,14 +25,14 @@ pub struct Bursts {
 
 impl Model for Bursts {
     ghost use Rattle.std.specs.Prelude.{◌<◌, ◌≤◌};
-    ghost use Rattle.sv_types.specs.Limits.{most_harts};
+    ghost use Rattle.sv_types.specs.Limits.{max_harts};
     ghost use Rattle.sv_types.specs.Schedule.{Schedule, Bursts as Drawn};
 
     ghost Value = { Schedule };
 
     ghost view = { λ b. Drawn b.harts b.hart b.left b.number };
 
-    ghost invariant = { λ b. (0 < b.harts) × (b.harts ≤ most_harts) };
+    ghost invariant = { λ b. (0 < b.harts) × (b.harts ≤ max_harts) };
 }
 
 impl Bursts {

@@ -38,20 +38,20 @@ fn hart_among(harts: u8, number: u64) -> u8
 
 // Where the four bits of a number stand that tell the kind of event: a turn below the first of beats, and ticks from the first
 // of these on.
-const KIND_PLACE: u32 = 60;
+const KIND_SHIFT: u32 = 60;
 
 const FIRST_BEAT: u64 = 12;
 
 const FIRST_TICKS: u64 = 15;
 
 // Where the bits stand that tell a hart.
-const HART_PLACE: u32 = 32;
+const HART_SHIFT: u32 = 32;
 
 // The ticks of one event.
 const DRAWN_TICKS: u64 = 16;
 
 // Where the bits stand that tell a burst's length, and how many lengths there are.
-const LENGTH_PLACE: u32 = 48;
+const LENGTH_SHIFT: u32 = 48;
 
 const BURST_LENGTHS: u64 = 13;
 
@@ -61,7 +61,7 @@ pub(crate) fn drawn_hart(harts: u8, number: u64) -> u8
     requires harts { IsHartCount harts }
     ensures { result ≡ drawn_hart harts number }
 {
-    hart_among(harts, number >> HART_PLACE)
+    hart_among(harts, number >> HART_SHIFT)
 }
 
 /// The event that a number draws: a turn of a hart, a beat or ticks.
@@ -69,7 +69,7 @@ pub(crate) fn drawn_hart(harts: u8, number: u64) -> u8
 pub(crate) fn event_among(hart: u8, number: u64) -> Event
     ensures { result ≡ event_among hart number }
 {
-    let kind = number >> KIND_PLACE;
+    let kind = number >> KIND_SHIFT;
     if kind < FIRST_BEAT {
         Event::Turn(hart)
     } else if kind < FIRST_TICKS {
@@ -93,7 +93,7 @@ pub(crate) fn drawn_event(harts: u8, number: u64) -> Event
 pub(crate) fn burst_length(number: u64) -> u64
     ensures { result ≡ burst_length number }
 {
-    1 << ((number >> LENGTH_PLACE) % BURST_LENGTHS)
+    1 << ((number >> LENGTH_SHIFT) % BURST_LENGTHS)
 }
 
 /// Turns that are drawn in a row: how many, and the number after which the next event is drawn.
@@ -106,7 +106,7 @@ pub(crate) struct TurnsAhead {
 fn is_turn(number: u64) -> bool
     ensures { result ≡ is_turn number }
 {
-    number >> KIND_PLACE < FIRST_BEAT
+    number >> KIND_SHIFT < FIRST_BEAT
 }
 
 /// The turns that are drawn after a number as long as the next event is one, at most so many.

@@ -1,6 +1,6 @@
 // Files that are read again, for a remark.
 
-use remarks::Again;
+use cli_diagnostics::Reread;
 use std::alloc::Global;
 use std::fs::File;
 use std::io::Read;
@@ -12,7 +12,7 @@ pub struct PlainFiles<'a> {
     pub rt: &'a HostRuntime,
 }
 
-impl<'a> Again for PlainFiles<'a> {
+impl<'a> Reread for PlainFiles<'a> {
     fn first_bytes(&self, alloc: Global, name: &str, most: usize) -> Option<Vec<u8>> {
         match plain_bytes(self.rt, alloc, name, most) {
             Ok(bytes) => bytes,

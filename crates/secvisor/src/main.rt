@@ -5,21 +5,21 @@ mod again;
 mod help;
 
 use again::PlainFiles;
+use cli_diagnostics::{MostBytes, remark};
+use cli_dispatch::answer;
 use help::help;
+use host_files::{RealFiles, StdSink};
 use live_keys::{ReaderKeys, Still};
-use remarks::{MostBytes, remark};
 use secvisor_cli::{
-    Bench, MOST_DISK_BYTES, MOST_FLAT_BYTES, MOST_IMAGE_BYTES, MOST_OBJECT_BYTES,
-    MOST_POLICY_BYTES, MOST_SCRIPT_BYTES, Status,
+    Bench, MAX_DISK_BYTES, MAX_FLAT_BYTES, MAX_IMAGE_BYTES, MAX_OBJECT_BYTES, MAX_POLICY_BYTES,
+    MAX_SCRIPT_BYTES, Status,
 };
-use snapshot_reader::MOST_SNAPSHOT_BYTES;
+use snapshot_reader::MAX_SNAPSHOT_BYTES;
 use std::alloc::AllocError;
 use std::env;
 use std::io::{ErrorKind, IsTerminal};
 use std::process::ExitCode;
 use std::thread::Threads;
-use system_files::{RealFiles, StdSink};
-use top_call::answer;
 
 // Every end has its status, want of memory before the program is called too.
 fn main(rt: HostRuntime) -> ExitCode {
@@ -53,14 +53,14 @@ fn main(rt: HostRuntime) -> ExitCode {
 }
 
 /// The most bytes of each part, as the top call reads them.
-const MOST_BYTES: MostBytes = MostBytes {
-    flat: MOST_FLAT_BYTES,
-    policy: MOST_POLICY_BYTES,
-    image: MOST_IMAGE_BYTES,
-    disk: MOST_DISK_BYTES,
-    script: MOST_SCRIPT_BYTES,
-    module: MOST_OBJECT_BYTES,
-    snapshot: MOST_SNAPSHOT_BYTES,
+const MAX_BYTES: MostBytes = MostBytes {
+    flat: MAX_FLAT_BYTES,
+    policy: MAX_POLICY_BYTES,
+    image: MAX_IMAGE_BYTES,
+    disk: MAX_DISK_BYTES,
+    script: MAX_SCRIPT_BYTES,
+    module: MAX_OBJECT_BYTES,
+    snapshot: MAX_SNAPSHOT_BYTES,
 };
 
 // To a person at a terminal alone, so that other programs read of a refusal the one line. A failure changes nothing.
@@ -72,7 +72,7 @@ fn explain<R: Threads + Sync>(rt: &HostRuntime, threads: &R, words: &[String], s
         }
         Status::Refused => {
             let files = PlainFiles { rt };
-            if let Some(said) = remark(threads, rt.alloc(), words, &files, &MOST_BYTES) {
+            if let Some(said) = remark(threads, rt.alloc(), words, &files, &MAX_BYTES) {
                 let _written = eprintln!(rt; "secvisor: {said}");
             }
         }

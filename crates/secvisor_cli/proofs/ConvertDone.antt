@@ -1,6 +1,6 @@
 -- What stands where `convert` is done.
 use Rattle.std.proofs.Common.{◌≡◌, ◌∙◌, ℕ, true, List, Option, Some, None, Ok, Err, refl, sym, ap, subst, inl, inr}
-use Rattle.command_words.specs.Commands.{ConvertSplit}
+use Rattle.cli_words.specs.Commands.{ConvertSplit}
 use Rattle.std.proofs.lemmas.Option.{same_Some}
 use Rattle.sv_types.specs.declared.image_fault.ImageFault.{ImageFault}
 use Rattle.sv_types.specs.declared.status.Status.{Status}
@@ -15,13 +15,13 @@ use Rattle.policy_making.specs.Faults.{Judged as Bound}
 use Rattle.policy_making.specs.declared.bind_fault.BindFault.{BindFault}
 use Rattle.policy_making.specs.declared.bind_fault.BindFault.TheVariants as binding
 use Rattle.policy_making.proofs.BoundWithin.{law_in_text}
-use Rattle.outside.specs.Outside.{FilesState, after_asking}
-use Rattle.command_plans.specs.declared.file_fault.FileFault.{FileFault}
+use Rattle.host_io.specs.Outside.{FilesState, after_asking}
+use Rattle.cli_plans.specs.declared.file_fault.FileFault.{FileFault}
 use Rattle.secvisor_cli.specs.Answers.{Headline, Meets, MeetsReached, Outside, outside}
-use Rattle.command_plans.specs.CommandLine.{Convert}
+use Rattle.cli_plans.specs.CommandLine.{Convert}
 use Rattle.secvisor_cli.specs.Converted.{Holds, IsBoundOf, IsConverted}
-use Rattle.command_plans.specs.Plans.{Due, Refuse, Plan, End, Read, Judge, Found, Faulty, Missing, Longer, Held, binding_plan, binding_refusal, bound_plan, command_plan, convert_plan, due_of_convert, converted_judged, found_plan, kernel_part, part_judged, plan_of, policy_judged, policy_part, status_due}
-use Rattle.command_plans.specs.Reading.{Follows, FoundAs}
+use Rattle.cli_plans.specs.Plans.{Due, Refuse, Plan, End, Read, Judge, Found, Faulty, Missing, Longer, Held, binding_plan, binding_refusal, bound_plan, command_plan, convert_plan, due_of_convert, converted_judged, found_plan, kernel_part, part_judged, plan_of, policy_judged, policy_part, status_due}
+use Rattle.cli_plans.specs.Reading.{Follows, FoundAs}
 
 -- this holds of what is due at each end of a plan that these files are asked by, where that is done
 abbrev DoneAs : (Due → Type 0) → FilesState → Plan → Type 0

@@ -1,6 +1,6 @@
 -- The stages of a plan that binds a policy's entries.
 use Rattle.std.proofs.Common.{◌≡◌, ◌∙◌, ℕ, List, length, None, refl, sym, ap, subst, Ok, Err}
-use Rattle.command_words.specs.Commands.{ConvertSplit}
+use Rattle.cli_words.specs.Commands.{ConvertSplit}
 use Rattle.sv_types.specs.Kernel.{LoadedSegment, kernel_refusal, kernel_segments}
 use Rattle.sv_types.specs.Policies.{Rules}
 use Rattle.elf64_load.specs.Images.{segments_of}
@@ -12,11 +12,11 @@ use Rattle.policy_making.specs.declared.bind_fault.BindFault.{BindFault}
 use Rattle.policy_making.specs.declared.bind_fault.BindRefusal.{BindRefusal}
 use Rattle.policy_making.specs.declared.bind_fault.BindRefusal.TheVariants as binding
 use Rattle.machine.specs.Boot.{IsImageOf}
-use Rattle.outside.specs.Outside.{FilesState}
+use Rattle.host_io.specs.Outside.{FilesState}
 use Rattle.secvisor_cli.specs.declared.ready.Ready.TheVariants.{Save}
 use Rattle.secvisor_cli.specs.declared.ready.Made.{Made}
 use Rattle.secvisor_cli.specs.declared.ready.Stop.TheVariants.{Memory}
-use Rattle.command_plans.specs.Plans.{bound_plan, converted_judged, converted_line, kernel_part}
+use Rattle.cli_plans.specs.Plans.{bound_plan, converted_judged, converted_line, kernel_part}
 use Rattle.secvisor_cli.specs.Ready.{IsMade, IsReady, Prepares, stop_of_binding}
 use Rattle.secvisor_cli.proofs.ReadyLemmas.{judge_end, judge_wants}
 use Rattle.secvisor_cli.proofs.StageLemmas.{kernel_ready}

@@ -6,17 +6,17 @@ use Rattle.std.proofs.lemmas.Option.{same_Some}
 use Rattle.sv_types.specs.declared.event.Event.{Event}
 use Rattle.sv_types.specs.declared.status.Status.{Status}
 use Rattle.sv_types.specs.Output.{run_status}
-use Rattle.reference.specs.Report.{output}
-use Rattle.reference.specs.Run.{run}
-use Rattle.reference.specs.States.{State}
-use Rattle.outside.specs.Outside.{FilesState}
-use Rattle.command_plans.specs.declared.file_fault.Part.{Part}
-use Rattle.secvisor_cli.specs.Answers.{Outside, outside, is_answer, MeetsSavesBehind, Meets, MeetsReached}
+use Rattle.spec_reference.specs.Report.{output}
+use Rattle.spec_reference.specs.Run.{run}
+use Rattle.spec_reference.specs.States.{State}
+use Rattle.host_io.specs.Outside.{FilesState}
+use Rattle.cli_plans.specs.declared.file_fault.Part.{Part}
+use Rattle.secvisor_cli.specs.Answers.{Outside, outside, is_answer, MeetsSavesAfter, Meets, MeetsReached}
 use Rattle.secvisor_cli.specs.DueIn.{found_in, due_in, ComesToDue, AreReadWhole, EndsAs, RunEnds}
-use Rattle.command_plans.specs.Plans.{Due, Refuse, RunFrom, Make, Plan, End, Read, Judge, Found, Faulty, Missing, Longer, Held, found_plan, read_part, Saving, policy_saving, saves_due}
-use Rattle.command_plans.specs.Reading.{FoundAs, Follows, Saved, SaveBroke}
-use Rattle.command_plans.specs.Refusals.{refusal_line}
-use Rattle.command_plans.proofs.PlanLemmas.{Keeps, follows_keeps, keeps_found}
+use Rattle.cli_plans.specs.Plans.{Due, Refuse, RunFrom, Make, Plan, End, Read, Judge, Found, Faulty, Missing, Longer, Held, found_plan, read_part, Saving, policy_saving, saves_due}
+use Rattle.cli_plans.specs.Reading.{FoundAs, Follows, Saved, SaveBroke}
+use Rattle.cli_plans.specs.Refusals.{refusal_line}
+use Rattle.cli_plans.proofs.PlanLemmas.{Keeps, follows_keeps, keeps_found}
 
 -- ---- one read
 
@@ -99,20 +99,20 @@ broke_unread s old new it = ap (λ (f : FilesState). f.read_faults) it.leaves
 pub same_unread : (old new : FilesState) → new ≡ old → new.read_faults ≡ old.read_faults
 same_unread old new is = ap (λ (f : FilesState). f.read_faults) is
 
-behind_unread : (asked : Option Saving) (bytes : List ℕ) (old new : Outside) (answer : Status) → Kind answer → MeetsSavesBehind asked bytes old new answer →
+after_unread : (asked : Option Saving) (bytes : List ℕ) (old new : Outside) (answer : Status) → Kind answer → MeetsSavesAfter asked bytes old new answer →
     new.files.read_faults ≡ old.files.read_faults
-behind_unread None bytes old new answer kind m = same_unread old.files new.files m.0
-behind_unread (Some s) bytes old new answer (Proper good) m = saved_unread s old.files new.files (m.saved good)
-behind_unread (Some s) bytes old new answer (Faulted fault) m = elim (m.broke fault) [
+after_unread None bytes old new answer kind m = same_unread old.files new.files m.0
+after_unread (Some s) bytes old new answer (Proper good) m = saved_unread s old.files new.files (m.saved good)
+after_unread (Some s) bytes old new answer (Faulted fault) m = elim (m.broke fault) [
   | inl it ↦ same_unread old.files new.files it.0
   | inr it ↦ broke_unread s old.files new.files it.0
 ]
-behind_unread (Some s) bytes old new answer (Wanting is) m = same_unread old.files new.files (m.wanting is)
+after_unread (Some s) bytes old new answer (Wanting is) m = same_unread old.files new.files (m.wanting is)
 
 meets_unread : (due : Due) (old new : Outside) (answer : Status) → Kind answer → Meets due old new answer → new.files.read_faults ≡ old.files.read_faults
-meets_unread (Refuse refusal) old new answer kind m = behind_unread None (refusal_line refusal) old new answer kind m.saves
+meets_unread (Refuse refusal) old new answer kind m = after_unread None (refusal_line refusal) old new answer kind m.saves
 meets_unread (RunFrom start events save) old new answer kind m =
-    behind_unread (saves_due (RunFrom start events save)) (output (run start events)) old new answer kind m.saves
+    after_unread (saves_due (RunFrom start events save)) (output (run start events)) old new answer kind m.saves
 meets_unread (Make name rules line) old new answer (Proper good) m = saved_unread (policy_saving name rules) old.files new.files (m.saves.saved good)
 meets_unread (Make name rules line) old new answer (Faulted fault) m = elim (m.saves.broke fault) [
   | inl it ↦ broke_unread (policy_saving name rules) old.files new.files it.0
@@ -121,10 +121,10 @@ meets_unread (Make name rules line) old new answer (Faulted fault) m = elim (m.s
 meets_unread (Make name rules line) old new answer (Wanting is) m = absurd (cc (m.wants is))
 
 -- a write fault is counted
-behind_counted : (asked : Option Saving) (bytes : List ℕ) (old new : Outside) (answer : Status) → answer ≡ Status.WriteFault → MeetsSavesBehind asked bytes old new answer →
+after_counted : (asked : Option Saving) (bytes : List ℕ) (old new : Outside) (answer : Status) → answer ≡ Status.WriteFault → MeetsSavesAfter asked bytes old new answer →
     (old.sink.faults < new.sink.faults) ⊎ (old.files.save_faults < new.files.save_faults)
-behind_counted None bytes old new answer fault m = inl (m.1 fault)
-behind_counted (Some s) bytes old new answer fault m = elim (m.broke fault) [
+after_counted None bytes old new answer fault m = inl (m.1 fault)
+after_counted (Some s) bytes old new answer fault m = elim (m.broke fault) [
   | inl it ↦ inl it.1
   | inr it ↦ inr it.0.faults
 ]
@@ -133,13 +133,13 @@ run_met : (start : State) (events : List Event) (save : Option (List ℕ)) (old 
     EndsAs (run_status (run start events).journal.verdict) old new answer
 run_met start events save old new answer (Proper good) m = inl (m.status good)
 run_met start events save old new answer (Faulted fault) m =
-    inr (inl (fault, behind_counted (saves_due (RunFrom start events save)) (output (run start events)) old new answer fault m.saves))
+    inr (inl (fault, after_counted (saves_due (RunFrom start events save)) (output (run start events)) old new answer fault m.saves))
 run_met start events save old new answer (Wanting is) m = inr (inr is)
 
 -- reading counts no save
-pub ends_behind : (due : Status) (old : Outside) (read : FilesState) (new : Outside) (answer : Status) → read.save_faults ≡ old.files.save_faults →
+pub ends_after : (due : Status) (old : Outside) (read : FilesState) (new : Outside) (answer : Status) → read.save_faults ≡ old.files.save_faults →
     EndsAs due (outside read old.sink old.bench) new answer → EndsAs due old new answer
-ends_behind due old read new answer same ends =
+ends_after due old read new answer same ends =
     subst (λ (n : ℕ). (answer ≡ due)
     ⊎ (((answer ≡ Status.WriteFault) × ((old.sink.faults < new.sink.faults) ⊎ (n < new.files.save_faults))) ⊎ (answer ≡ Status.Memory))) same ends
 
@@ -150,7 +150,7 @@ reached_ends plan start events save old new read None answer whole is follows m 
 reached_ends plan start events save old new read (Some due) answer whole is follows m =
     let count = meets_unread due (outside read old.sink old.bench) new answer (kind_of answer) m in
     let same : due ≡ RunFrom start events save = sym (comes_to_due plan old.files read due whole.tells (sym count ∙ whole.unfailed) follows) ∙ is in
-    ends_behind (run_status (run start events).journal.verdict) old read new answer (follows_keeps plan old.files read (Some due) follows).saves
+    ends_after (run_status (run start events).journal.verdict) old read new answer (follows_keeps plan old.files read (Some due) follows).saves
     (run_met start events save (outside read old.sink old.bench) new answer (kind_of answer)
     (subst (λ (d : Due). Meets d (outside read old.sink old.bench) new answer) same m))
 

@@ -1,26 +1,26 @@
 -- The end of a run: the rest of the console, and the report.
 use Rattle.std.proofs.Common.{◌≡◌, ℕ, List, [], ◌∷◌, ◌++◌, ◌<◌, length, refl, sym, ◌∙◌, ap, subst, append_assoc, inl, inr, Result, Ok, Err, IsErrOf, IsTrue, IsFalse}
-use Rattle.sv_types.specs.Limits.{most_printed}
+use Rattle.sv_types.specs.Limits.{max_printed}
 use Rattle.std.proofs.lemmas.List.{append-nil}
 use Rattle.sv_types.specs.declared.event.Event.{Event}
 use Rattle.sv_types.specs.declared.event.Verdict.{Verdict}
 use Rattle.sv_types.specs.declared.event.Verdict.TheVariants.{Running, Shutdown, Stopped}
 use Rattle.sv_types.specs.declared.status.Status.{Status}
 use Rattle.sv_types.specs.Output.{run_status}
-use Rattle.reference.specs.States.{State}
-use Rattle.reference.specs.Run.{run, step}
-use Rattle.reference.specs.Report.{output, report}
-use Rattle.reference.proofs.Runs.{run_on}
-use Rattle.machine_model.specs.Machine.{Machine}
-use Rattle.machine_model.specs.Reaches.{IsNew}
-use Rattle.outside.specs.Outside.{SinkState, after_taking, TookPrefix, BreaksOff}
-use Rattle.outside.proofs.SinkLemmas.{after_taking-append, prefix_behind, prefix_of_front, prefix_same, breaks_behind, prefix_none}
-use Rattle.outside.specs.declared.trouble.Trouble.{Trouble}
-use Rattle.outside.specs.declared.trouble.Trouble.TheVariants.{Memory, Write}
-use Rattle.machine.specs.Console.{is_due, HasRun, RunBroke}
+use Rattle.spec_reference.specs.States.{State}
+use Rattle.spec_reference.specs.Run.{run, step}
+use Rattle.spec_reference.specs.Report.{output, report}
+use Rattle.spec_reference.proofs.Runs.{run_on}
+use Rattle.spec_hardware.specs.Machine.{Machine}
+use Rattle.spec_hardware.specs.Reaches.{IsNew}
+use Rattle.host_io.specs.Outside.{SinkState, after_taking, TookPrefix, BreaksOff}
+use Rattle.host_io.proofs.SinkLemmas.{after_taking-append, prefix_after, prefix_of_front, prefix_same, breaks_after, prefix_none}
+use Rattle.host_io.specs.declared.trouble.Trouble.{Trouble}
+use Rattle.host_io.specs.declared.trouble.Trouble.TheVariants.{Memory, Write}
+use Rattle.machine.specs.Console.{flush_is_due, HasRun, RunBroke}
 use Rattle.secvisor_cli.specs.Answers.{Writes, RunsTo, is_answer}
 use Rattle.machine.specs.Standing.{machine_output}
-use Rattle.machine.proofs.Standing.{prints_behind, stands_printed, stands_verdict, stands_output}
+use Rattle.machine.proofs.Standing.{prints_after, stands_printed, stands_verdict, stands_output}
 
 -- ---- the rest of the console, and then the report
 
@@ -28,7 +28,7 @@ pub finish_broke : (m : Machine) (old mid new : SinkState) (printed text : List 
     BreaksOff mid new text → text ≡ report m.journal → (TookPrefix old new (machine_output m)) × (old.faults < new.faults)
 finish_broke m old mid new printed text first printed_is broke text_is =
     let whole : printed ++ text ≡ machine_output m = ap (λ (p : List ℕ). p ++ text) printed_is ∙ ap (λ (t : List ℕ). m.journal.printed ++ t) text_is in
-    (prefix_same old new _ _ whole (prefix_behind old mid new printed text first broke.prefix), (breaks_behind old mid new printed text first broke).faults)
+    (prefix_same old new _ _ whole (prefix_after old mid new printed text first broke.prefix), (breaks_after old mid new printed text first broke).faults)
 
 pub finish_whole : (m : Machine) (old mid new : SinkState) (printed text : List ℕ) → mid ≡ after_taking old printed → printed ≡ m.journal.printed →
     new ≡ after_taking mid text → text ≡ report m.journal → new ≡ after_taking old (machine_output m)
@@ -41,7 +41,7 @@ finish_whole m old mid new printed text first printed_is second text_is =
 printed_grows : (r : State) (es : List Event) → (more : List ℕ) × ((run r es).journal.printed ≡ r.journal.printed ++ more)
 printed_grows r [] = ([], sym (append-nil r.journal.printed))
 printed_grows r (e ∷ es) =
-    let one = prints_behind r e in
+    let one = prints_after r e in
     let rest = printed_grows (step r e) es in
     (one.0 ++ rest.0, rest.1 ∙ ap (λ (p : List ℕ). p ++ rest.0) one.1 ∙ append_assoc r.journal.printed one.0 rest.0)
 
@@ -73,7 +73,7 @@ broke_prefix first start events m old new b =
     let front = output_front start b.done b.left events b.split in
     prefix_same old new _ _ front.1
     (prefix_of_front old new here.journal.printed front.0
-    (prefix_same old new _ _ printed (prefix_behind old (after_taking old b.cleared) new b.cleared m.journal.printed refl b.broke.prefix)))
+    (prefix_same old new _ _ printed (prefix_after old (after_taking old b.cleared) new b.cleared m.journal.printed refl b.broke.prefix)))
 
 pub broke_reaches : (wanting : Type 0) (first : Machine) (start : State) (events : List Event) (m : Machine) (old new : SinkState) → (wanting → ⊥) → IsNew first start →
     RunBroke first start events m old new → RunsTo wanting start events m old new
@@ -92,7 +92,7 @@ broke_reaches wanting first start events m old new never is_new b = record {
 -- ---- a whole run
 
 pub ran_reaches : (first : Machine) (start : State) (events : List Event) (m : Machine) (old mid new : SinkState) (result : Result Status Trouble) → IsNew first start →
-    HasRun first start events m old mid → length m.journal.printed < most_printed → IsFalse (is_due m.journal.printed) → TookPrefix mid new (machine_output m) → (IsErrOf result Memory → new ≡ mid) →
+    HasRun first start events m old mid → length m.journal.printed < max_printed → IsFalse (flush_is_due m.journal.printed) → TookPrefix mid new (machine_output m) → (IsErrOf result Memory → new ≡ mid) →
     RunsTo (IsErrOf result Memory) start events m old new
 ran_reaches first start events m old mid new result is_new ran room undue prefix quiet = record {
   done = events;
@@ -117,7 +117,7 @@ ran_writes first start m events old mid new (Ok s) ran w =
       whole =
           w.whole ∙ ap (λ (k : SinkState). after_taking k (machine_output m)) ran.taken ∙ after_taking-append old ran.cleared (machine_output m)
           ∙ ap (λ (b : List ℕ). after_taking old b) all;
-      prefix = prefix_same old new _ _ all (prefix_behind old mid new ran.cleared (machine_output m) ran.taken w.prefix);
+      prefix = prefix_same old new _ _ all (prefix_after old mid new ran.cleared (machine_output m) ran.taken w.prefix);
       write = λ e. absurd (cc e);
       memory = λ e. absurd (cc e);
     }
@@ -128,7 +128,7 @@ ran_writes first start m events old mid new (Err e) ran w =
       status = tt;
       proper = tt;
       whole = tt;
-      prefix = prefix_same old new _ _ all (prefix_behind old mid new ran.cleared (machine_output m) ran.taken w.prefix);
+      prefix = prefix_same old new _ _ all (prefix_after old mid new ran.cleared (machine_output m) ran.taken w.prefix);
       write = λ is. subst (λ (n : ℕ). n < new.faults) (ap (λ (k : SinkState). k.faults) ran.taken) (w.write is);
       memory = λ is. w.memory is ∙ ap (λ (k : SinkState). k.faults) ran.taken;
     }

@@ -10,17 +10,17 @@ use Rattle.policy_making.specs.declared.refusal.MakingFault.{MakingFault}
 use Rattle.policy_making.specs.declared.refusal.MakingRefusal.{MakingRefusal}
 use Rattle.policy_making.specs.declared.refusal.MakingRefusal.TheVariants as making
 use Rattle.policy_making.specs.Refusals.{Judged, Refuses, as_answer}
-use Rattle.policy_making.specs.Making.{ModuleFile, Terms, file_of, kernel_digest, names_with, policy_behind}
-use Rattle.outside.specs.Outside.{FilesState}
-use Rattle.command_plans.specs.declared.refusal.Refusal.TheVariants.{File}
-use Rattle.command_plans.specs.declared.file_fault.Part.{Part}
+use Rattle.policy_making.specs.Making.{ModuleFile, Terms, file_of, kernel_digest, names_with, policy_after}
+use Rattle.host_io.specs.Outside.{FilesState}
+use Rattle.cli_plans.specs.declared.refusal.Refusal.TheVariants.{File}
+use Rattle.cli_plans.specs.declared.file_fault.Part.{Part}
 use Rattle.secvisor_cli.specs.declared.ready.Ready.TheVariants.{Save}
 use Rattle.secvisor_cli.specs.declared.ready.Made.{Made}
 use Rattle.secvisor_cli.specs.declared.ready.Stop.{Stop}
 use Rattle.secvisor_cli.specs.declared.ready.Stop.TheVariants.{Memory}
-use Rattle.command_plans.specs.CommandLine.{PolicyWords}
-use Rattle.command_plans.specs.Plans.{Due, Refuse, due_of_measure, measured_line, Plan, End, Judge, Held, most_image_bytes, most_object_bytes, making_fault, made_judged, made_part, Kernel, digest_part, Modules, with_module, module_part, modules_part, making_plan}
-use Rattle.command_plans.specs.Reading.{FoundAs, Follows, MayFollow}
+use Rattle.cli_plans.specs.CommandLine.{PolicyWords}
+use Rattle.cli_plans.specs.Plans.{Due, Refuse, due_of_measure, measured_line, Plan, End, Judge, Held, max_image_bytes, max_object_bytes, making_fault, made_judged, made_part, Kernel, digest_part, Modules, with_module, module_part, modules_part, making_plan}
+use Rattle.cli_plans.specs.Reading.{FoundAs, Follows, MayFollow}
 use Rattle.secvisor_cli.specs.Ready.{PartRead, stop_of_making, IsMade, Prepares, Passes, MayStage}
 use Rattle.secvisor_cli.proofs.ReadyLemmas.{end_ready, judge_ready, judge_wants, read_ready, stopped_ready}
 use Rattle.secvisor_cli.proofs.StageLemmas.{read_follows, read_may, read_faults}
@@ -81,65 +81,65 @@ made_unread part name limit judge next old now stop it = stopped_ready part name
 abbrev kernel_with : (file digest : List ℕ) → Kernel
 kernel_with file digest = record { file = file; digest = digest }
 
-pub kernel_asked : (name : List ℕ) (ram_pages : ℕ) (files : FilesState) → MayStage (digest_part name ram_pages) files → IsTrue (files.permits ((name, most_image_bytes) ∷ []))
+pub kernel_asked : (name : List ℕ) (ram_pages : ℕ) (files : FilesState) → MayStage (digest_part name ram_pages) files → IsTrue (files.permits ((name, max_image_bytes) ∷ []))
 unfolding digest_part made_part
 kernel_asked name ram_pages files may = may.may.0
 
-pub kernel_passes : (name : List ℕ) (ram_pages : ℕ) (file digest : List ℕ) (old now : FilesState) → FoundAs old now name most_image_bytes (Held file) → kernel_digest file ram_pages ≡ Ok digest →
+pub kernel_passes : (name : List ℕ) (ram_pages : ℕ) (file digest : List ℕ) (old now : FilesState) → FoundAs old now name max_image_bytes (Held file) → kernel_digest file ram_pages ≡ Ok digest →
     Passes (digest_part name ram_pages) (kernel_with file digest) old now
 unfolding digest_part
 kernel_passes name ram_pages file digest old now fact is = record {
   follows = λ next last reached.
-      made_follows Part.Image name most_image_bytes (λ f. kernel_digest f ram_pages) (λ f d. next (kernel_with f d)) old now last file digest reached fact is;
-  may = λ next. made_may Part.Image name most_image_bytes (λ f. kernel_digest f ram_pages) (λ f d. next (kernel_with f d)) old now file digest fact is;
-  faults = read_faults name most_image_bytes old now file fact;
+      made_follows Part.Image name max_image_bytes (λ f. kernel_digest f ram_pages) (λ f d. next (kernel_with f d)) old now last file digest reached fact is;
+  may = λ next. made_may Part.Image name max_image_bytes (λ f. kernel_digest f ram_pages) (λ f d. next (kernel_with f d)) old now file digest fact is;
+  faults = read_faults name max_image_bytes old now file fact;
 }
 
-pub kernel_stops : (name : List ℕ) (ram_pages : ℕ) (file : List ℕ) (old now : FilesState) (refused : MakingRefusal) → FoundAs old now name most_image_bytes (Held file) →
+pub kernel_stops : (name : List ℕ) (ram_pages : ℕ) (file : List ℕ) (old now : FilesState) (refused : MakingRefusal) → FoundAs old now name max_image_bytes (Held file) →
     Refuses (kernel_digest file ram_pages) refused → (next : Kernel → Plan) → Prepares (digest_part name ram_pages next) old now (Err (stop_of_making refused))
 unfolding digest_part
 kernel_stops name ram_pages file old now refused fact why = λ next.
-    made_stops Part.Image name most_image_bytes (λ f. kernel_digest f ram_pages) (λ f d. next (kernel_with f d)) old now file refused fact why
+    made_stops Part.Image name max_image_bytes (λ f. kernel_digest f ram_pages) (λ f d. next (kernel_with f d)) old now file refused fact why
 
-pub kernel_unread : (name : List ℕ) (ram_pages : ℕ) (old now : FilesState) (stop : Stop) → PartRead Part.Image name most_image_bytes old now (Err stop) →
+pub kernel_unread : (name : List ℕ) (ram_pages : ℕ) (old now : FilesState) (stop : Stop) → PartRead Part.Image name max_image_bytes old now (Err stop) →
     (next : Kernel → Plan) → Prepares (digest_part name ram_pages next) old now (Err stop)
 unfolding digest_part
 kernel_unread name ram_pages old now stop it = λ next.
-    made_unread Part.Image name most_image_bytes (λ f. kernel_digest f ram_pages) (λ f d. next (kernel_with f d)) old now stop it
+    made_unread Part.Image name max_image_bytes (λ f. kernel_digest f ram_pages) (λ f d. next (kernel_with f d)) old now stop it
 
 -- ---- a module
 
-pub module_asked : (name : List ℕ) (before : Modules) (files : FilesState) → MayStage (module_part name before) files → IsTrue (files.permits ((name, most_object_bytes) ∷ []))
+pub module_asked : (name : List ℕ) (before : Modules) (files : FilesState) → MayStage (module_part name before) files → IsTrue (files.permits ((name, max_object_bytes) ∷ []))
 unfolding module_part made_part
 module_asked name before files may = may.may.0
 
-pub module_passes : (name : List ℕ) (before : Modules) (file : List ℕ) (names : List (List ℕ)) (old now : FilesState) → FoundAs old now name most_object_bytes (Held file) →
+pub module_passes : (name : List ℕ) (before : Modules) (file : List ℕ) (names : List (List ℕ)) (old now : FilesState) → FoundAs old now name max_object_bytes (Held file) →
     names_with before.names file ≡ Ok names → Passes (module_part name before) (with_module before name file names) old now
 unfolding module_part
 module_passes name before file names old now fact is = record {
   follows = λ next last reached.
-      made_follows Part.Module name most_object_bytes (names_with before.names) (λ f n. next (with_module before name f n)) old now last file names reached fact is;
-  may = λ next. made_may Part.Module name most_object_bytes (names_with before.names) (λ f n. next (with_module before name f n)) old now file names fact is;
-  faults = read_faults name most_object_bytes old now file fact;
+      made_follows Part.Module name max_object_bytes (names_with before.names) (λ f n. next (with_module before name f n)) old now last file names reached fact is;
+  may = λ next. made_may Part.Module name max_object_bytes (names_with before.names) (λ f n. next (with_module before name f n)) old now file names fact is;
+  faults = read_faults name max_object_bytes old now file fact;
 }
 
-pub module_stops : (name : List ℕ) (before : Modules) (file : List ℕ) (old now : FilesState) (refused : MakingRefusal) → FoundAs old now name most_object_bytes (Held file) →
+pub module_stops : (name : List ℕ) (before : Modules) (file : List ℕ) (old now : FilesState) (refused : MakingRefusal) → FoundAs old now name max_object_bytes (Held file) →
     Refuses (names_with before.names file) refused → (next : Modules → Plan) → Prepares (module_part name before next) old now (Err (stop_of_making refused))
 unfolding module_part
 module_stops name before file old now refused fact why = λ next.
-    made_stops Part.Module name most_object_bytes (names_with before.names) (λ f n. next (with_module before name f n)) old now file refused fact why
+    made_stops Part.Module name max_object_bytes (names_with before.names) (λ f n. next (with_module before name f n)) old now file refused fact why
 
-pub module_wants : (name : List ℕ) (before : Modules) (file : List ℕ) (old now : FilesState) → FoundAs old now name most_object_bytes (Held file) →
+pub module_wants : (name : List ℕ) (before : Modules) (file : List ℕ) (old now : FilesState) → FoundAs old now name max_object_bytes (Held file) →
     (next : Modules → Plan) → Prepares (module_part name before next) old now (Err Memory)
 unfolding module_part
 module_wants name before file old now fact = λ next.
-    made_wants Part.Module name most_object_bytes (names_with before.names) (λ f n. next (with_module before name f n)) old now file fact
+    made_wants Part.Module name max_object_bytes (names_with before.names) (λ f n. next (with_module before name f n)) old now file fact
 
-pub module_unread : (name : List ℕ) (before : Modules) (old now : FilesState) (stop : Stop) → PartRead Part.Module name most_object_bytes old now (Err stop) →
+pub module_unread : (name : List ℕ) (before : Modules) (old now : FilesState) (stop : Stop) → PartRead Part.Module name max_object_bytes old now (Err stop) →
     (next : Modules → Plan) → Prepares (module_part name before next) old now (Err stop)
 unfolding module_part
 module_unread name before old now stop it = λ next.
-    made_unread Part.Module name most_object_bytes (names_with before.names) (λ f n. next (with_module before name f n)) old now stop it
+    made_unread Part.Module name max_object_bytes (names_with before.names) (λ f n. next (with_module before name f n)) old now stop it
 
 -- the module's object behind those before it
 pub files_with : (objects : List ObjectFile) (o : ObjectFile) → map file_of (objects ++ o ∷ []) ≡ map file_of objects ++ file_of o ∷ []
@@ -172,17 +172,17 @@ module_ends from name names before old now new stop on it = λ next.
 -- ---- the policy
 
 pub making_stops : (words : PolicyWords) (kernel : Kernel) (modules : Modules) (files : FilesState) (refused : MakingRefusal) →
-    Refuses (policy_behind words.terms kernel.file kernel.digest modules.names modules.objects) refused → Prepares (making_plan words kernel modules) files files (Err (stop_of_making refused))
+    Refuses (policy_after words.terms kernel.file kernel.digest modules.names modules.objects) refused → Prepares (making_plan words kernel modules) files files (Err (stop_of_making refused))
 unfolding making_plan
 making_stops words kernel modules files refused why =
-    judged_stops (λ rules. End (due_of_measure words.out rules)) (policy_behind words.terms kernel.file kernel.digest modules.names modules.objects) refused files why
+    judged_stops (λ rules. End (due_of_measure words.out rules)) (policy_after words.terms kernel.file kernel.digest modules.names modules.objects) refused files why
 
 pub making_wants : (words : PolicyWords) (kernel : Kernel) (modules : Modules) (files : FilesState) → Prepares (making_plan words kernel modules) files files (Err Memory)
 unfolding making_plan
 making_wants words kernel modules files = judge_wants _ files
 
 pub making_ready : (words : PolicyWords) (kernel : Kernel) (modules : Modules) (files : FilesState) (rules : Rules) (made : Made) →
-    policy_behind words.terms kernel.file kernel.digest modules.names modules.objects ≡ Ok rules → IsMade words.out rules (measured_line rules.kernel) made →
+    policy_after words.terms kernel.file kernel.digest modules.names modules.objects ≡ Ok rules → IsMade words.out rules (measured_line rules.kernel) made →
     Prepares (making_plan words kernel modules) files files (Ok (Save made))
 unfolding making_plan
 making_ready words kernel modules files rules made is it =
@@ -190,13 +190,13 @@ making_ready words kernel modules files rules made is it =
     (subst (λ (j : Judged Rules). Prepares (made_judged (λ r. End (due_of_measure words.out r)) j) files files (Ok (Save made))) (sym is) (end_ready (due_of_measure words.out rules) files _ it))
 
 -- the same files under the words' terms
-pub behind_same : (terms wanted : Terms) (file kernel digest : List ℕ) (names given : List (List ℕ)) (objects held : List ObjectFile) → terms ≡ wanted → file ≡ kernel → names ≡ given → objects ≡ held →
-    policy_behind terms file digest names (map file_of objects) ≡ policy_behind wanted kernel digest given (map file_of held)
-behind_same terms wanted file kernel digest names given objects held t f n o =
-    ap (λ (s : Terms). policy_behind s file digest names (map file_of objects)) t
-    ∙ ap (λ (k : List ℕ). policy_behind wanted k digest names (map file_of objects)) f
-    ∙ ap (λ (ns : List (List ℕ)). policy_behind wanted kernel digest ns (map file_of objects)) n
-    ∙ ap (λ (os : List ObjectFile). policy_behind wanted kernel digest given (map file_of os)) o
+pub after_same : (terms wanted : Terms) (file kernel digest : List ℕ) (names given : List (List ℕ)) (objects held : List ObjectFile) → terms ≡ wanted → file ≡ kernel → names ≡ given → objects ≡ held →
+    policy_after terms file digest names (map file_of objects) ≡ policy_after wanted kernel digest given (map file_of held)
+after_same terms wanted file kernel digest names given objects held t f n o =
+    ap (λ (s : Terms). policy_after s file digest names (map file_of objects)) t
+    ∙ ap (λ (k : List ℕ). policy_after wanted k digest names (map file_of objects)) f
+    ∙ ap (λ (ns : List (List ℕ)). policy_after wanted kernel digest ns (map file_of objects)) n
+    ∙ ap (λ (os : List ObjectFile). policy_after wanted kernel digest given (map file_of os)) o
 
 -- ---- the words
 

@@ -6,33 +6,33 @@ use Rattle.std.proofs.lemmas.List.{append-nil}
 use Rattle.std.proofs.lemmas.Slice.Eq.{bytes_eq-Decides}
 use Rattle.sv_types.specs.declared.event.Event.{Event}
 use Rattle.sv_types.specs.Policies.{Rules}
-use Rattle.reference.specs.Counting.{CountsAtMost}
-use Rattle.reference.specs.States.{State}
-use Rattle.machine_model.specs.Machine.{Machine}
-use Rattle.machine_model.specs.Reaches.{IsNew}
-use Rattle.machine_model.specs.StandsFor.{machine_of}
+use Rattle.spec_reference.specs.Counting.{CountsAtMost}
+use Rattle.spec_reference.specs.States.{State}
+use Rattle.spec_hardware.specs.Machine.{Machine}
+use Rattle.spec_hardware.specs.Reaches.{IsNew}
+use Rattle.spec_hardware.specs.StandsFor.{machine_of}
 use Rattle.sv_types.specs.ApprovedPages.{numbers_from}
 use Rattle.sv_types.specs.Schedule.{Schedule, first_events}
 use Rattle.guest_gen.specs.Generated.{generated_image, generated_policy}
 use Rattle.sv_types.specs.Measure.{measure}
 use Rattle.sv_types.specs.Boot.{no_counts}
-use Rattle.sv_types.specs.Limits.{most_events}
-use Rattle.reference.specs.Start.{start, flat_start, boot_start, virtio_start}
-use Rattle.command_words.specs.declared.command.DiskKind.{DiskKind}
-use Rattle.outside.specs.Outside.{FilesState}
+use Rattle.sv_types.specs.Limits.{max_events}
+use Rattle.spec_reference.specs.Start.{start, flat_start, boot_start, virtio_start}
+use Rattle.cli_words.specs.declared.command.DiskKind.{DiskKind}
+use Rattle.host_io.specs.Outside.{FilesState}
 use Rattle.machine.specs.declared.boot.BootRefusal.{BootRefusal}
 use Rattle.machine.specs.Boot.{RefusesFlat}
-use Rattle.command_plans.specs.declared.file_fault.FileFault.{FileFault}
-use Rattle.command_plans.specs.declared.file_fault.Part.{Part}
-use Rattle.command_plans.specs.declared.refusal.Refusal.{Refusal}
-use Rattle.command_plans.specs.declared.refusal.Refusal.TheVariants.{ReadFault, File, Measure}
-use Rattle.secvisor_cli.specs.declared.ready.Booted.{Booted}
+use Rattle.cli_plans.specs.declared.file_fault.FileFault.{FileFault}
+use Rattle.cli_plans.specs.declared.file_fault.Part.{Part}
+use Rattle.cli_plans.specs.declared.refusal.Refusal.{Refusal}
+use Rattle.cli_plans.specs.declared.refusal.Refusal.TheVariants.{ReadFault, File, Measure}
+use Rattle.secvisor_cli.specs.declared.ready.PreparedRun.{PreparedRun}
 use Rattle.secvisor_cli.specs.declared.ready.Ready.{Ready}
 use Rattle.secvisor_cli.specs.declared.ready.Ready.TheVariants.{Run}
 use Rattle.secvisor_cli.specs.declared.ready.Stop.{Stop}
 use Rattle.secvisor_cli.specs.declared.ready.Stop.TheVariants.{Refused, Memory}
-use Rattle.command_plans.specs.Plans.{Due, Refuse, RunFrom, Plan, End, Judge, Found, Faulty, Missing, Longer, Held, found_plan, read_part, measure_judged, pages_judged, is_whole_pages, gen_disk, gen_due, start_with}
-use Rattle.command_plans.specs.Reading.{FoundAs}
+use Rattle.cli_plans.specs.Plans.{Due, Refuse, RunFrom, Plan, End, Judge, Found, Faulty, Missing, Longer, Held, found_plan, read_part, measure_judged, pages_judged, is_whole_pages, gen_disk, gen_due, start_with}
+use Rattle.cli_plans.specs.Reading.{FoundAs}
 use Rattle.machine.proofs.Standing.{printed_few}
 use Rattle.machine.proofs.Repeated.{counts_are, none_counted}
 use Rattle.secvisor_cli.specs.Ready.{read_refusal, PartRead, stop_of, IsReady, IsReadyWhere, Prepares}
@@ -182,13 +182,13 @@ part_of_pages bytes wanted events part =
 
 -- ---- gen
 
-pub gen_ready : (calls : ℕ) (ready : Booted) → IsNew ready.machine (boot_start (generated_policy calls) (generated_image calls) gen_disk) →
-    ready.events ≡ most_events → ready.script ≡ Schedule.Weave 0 → ready.save ≡ None → IsReady (gen_due calls) (Ok (Run ready))
+pub gen_ready : (calls : ℕ) (ready : PreparedRun) → IsNew ready.machine (boot_start (generated_policy calls) (generated_image calls) gen_disk) →
+    ready.events ≡ max_events → ready.script ≡ Schedule.Weave 0 → ready.save ≡ None → IsReady (gen_due calls) (Ok (Run ready))
 unfolding gen_due
 gen_ready calls ready new events script save =
     let fresh = fresh_boot (generated_policy calls) (generated_image calls) gen_disk ready.machine new in (
       new,
-      ap (λ (n : ℕ). first_events n ready.script) events ∙ ap (λ (s : Schedule). first_events most_events s) script,
+      ap (λ (n : ℕ). first_events n ready.script) events ∙ ap (λ (s : Schedule). first_events max_events s) script,
       ap option_copied save,
       record {
         events = omega arith;

@@ -3,18 +3,18 @@ use Rattle.std.proofs.Common.{◌≡◌, ◌≢◌, ◌≤◌, ◌<◌, ℕ, Lis
 use Rattle.sv_types.specs.declared.event.Event.{Event}
 use Rattle.sv_types.specs.declared.status.Status.{Status}
 use Rattle.sv_types.specs.Output.{run_status}
-use Rattle.reference.specs.Disk.{disk_bytes}
-use Rattle.reference.specs.Report.{output}
-use Rattle.reference.specs.Run.{run}
-use Rattle.reference.specs.States.{State}
-use Rattle.machine_model.specs.Machine.{Machine}
-use Rattle.outside.specs.Outside.{FilesState, SinkState, after_saving, after_taking, TookPrefix}
-use Rattle.outside.specs.declared.trouble.Trouble.{Trouble}
-use Rattle.outside.specs.declared.trouble.Trouble.TheVariants.{Write, Memory}
-use Rattle.command_plans.specs.Plans.{Exactly, Saving, saving_of_bytes}
-use Rattle.command_plans.specs.Reading.{IsUnder, Saved, SaveBroke}
-use Rattle.secvisor_cli.specs.Answers.{Outside, AfterSave, SavedBehind, Writes, RunsTo, RunsAndSaves, MeetsSavesBehind, is_answer}
-use Rattle.outside.specs.Endings.{status_of_end}
+use Rattle.spec_reference.specs.Disk.{disk_bytes}
+use Rattle.spec_reference.specs.Report.{output}
+use Rattle.spec_reference.specs.Run.{run}
+use Rattle.spec_reference.specs.States.{State}
+use Rattle.spec_hardware.specs.Machine.{Machine}
+use Rattle.host_io.specs.Outside.{FilesState, SinkState, after_saving, after_taking, TookPrefix}
+use Rattle.host_io.specs.declared.trouble.Trouble.{Trouble}
+use Rattle.host_io.specs.declared.trouble.Trouble.TheVariants.{Write, Memory}
+use Rattle.cli_plans.specs.Plans.{Exactly, Saving, saving_of_bytes}
+use Rattle.cli_plans.specs.Reading.{IsUnder, Saved, SaveBroke}
+use Rattle.secvisor_cli.specs.Answers.{Outside, AfterSave, SavedAfter, Writes, RunsTo, RunsAndSaves, MeetsSavesAfter, is_answer}
+use Rattle.host_io.specs.Endings.{status_of_end}
 use Rattle.secvisor_cli.proofs.EndLemmas.{runs_under}
 
 -- ---- what saving leaves alone
@@ -55,7 +55,7 @@ changes_broke s old new it =
       none = λ e. absurd (cc e);
     }
 
-pub changes : (asked : Option Saving) (old new : FilesState) (written result : Result Status Trouble) → SavedBehind asked old new written result → Changes asked old new
+pub changes : (asked : Option Saving) (old new : FilesState) (written result : Result Status Trouble) → SavedAfter asked old new written result → Changes asked old new
 changes None old new written result it = changes_same None old new it.0
 changes (Some s) old new (Err trouble) result it = changes_same (Some s) old new it.0
 changes (Some s) old new (Ok status) result (inl it) = changes_saved s old new it.0
@@ -96,21 +96,21 @@ pub broke_exactly : (name bytes : List ℕ) (old new : FilesState) → old.save_
     new ≡ record (after_saving name bytes old) { held = new.held; save_faults = new.save_faults } → SaveBroke (record { name = name; content = Exactly bytes }) old new
 broke_exactly name bytes old new faults others leaves = record { bytes = bytes; content = refl; faults = faults; others = others; leaves = leaves }
 
-pub not_saved : (asked : Option Saving) (files : FilesState) (trouble : Trouble) → SavedBehind asked files files (Err trouble) (Err trouble)
+pub not_saved : (asked : Option Saving) (files : FilesState) (trouble : Trouble) → SavedAfter asked files files (Err trouble) (Err trouble)
 not_saved None files trouble = (refl, refl)
 not_saved (Some s) files trouble = (refl, refl)
 
-pub saved_ok : (asked : Option Saving) (old new : FilesState) (status : Status) (u : Unit {0}) → AfterSave asked old new (Ok u) → SavedBehind asked old new (Ok status) (Ok status)
+pub saved_ok : (asked : Option Saving) (old new : FilesState) (status : Status) (u : Unit {0}) → AfterSave asked old new (Ok u) → SavedAfter asked old new (Ok status) (Ok status)
 saved_ok None old new status u it = (it, refl)
 saved_ok (Some s) old new status u it = inl (it, refl)
 
-pub saved_err : (asked : Option Saving) (old new : FilesState) (status : Status) (trouble : Trouble) → AfterSave asked old new (Err trouble) → SavedBehind asked old new (Ok status) (Err trouble)
+pub saved_err : (asked : Option Saving) (old new : FilesState) (status : Status) (trouble : Trouble) → AfterSave asked old new (Err trouble) → SavedAfter asked old new (Ok status) (Err trouble)
 saved_err None old new status trouble it = absurd it
 saved_err (Some s) old new status Write it = inr (it, refl)
 saved_err (Some s) old new status Memory it = absurd it
 
 -- a save never wants memory
-pub save_wants_none : (asked : Option Saving) (old new : FilesState) (status : Status) (trouble : Trouble) → SavedBehind asked old new (Ok status) (Err trouble) → IsErrOf {T = Status} (Err trouble) Memory → ⊥
+pub save_wants_none : (asked : Option Saving) (old new : FilesState) (status : Status) (trouble : Trouble) → SavedAfter asked old new (Ok status) (Err trouble) → IsErrOf {T = Status} (Err trouble) Memory → ⊥
 save_wants_none None old new status trouble it wanting = cc it.1
 save_wants_none (Some s) old new status trouble (inl it) wanting = cc it.1
 save_wants_none (Some s) old new status Write (inr it) wanting = cc wanting
@@ -133,7 +133,7 @@ wrote_then_broke : (due : Status) (bytes : List ℕ) (old new : SinkState) (resu
 wrote_then_broke due bytes old new result w = record { status = tt; proper = tt; whole = tt; prefix = w.prefix; memory = λ e. absurd (cc e) }
 
 pub wrote : (asked : Option Saving) (f0 f1 : FilesState) (due : Status) (bytes : List ℕ) (old new : SinkState) (written result : Result Status Trouble) →
-    Writes due bytes old new written → SavedBehind asked f0 f1 written result → Wrote due bytes old new result
+    Writes due bytes old new written → SavedAfter asked f0 f1 written result → Wrote due bytes old new result
 wrote None f0 f1 due bytes old new written result w it =
     subst (λ (r : Result Status Trouble). Wrote due bytes old new r) (sym it.1) (wrote_same due bytes old new written w)
 wrote (Some s) f0 f1 due bytes old new (Err trouble) result w it =
@@ -161,27 +161,27 @@ pub no_memory : (s : Status) → IsTrue (is_answer s) → s ≡ Status.Memory �
 no_memory s proper is = is_other s Status.Memory proper not_memory is
 
 none_meets : (due : Status) (bytes : List ℕ) (old new : Outside) (written : Result Status Trouble) → new.files ≡ old.files → Writes due bytes old.sink new.sink written →
-    MeetsSavesBehind None bytes old new (status_of_end written)
+    MeetsSavesAfter None bytes old new (status_of_end written)
 none_meets due bytes old new (Ok s) same w = (same, λ is. absurd (no_write_fault s w.proper is))
 none_meets due bytes old new (Err Write) same w = (same, λ _. w.write refl)
 none_meets due bytes old new (Err Memory) same w = (same, λ e. absurd (cc e))
 
 some_meets : (s : Saving) (due : Status) (bytes : List ℕ) (old new : Outside) (trouble : Trouble) → new.files ≡ old.files → Writes due bytes old.sink new.sink (Err trouble) →
-    MeetsSavesBehind (Some s) bytes old new (status_of_end (Err trouble))
+    MeetsSavesAfter (Some s) bytes old new (status_of_end (Err trouble))
 some_meets s due bytes old new Write same w = record { saved = λ t. absurd (cc t); broke = λ _. inl (same, w.write refl); wanting = λ e. absurd (cc e) }
 some_meets s due bytes old new Memory same w = record { saved = λ t. absurd (cc t); broke = λ e. absurd (cc e); wanting = λ _. same }
 
 pub meets_saves : (asked : Option Saving) (due : Status) (bytes : List ℕ) (old new : Outside) (written result : Result Status Trouble) → Writes due bytes old.sink new.sink written →
-    SavedBehind asked old.files new.files written result → MeetsSavesBehind asked bytes old new (status_of_end result)
+    SavedAfter asked old.files new.files written result → MeetsSavesAfter asked bytes old new (status_of_end result)
 meets_saves None due bytes old new written result w it =
-    subst (λ (r : Result Status Trouble). MeetsSavesBehind None bytes old new (status_of_end r)) (sym it.1) (none_meets due bytes old new written it.0 w)
+    subst (λ (r : Result Status Trouble). MeetsSavesAfter None bytes old new (status_of_end r)) (sym it.1) (none_meets due bytes old new written it.0 w)
 meets_saves (Some s) due bytes old new (Err trouble) result w it =
-    subst (λ (r : Result Status Trouble). MeetsSavesBehind (Some s) bytes old new (status_of_end r)) (sym it.1) (some_meets s due bytes old new trouble it.0 w)
+    subst (λ (r : Result Status Trouble). MeetsSavesAfter (Some s) bytes old new (status_of_end r)) (sym it.1) (some_meets s due bytes old new trouble it.0 w)
 meets_saves (Some s) due bytes old new (Ok status) result w (inl it) =
-    subst (λ (r : Result Status Trouble). MeetsSavesBehind (Some s) bytes old new (status_of_end r)) (sym it.1)
+    subst (λ (r : Result Status Trouble). MeetsSavesAfter (Some s) bytes old new (status_of_end r)) (sym it.1)
     (record { saved = λ _. it.0; broke = λ is. absurd (no_write_fault status w.proper is); wanting = λ is. absurd (no_memory status w.proper is) })
 meets_saves (Some s) due bytes old new (Ok status) result w (inr it) =
-    subst (λ (r : Result Status Trouble). MeetsSavesBehind (Some s) bytes old new (status_of_end r)) (sym it.1)
+    subst (λ (r : Result Status Trouble). MeetsSavesAfter (Some s) bytes old new (status_of_end r)) (sym it.1)
     (record { saved = λ t. absurd (cc t); broke = λ _. inr (it.0, w.whole); wanting = λ e. absurd (cc e) })
 
 broke_faults : (s : Saving) (bytes : List ℕ) (old new : Outside) →
@@ -190,7 +190,7 @@ broke_faults s bytes old new (inl it) = let rose = it.1 in omega arith
 broke_faults s bytes old new (inr it) = let same : new.sink.faults ≡ old.sink.faults = ap (λ (k : SinkState). k.faults) it.1 in omega arith
 
 -- the sink's count never falls
-pub meets_faults : (asked : Option Saving) (bytes : List ℕ) (old new : Outside) → MeetsSavesBehind asked bytes old new Status.WriteFault → old.sink.faults ≤ new.sink.faults
+pub meets_faults : (asked : Option Saving) (bytes : List ℕ) (old new : Outside) → MeetsSavesAfter asked bytes old new Status.WriteFault → old.sink.faults ≤ new.sink.faults
 meets_faults None bytes old new m = let rose = m.1 refl in omega arith
 meets_faults (Some s) bytes old new m = broke_faults s bytes old new (m.broke refl)
 
@@ -224,7 +224,7 @@ pub run_broke : (start : State) (events : List Event) (save : Option (List ℕ))
     RunsAndSaves start events save m f0 f1 old new (Err trouble)
 run_broke start events save m f0 f1 old new status trouble disk w runs it =
     let asked : Option Saving = saving_of_bytes (disk_bytes (run start events).devices.disk) save in
-    let behind : SavedBehind asked f0 f1 (Ok status) (Err trouble) =
+    let behind : SavedAfter asked f0 f1 (Ok status) (Err trouble) =
     saved_err asked f0 f1 status trouble (subst (λ (bytes : List ℕ). AfterSave (saving_of_bytes bytes save) f0 f1 (Err trouble)) disk it) in
     record {
       written = Ok status;

@@ -13,23 +13,23 @@ use Rattle.policy.specs.Refusals.{Judged}
 use Rattle.policy.specs.Text.{rules_of_text}
 use Rattle.elf64_load.specs.Images.{segments_of}
 use Rattle.elf64_load.specs.declared.image.KernelImage.{KernelImage}
-use Rattle.command_words.specs.declared.command.DiskKind.{DiskKind}
-use Rattle.reference.specs.States.{has_number}
+use Rattle.cli_words.specs.declared.command.DiskKind.{DiskKind}
+use Rattle.spec_reference.specs.States.{has_number}
 use Rattle.machine.specs.declared.boot.BootRefusal.{BootRefusal}
 use Rattle.machine.specs.Boot.{IsImageOf, RefusesImage}
-use Rattle.outside.specs.Outside.{FilesState}
+use Rattle.host_io.specs.Outside.{FilesState}
 use Rattle.sv_types.specs.declared.image_fault.ImageFault.{ImageFault}
-use Rattle.sv_types.specs.Limits.{most_disk_bytes}
-use Rattle.command_plans.specs.declared.file_fault.Part.{Part}
-use Rattle.command_plans.specs.declared.file_fault.FileFault.{FileFault}
-use Rattle.command_plans.specs.declared.refusal.Refusal.{Refusal}
-use Rattle.command_plans.specs.declared.refusal.Refusal.TheVariants.{File, Measure, Entry}
+use Rattle.sv_types.specs.Limits.{max_disk_bytes}
+use Rattle.cli_plans.specs.declared.file_fault.Part.{Part}
+use Rattle.cli_plans.specs.declared.file_fault.FileFault.{FileFault}
+use Rattle.cli_plans.specs.declared.refusal.Refusal.{Refusal}
+use Rattle.cli_plans.specs.declared.refusal.Refusal.TheVariants.{File, Measure, Entry}
 use Rattle.secvisor_cli.specs.declared.ready.Ready.{Ready}
 use Rattle.secvisor_cli.specs.declared.ready.Stop.{Stop}
 use Rattle.secvisor_cli.specs.declared.ready.Stop.TheVariants.{Refused, Memory}
-use Rattle.command_plans.specs.CommandLine.{Command, RunWords, Rounds, Auto, Bursts, Text}
-use Rattle.command_plans.specs.Plans.{Due, Refuse, RunFrom, Plan, End, Judge, Held, found_plan, read_part, most_policy_bytes, most_script_bytes, policy_judged, policy_part, part_judged, kernel_part, disk_refusal, disk_part, text_part, script_part, image_measure, boot_judged, boot_plan, command_plan, plan_of, start_with}
-use Rattle.command_plans.specs.Reading.{FoundAs, Follows, MayFollow}
+use Rattle.cli_plans.specs.CommandLine.{Command, RunWords, Rounds, Auto, Bursts, Text}
+use Rattle.cli_plans.specs.Plans.{Due, Refuse, RunFrom, Plan, End, Judge, Held, found_plan, read_part, max_policy_bytes, max_script_bytes, policy_judged, policy_part, part_judged, kernel_part, disk_refusal, disk_part, text_part, script_part, image_measure, boot_judged, boot_plan, command_plan, plan_of, start_with}
+use Rattle.cli_plans.specs.Reading.{FoundAs, Follows, MayFollow}
 use Rattle.secvisor_cli.specs.Ready.{PartRead, stop_of, IsReady, Prepares, Passes, Staged, MayStage, IsPolicy, IsKernel, IsScript}
 use Rattle.secvisor_cli.proofs.ReadyLemmas.{end_ready, judge_ready, judge_wants, judge_end, read_ready, stopped_ready, bytes_eq-same, bytes_eq-other}
 
@@ -81,26 +81,26 @@ read_faults name limit old now bytes fact = ap (λ (f : FilesState). f.read_faul
 
 -- ---- the policy
 
-pub policy_staged : (name bytes : List ℕ) (old new : FilesState) (result : Result Policy Stop) → FoundAs old new name most_policy_bytes (Held bytes) →
+pub policy_staged : (name bytes : List ℕ) (old new : FilesState) (result : Result Policy Stop) → FoundAs old new name max_policy_bytes (Held bytes) →
     IsPolicy (rules_of_text bytes) result → Staged (policy_part name) rules_of old new result
 unfolding policy_part
 policy_staged name bytes old new (Ok policy) fact is = record {
   follows = λ next last reached follows.
-      read_follows Part.Policy name most_policy_bytes (λ b. Judge (policy_judged next (rules_of_text b))) old new last bytes reached fact
+      read_follows Part.Policy name max_policy_bytes (λ b. Judge (policy_judged next (rules_of_text b))) old new last bytes reached fact
       (inr (subst (λ (j : Judged Rules). Follows (policy_judged next j) new last reached) (sym is) follows));
   may = λ next may.
       subst (λ (j : Judged Rules). MayFollow (policy_judged next j) new) is
-      (read_may Part.Policy name most_policy_bytes (λ b. Judge (policy_judged next (rules_of_text b))) old new bytes fact may);
-  faults = read_faults name most_policy_bytes old new bytes fact;
+      (read_may Part.Policy name max_policy_bytes (λ b. Judge (policy_judged next (rules_of_text b))) old new bytes fact may);
+  faults = read_faults name max_policy_bytes old new bytes fact;
 }
 policy_staged name bytes old new (Err (Refused refusal)) fact is = λ next.
-    read_ready Part.Policy name most_policy_bytes (λ b. Judge (policy_judged next (rules_of_text b))) old new new bytes _ fact
+    read_ready Part.Policy name max_policy_bytes (λ b. Judge (policy_judged next (rules_of_text b))) old new new bytes _ fact
     (judge_ready _ new new _ (subst (λ (j : Judged Rules). Prepares (policy_judged next j) new new (Err (Refused refusal))) (sym is.1)
     (end_ready (Refuse (File (FileFault.Policy is.0))) new _ is.2)))
 policy_staged name bytes old new (Err Memory) fact is = λ next.
-    read_ready Part.Policy name most_policy_bytes (λ b. Judge (policy_judged next (rules_of_text b))) old new new bytes _ fact (judge_wants _ new)
+    read_ready Part.Policy name max_policy_bytes (λ b. Judge (policy_judged next (rules_of_text b))) old new new bytes _ fact (judge_wants _ new)
 
-pub policy_unread : (name : List ℕ) (old new : FilesState) (stop : Stop) → PartRead Part.Policy name most_policy_bytes old new (Err stop) → Staged {T = Policy} (policy_part name) rules_of old new (Err stop)
+pub policy_unread : (name : List ℕ) (old new : FilesState) (stop : Stop) → PartRead Part.Policy name max_policy_bytes old new (Err stop) → Staged {T = Policy} (policy_part name) rules_of old new (Err stop)
 unfolding policy_part
 policy_unread name old new stop it = λ next. stopped_ready _ _ _ _ old new stop it
 
@@ -141,32 +141,32 @@ whole_sectors disk whole = ap (λ (b : Bool). if b then None else Some FileFault
 part_sectors : (disk : List ℕ) → (length disk % 512 == 0) ≡ false → disk_refusal disk ≡ Some FileFault.DiskSectors
 part_sectors disk part = ap (λ (b : Bool). if b then None else Some FileFault.DiskSectors) part
 
-pub disk_read : (name disk : List ℕ) (old new : FilesState) → FoundAs old new name most_disk_bytes (Held disk) → (length disk % 512 == 0) ≡ true → Passes (disk_part (Some name)) disk old new
+pub disk_read : (name disk : List ℕ) (old new : FilesState) → FoundAs old new name max_disk_bytes (Held disk) → (length disk % 512 == 0) ≡ true → Passes (disk_part (Some name)) disk old new
 unfolding disk_part
 disk_read name disk old new fact whole = record {
   follows = λ next last reached follows.
-      read_follows Part.Disk name most_disk_bytes (λ b. part_judged (λ fault. fault) (next b) (disk_refusal b)) old new last disk reached fact
+      read_follows Part.Disk name max_disk_bytes (λ b. part_judged (λ fault. fault) (next b) (disk_refusal b)) old new last disk reached fact
       (subst (λ (r : Option FileFault). Follows (part_judged (λ fault. fault) (next disk) r) new last reached) (sym (whole_sectors disk whole)) follows);
   may = λ next may.
       subst (λ (r : Option FileFault). MayFollow (part_judged (λ fault. fault) (next disk) r) new) (whole_sectors disk whole)
-      (read_may Part.Disk name most_disk_bytes (λ b. part_judged (λ fault. fault) (next b) (disk_refusal b)) old new disk fact may);
-  faults = read_faults name most_disk_bytes old new disk fact;
+      (read_may Part.Disk name max_disk_bytes (λ b. part_judged (λ fault. fault) (next b) (disk_refusal b)) old new disk fact may);
+  faults = read_faults name max_disk_bytes old new disk fact;
 }
 
-pub disk_refused : (name disk : List ℕ) (old new : FilesState) → FoundAs old new name most_disk_bytes (Held disk) → (length disk % 512 == 0) ≡ false →
+pub disk_refused : (name disk : List ℕ) (old new : FilesState) → FoundAs old new name max_disk_bytes (Held disk) → (length disk % 512 == 0) ≡ false →
     (next : List ℕ → Plan) → Prepares (disk_part (Some name) next) old new (Err (Refused (File FileFault.DiskSectors)))
 unfolding disk_part
 disk_refused name disk old new fact part = λ next.
-    read_ready Part.Disk name most_disk_bytes (λ b. part_judged (λ fault. fault) (next b) (disk_refusal b)) old new new disk _ fact
+    read_ready Part.Disk name max_disk_bytes (λ b. part_judged (λ fault. fault) (next b) (disk_refusal b)) old new new disk _ fact
     (subst (λ (r : Option FileFault). Prepares (part_judged (λ fault. fault) (next disk) r) new new (Err (Refused (File FileFault.DiskSectors)))) (sym (part_sectors disk part))
     (end_ready (Refuse (File FileFault.DiskSectors)) new _ refl))
 
-pub disk_unread : (name : List ℕ) (old new : FilesState) (stop : Stop) → PartRead Part.Disk name most_disk_bytes old new (Err stop) →
+pub disk_unread : (name : List ℕ) (old new : FilesState) (stop : Stop) → PartRead Part.Disk name max_disk_bytes old new (Err stop) →
     (next : List ℕ → Plan) → Prepares (disk_part (Some name) next) old new (Err stop)
 unfolding disk_part
 disk_unread name old new stop it = λ next. stopped_ready _ _ _ _ old new stop it
 
-pub disk_asked : (name : List ℕ) (next : List ℕ → Plan) (files : FilesState) → MayFollow (disk_part (Some name) next) files → IsTrue (files.permits ((name, most_disk_bytes) ∷ []))
+pub disk_asked : (name : List ℕ) (next : List ℕ → Plan) (files : FilesState) → MayFollow (disk_part (Some name) next) files → IsTrue (files.permits ((name, max_disk_bytes) ∷ []))
 unfolding disk_part
 disk_asked name next files may = may.0
 
@@ -200,28 +200,28 @@ bursts_pass harts number script files is = record {
 abbrev text_next : (harts : ℕ) → (Schedule → Plan) → List ℕ → Plan
 text_next harts next bytes = Judge (part_judged FileFault.ScriptLine (next (Schedule.Listed (events_of_text harts bytes))) (first_refused bytes))
 
-pub text_staged : (harts : ℕ) (name bytes : List ℕ) (old new : FilesState) (result : Result Schedule Stop) → FoundAs old new name most_script_bytes (Held bytes) → IsScript harts bytes result →
+pub text_staged : (harts : ℕ) (name bytes : List ℕ) (old new : FilesState) (result : Result Schedule Stop) → FoundAs old new name max_script_bytes (Held bytes) → IsScript harts bytes result →
     Staged (text_part harts name) (λ (s : Schedule). s) old new result
 unfolding text_part
 text_staged harts name bytes old new (Ok script) fact is = record {
   follows = λ next last reached follows.
-      read_follows Part.Script name most_script_bytes (text_next harts next) old new last bytes reached fact
+      read_follows Part.Script name max_script_bytes (text_next harts next) old new last bytes reached fact
       (inr (subst (λ (r : Option ℕ). Follows (part_judged FileFault.ScriptLine (next (Schedule.Listed (events_of_text harts bytes))) r) new last reached) (sym is.1)
       (subst (λ (s : Schedule). Follows (next s) new last reached) is.0 follows)));
   may = λ next may.
       subst (λ (s : Schedule). MayFollow (next s) new) (sym is.0)
       (subst (λ (r : Option ℕ). MayFollow (part_judged FileFault.ScriptLine (next (Schedule.Listed (events_of_text harts bytes))) r) new) is.1
-      (read_may Part.Script name most_script_bytes (text_next harts next) old new bytes fact may));
-  faults = read_faults name most_script_bytes old new bytes fact;
+      (read_may Part.Script name max_script_bytes (text_next harts next) old new bytes fact may));
+  faults = read_faults name max_script_bytes old new bytes fact;
 }
 text_staged harts name bytes old new (Err (Refused refusal)) fact is = λ next.
-    read_ready Part.Script name most_script_bytes (text_next harts next) old new new bytes _ fact
+    read_ready Part.Script name max_script_bytes (text_next harts next) old new new bytes _ fact
     (judge_ready _ new new _ (subst (λ (r : Option ℕ). Prepares (part_judged FileFault.ScriptLine (next (Schedule.Listed (events_of_text harts bytes))) r) new new (Err (Refused refusal))) (sym is.1)
     (end_ready (Refuse (File (FileFault.ScriptLine is.0))) new _ is.2)))
 text_staged harts name bytes old new (Err Memory) fact is = λ next.
-    read_ready Part.Script name most_script_bytes (text_next harts next) old new new bytes _ fact (judge_wants _ new)
+    read_ready Part.Script name max_script_bytes (text_next harts next) old new new bytes _ fact (judge_wants _ new)
 
-pub text_unread : (harts : ℕ) (name : List ℕ) (old new : FilesState) (stop : Stop) → PartRead Part.Script name most_script_bytes old new (Err stop) →
+pub text_unread : (harts : ℕ) (name : List ℕ) (old new : FilesState) (stop : Stop) → PartRead Part.Script name max_script_bytes old new (Err stop) →
     (next : Schedule → Plan) → Prepares (text_part harts name next) old new (Err stop)
 unfolding text_part
 text_unread harts name old new stop it = λ next. stopped_ready _ _ _ _ old new stop it

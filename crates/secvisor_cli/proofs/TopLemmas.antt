@@ -4,37 +4,37 @@ use Rattle.std.specs.Option.{option_copied}
 use Rattle.std.specs.Result.{is_ok}
 use Rattle.sv_types.specs.declared.event.Event.{Event}
 use Rattle.sv_types.specs.declared.status.Status.{Status}
-use Rattle.reference.specs.States.{State}
+use Rattle.spec_reference.specs.States.{State}
 use Rattle.sv_types.specs.Policies.{Rules}
 use Rattle.policy.specs.Text.{rules_of_text}
-use Rattle.machine_model.specs.Machine.{Machine}
+use Rattle.spec_hardware.specs.Machine.{Machine}
 use Rattle.machine.proofs.Repeated.{counts_within}
-use Rattle.machine_model.specs.Reaches.{IsNew}
+use Rattle.spec_hardware.specs.Reaches.{IsNew}
 use Rattle.sv_types.specs.Schedule.{first_events}
-use Rattle.sv_types.specs.Limits.{most_events}
-use Rattle.outside.specs.Outside.{FilesState, SinkState, after_taking, TookPrefix, BreaksOff}
-use Rattle.outside.proofs.SinkLemmas.{prefix_none, prefix_whole}
-use Rattle.command_plans.specs.declared.refusal.Refusal.{Refusal}
-use Rattle.secvisor_cli.specs.declared.ready.Booted.{Booted}
+use Rattle.sv_types.specs.Limits.{max_events}
+use Rattle.host_io.specs.Outside.{FilesState, SinkState, after_taking, TookPrefix, BreaksOff}
+use Rattle.host_io.proofs.SinkLemmas.{prefix_none, prefix_whole}
+use Rattle.cli_plans.specs.declared.refusal.Refusal.{Refusal}
+use Rattle.secvisor_cli.specs.declared.ready.PreparedRun.{PreparedRun}
 use Rattle.secvisor_cli.specs.declared.ready.Made.{Made}
 use Rattle.secvisor_cli.specs.declared.ready.Ready.{Ready}
 use Rattle.secvisor_cli.specs.declared.ready.Ready.TheVariants.{Run as Boots, Save}
 use Rattle.secvisor_cli.specs.declared.ready.Stop.{Stop}
 use Rattle.secvisor_cli.specs.declared.ready.Stop.TheVariants.{Refused}
 use Rattle.secvisor_cli.specs.declared.ready.Stop.TheVariants as stop
-use Rattle.outside.specs.declared.trouble.Trouble.{Trouble}
-use Rattle.outside.specs.declared.trouble.Trouble.TheVariants.{Write, Memory}
-use Rattle.command_plans.specs.Refusals.{refusal_line, refusal_status, takes_memory}
-use Rattle.command_plans.specs.CommandLine.{Command, judgement_of_words}
-use Rattle.command_plans.specs.Plans.{Due, Refuse, RunFrom, Make, Exactly, Saving, policy_saving, saves_due, Plan, bytes_due, status_due, plan_of}
-use Rattle.command_plans.specs.Reading.{Follows, MayFollow, MaySave, Saved, SaveBroke, SavesUnder}
+use Rattle.host_io.specs.declared.trouble.Trouble.{Trouble}
+use Rattle.host_io.specs.declared.trouble.Trouble.TheVariants.{Write, Memory}
+use Rattle.cli_plans.specs.Refusals.{refusal_line, refusal_status, takes_memory}
+use Rattle.cli_plans.specs.CommandLine.{Command, judgement_of_words}
+use Rattle.cli_plans.specs.Plans.{Due, Refuse, RunFrom, Make, Exactly, Saving, policy_saving, saves_due, Plan, bytes_due, status_due, plan_of}
+use Rattle.cli_plans.specs.Reading.{Follows, MayFollow, MaySave, Saved, SaveBroke, SavesUnder}
 use Rattle.secvisor_cli.specs.Ready.{IsMade, IsReady, IsReadyWhere, IsFresh, IsRunnable, MayCarryOut, MaySaveRun, Prepares}
-use Rattle.secvisor_cli.specs.Answers.{Outside, outside, Writes, SavesAndWrites, WritesAndSaves, Answers, AnswersReached, Performs, MeetsSaves, MeetsSavesBehind, Meets, MeetsReached, Headline, BenchAfter}
-use Rattle.outside.specs.Endings.{status_of_end}
+use Rattle.secvisor_cli.specs.Answers.{Outside, outside, Writes, SavesAndWrites, WritesAndSaves, Answers, AnswersReached, Performs, MeetsSaves, MeetsSavesAfter, Meets, MeetsReached, Headline, BenchAfter}
+use Rattle.host_io.specs.Endings.{status_of_end}
 use Rattle.secvisor_cli.proofs.EndLemmas.{runs_under}
-use Rattle.command_plans.proofs.PlanLemmas.{HasFoundFaults, HasFault, Keeps, follows_keeps, may_save, read_fault, saves_under, may_follow}
+use Rattle.cli_plans.proofs.PlanLemmas.{HasFoundFaults, HasFault, Keeps, follows_keeps, may_save, read_fault, saves_under, may_follow}
 use Rattle.secvisor_cli.proofs.SaveLemmas.{Changes, Wrote, changes, changes_saved, changes_broke, unchanged, no_memory, wrote, meets_saves, meets_faults, ChangesOut}
-use Rattle.command_plans.proofs.FoundFaults.{judged_found_faults}
+use Rattle.cli_plans.proofs.FoundFaults.{judged_found_faults}
 
 -- ---- want of memory
 
@@ -46,20 +46,20 @@ wanting_answers (Some due) files sink bench it = absurd it
 -- ---- what is ready, and what is refused
 
 -- a machine that has made no event may be run
-runs_fresh : (ready : Booted) → IsFresh ready → IsRunnable ready
+runs_fresh : (ready : PreparedRun) → IsFresh ready → IsRunnable ready
 runs_fresh ready fresh = record {
   events = fresh.events;
   state = fresh.state;
-  counts = counts_within 0 most_events ready.machine.journal.counts (omega arith) fresh.counts;
+  counts = counts_within 0 max_events ready.machine.journal.counts (omega arith) fresh.counts;
   console = fresh.console;
 }
 
-pub is_runnable : (due : Due) (ready : Booted) → IsReady due (Ok (Boots ready)) → IsRunnable ready
+pub is_runnable : (due : Due) (ready : PreparedRun) → IsReady due (Ok (Boots ready)) → IsRunnable ready
 is_runnable (Refuse refusal) ready it = absurd it
 is_runnable (RunFrom start events save) ready it = runs_fresh ready it.3
 is_runnable (Make name rules line) ready it = absurd it
 
-pub may_save_run : (due : Due) (ready : Booted) (files : FilesState) → IsReady due (Ok (Boots ready)) → MaySave (saves_due due) files →
+pub may_save_run : (due : Due) (ready : PreparedRun) (files : FilesState) → IsReady due (Ok (Boots ready)) → MaySave (saves_due due) files →
     MaySaveRun ready.machine (first_events ready.events ready.script) (option_copied ready.save) files
 may_save_run (Refuse refusal) ready files it may = absurd it
 may_save_run (RunFrom start events save) ready files it may = record {
@@ -92,7 +92,7 @@ pub ready_answers : (reached : Option Due) (ready : Ready) (old new : Outside) (
 ready_answers None ready old new result it a = absurd (cc it)
 ready_answers (Some due) ready old new result it a = a due it
 
-pub booted_answers : (due : Due) (ready : Booted) (old new : Outside) (result : Result Status Trouble) → IsReady due (Ok (Boots ready)) →
+pub booted_answers : (due : Due) (ready : PreparedRun) (old new : Outside) (result : Result Status Trouble) → IsReady due (Ok (Boots ready)) →
     ((start : State) → IsNew ready.machine start → WritesAndSaves (RunFrom start (first_events ready.events ready.script) (option_copied ready.save)) old new result) →
     Answers due old new result
 booted_answers (Refuse refusal) ready old new result it a = absurd it
@@ -206,7 +206,7 @@ meets_written due old new result a saves =
     meets_by due old new result a (wrote (saves_due due) old.files new.files (status_due due) (bytes_due due) old.sink new.sink a.written result a.writes a.saves) saves
 
 meets_first : (due : Due) (old new : Outside) (result : Result Status Trouble) → WritesAndSaves due old new result →
-    MeetsSavesBehind (saves_due due) (bytes_due due) old new (status_of_end result)
+    MeetsSavesAfter (saves_due due) (bytes_due due) old new (status_of_end result)
 meets_first due old new result a = meets_saves (saves_due due) (status_due due) (bytes_due due) old new a.written result a.writes a.saves
 
 meets_made : (name : List ℕ) (rules : Rules) (line : List ℕ) (old new : Outside) (result : Result Status Trouble) →

@@ -1,22 +1,22 @@
 -- What the program owes to what is asked of it.
 use Rattle.std.specs.Prelude.{◌≡◌, ◌≢◌, ◌<◌, ◌≤◌, ◌⊎◌, ℕ, List, [], ◌++◌, length, Bool, true, false, IsTrue, IsFalse, Option, Some, None, Result, Ok, Err, OnOk, IfOk, IsErrOf}
-use Rattle.sv_types.specs.Limits.{most_printed}
+use Rattle.sv_types.specs.Limits.{max_printed}
 use Rattle.sv_types.specs.declared.event.Event.{Event}
 use Rattle.sv_types.specs.declared.status.Status.{Status}
-use Rattle.reference.specs.States.{State}
+use Rattle.spec_reference.specs.States.{State}
 use Rattle.sv_types.specs.Output.{run_status}
-use Rattle.reference.specs.Disk.{disk_bytes}
-use Rattle.reference.specs.Report.{output}
-use Rattle.reference.specs.Run.{run}
-use Rattle.machine_model.specs.Machine.{Machine}
-use Rattle.machine_model.specs.Reaches.{Reaches}
-use Rattle.outside.specs.Outside.{FilesState, SinkState, after_taking, TookPrefix, BreaksOff}
-use Rattle.outside.specs.declared.trouble.Trouble.{Trouble}
-use Rattle.outside.specs.declared.trouble.Trouble.TheVariants.{Write, Memory}
-use Rattle.command_plans.specs.Refusals.{refusal_line, takes_memory}
-use Rattle.command_plans.specs.Plans.{Due, Refuse, RunFrom, Make, Saving, saving_of_bytes, policy_saving, Plan, bytes_due, status_due, saves_due}
-use Rattle.machine.specs.Console.{is_due}
-use Rattle.command_plans.specs.Reading.{Follows, Saved, SaveBroke}
+use Rattle.spec_reference.specs.Disk.{disk_bytes}
+use Rattle.spec_reference.specs.Report.{output}
+use Rattle.spec_reference.specs.Run.{run}
+use Rattle.spec_hardware.specs.Machine.{Machine}
+use Rattle.spec_hardware.specs.Reaches.{Reaches}
+use Rattle.host_io.specs.Outside.{FilesState, SinkState, after_taking, TookPrefix, BreaksOff}
+use Rattle.host_io.specs.declared.trouble.Trouble.{Trouble}
+use Rattle.host_io.specs.declared.trouble.Trouble.TheVariants.{Write, Memory}
+use Rattle.cli_plans.specs.Refusals.{refusal_line, takes_memory}
+use Rattle.cli_plans.specs.Plans.{Due, Refuse, RunFrom, Make, Saving, saving_of_bytes, policy_saving, Plan, bytes_due, status_due, saves_due}
+use Rattle.machine.specs.Console.{flush_is_due}
+use Rattle.cli_plans.specs.Reading.{Follows, Saved, SaveBroke}
 use Rattle.machine.specs.Standing.{Stands, machine_output}
 
 -- what stands outside the program: the files, the sink, and the machine on the bench
@@ -43,9 +43,9 @@ pub record RunsTo (wanting : Type 0) (start : State) (events : List Event) (mach
   pub first : Machine
   pub reaches : Reaches first start done machine
   pub rest :
-      ((left ≡ []) × (length machine.journal.printed < most_printed) × IsFalse (is_due machine.journal.printed)
+      ((left ≡ []) × (length machine.journal.printed < max_printed) × IsFalse (flush_is_due machine.journal.printed)
       × TookPrefix (after_taking old cleared) new (machine_output machine))
-      ⊎ ((length machine.journal.printed ≤ most_printed) × IsTrue (is_due machine.journal.printed)
+      ⊎ ((length machine.journal.printed ≤ max_printed) × IsTrue (flush_is_due machine.journal.printed)
       × BreaksOff (after_taking old cleared) new machine.journal.printed)
   -- nothing is written where memory was wanting
   pub quiet : wanting → new ≡ after_taking old cleared
@@ -100,10 +100,10 @@ AfterSave (Some saving) old new (Err Write) = SaveBroke saving old new
 AfterSave (Some saving) old new (Err Memory) = ⊥
 
 -- Saving, behind what was to be written: nothing is saved after a write that failed, or where memory was wanting.
-abbrev pub SavedBehind : Option Saving → FilesState → FilesState → (written result : Result Status Trouble) → Type 0
-SavedBehind None old new written result = (new ≡ old) × (result ≡ written)
-SavedBehind (Some saving) old new (Err trouble) result = (new ≡ old) × (result ≡ Err trouble)
-SavedBehind (Some saving) old new (Ok status) result =
+abbrev pub SavedAfter : Option Saving → FilesState → FilesState → (written result : Result Status Trouble) → Type 0
+SavedAfter None old new written result = (new ≡ old) × (result ≡ written)
+SavedAfter (Some saving) old new (Err trouble) result = (new ≡ old) × (result ≡ Err trouble)
+SavedAfter (Some saving) old new (Ok status) result =
     (Saved saving old new × (result ≡ Ok status)) ⊎ (SaveBroke saving old new × (result ≡ Err Write))
 
 -- a run and its report, and then its disk
@@ -112,7 +112,7 @@ pub record RunsAndSaves (start : State) (events : List Event) (save : Option (Li
   -- how writing ended
   pub written : Result Status Trouble
   pub writes : Writes (run_status (run start events).journal.verdict) (output (run start events)) old new written
-  pub saves : SavedBehind (saving_of_bytes (disk_bytes (run start events).devices.disk) save) files_old files_new written result
+  pub saves : SavedAfter (saving_of_bytes (disk_bytes (run start events).devices.disk) save) files_old files_new written result
   pub runs : RunsTo (IsErrOf result Memory) start events machine old new
 
 -- A policy was saved, and then its line written. Where the save failed, nothing was written.
@@ -128,7 +128,7 @@ pub record WritesAndSaves (due : Due) (old new : Outside) (result : Result Statu
   -- how writing ended
   pub written : Result Status Trouble
   pub writes : Writes (status_due due) (bytes_due due) old.sink new.sink written
-  pub saves : SavedBehind (saves_due due) old.files new.files written result
+  pub saves : SavedAfter (saves_due due) old.files new.files written result
   pub wants : IsErrOf result Memory → IsTrue (may_want due)
   pub quiet : IsErrOf result Memory → StaysQuiet due old.sink new.sink
   pub bench : BenchAfter (IsErrOf result Memory) due old.sink new.sink old.bench new.bench
@@ -164,10 +164,10 @@ pub record MeetsSaving (saving : Saving) (bytes : List ℕ) (old new : Outside) 
   pub wanting : answer ≡ Status.Memory → new.files ≡ old.files
 
 -- where nothing is due to be saved, a write fault is answered exactly where the sink's count rose
-abbrev pub MeetsSavesBehind : Option Saving → List ℕ → Outside → Outside → Status → Type 0
-MeetsSavesBehind None bytes old new answer =
+abbrev pub MeetsSavesAfter : Option Saving → List ℕ → Outside → Outside → Status → Type 0
+MeetsSavesAfter None bytes old new answer =
     (new.files ≡ old.files) × (answer ≡ Status.WriteFault → old.sink.faults < new.sink.faults)
-MeetsSavesBehind (Some saving) bytes old new answer = MeetsSaving saving bytes old new answer
+MeetsSavesAfter (Some saving) bytes old new answer = MeetsSaving saving bytes old new answer
 
 -- Saved where the status is that of the end; else a write fault is that of the save, before which nothing is written, or
 -- the sink's, behind it.
@@ -178,9 +178,9 @@ pub record MeetsSavingFirst (saving : Saving) (old new : Outside) (answer : Stat
       ⊎ (Saved saving old.files new.files × (old.sink.faults < new.sink.faults))
 
 abbrev pub MeetsSaves : Due → Outside → Outside → Status → Type 0
-MeetsSaves (Refuse refusal) old new answer = MeetsSavesBehind None (refusal_line refusal) old new answer
+MeetsSaves (Refuse refusal) old new answer = MeetsSavesAfter None (refusal_line refusal) old new answer
 MeetsSaves (RunFrom start events save) old new answer =
-    MeetsSavesBehind (saves_due (RunFrom start events save)) (output (run start events)) old new answer
+    MeetsSavesAfter (saves_due (RunFrom start events save)) (output (run start events)) old new answer
 MeetsSaves (Make name rules line) old new answer = MeetsSavingFirst (policy_saving name rules) old new answer
 
 -- The status and all bytes that are due, unless a write failed or memory was wanting.

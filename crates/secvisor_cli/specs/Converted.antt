@@ -1,16 +1,16 @@
 -- What stands outside where `convert` is done.
 use Rattle.std.specs.Prelude.{◌≡◌, true, ℕ, List, length, IsTrue, Some, Ok}
-use Rattle.command_words.specs.Commands.{ConvertSplit}
+use Rattle.cli_words.specs.Commands.{ConvertSplit}
 use Rattle.std.specs.List.{list_all}
 use Rattle.sv_types.specs.Kernel.{kernel_segments}
 use Rattle.sv_types.specs.Policies.{Rules}
 use Rattle.policy.specs.Text.{rules_of_text}
 use Rattle.policy_making.specs.Binding.{bound_rules}
 use Rattle.policy_making.specs.InText.{is_in_text}
-use Rattle.outside.specs.Outside.{FilesState, after_taking}
+use Rattle.host_io.specs.Outside.{FilesState, after_taking}
 use Rattle.secvisor_cli.specs.Answers.{Outside}
-use Rattle.command_plans.specs.Plans.{converted_line, policy_saving}
-use Rattle.command_plans.specs.Reading.{Saved}
+use Rattle.cli_plans.specs.Plans.{converted_line, policy_saving}
+use Rattle.cli_plans.specs.Reading.{Saved}
 
 -- a name holds these bytes, where the files tell it
 abbrev pub Holds : FilesState → (name bytes : List ℕ) → Type 0

@@ -3,12 +3,12 @@ use Rattle.std.specs.Prelude.{◌≡◌, ◌<◌, ◌⊎◌, ℕ, List, length, 
 use Rattle.sv_types.specs.declared.event.Event.{Event}
 use Rattle.sv_types.specs.declared.status.Status.{Status}
 use Rattle.sv_types.specs.Output.{run_status}
-use Rattle.reference.specs.Run.{run}
-use Rattle.reference.specs.States.{State}
-use Rattle.outside.specs.Outside.{FilesState}
+use Rattle.spec_reference.specs.Run.{run}
+use Rattle.spec_reference.specs.States.{State}
+use Rattle.host_io.specs.Outside.{FilesState}
 use Rattle.secvisor_cli.specs.Answers.{Outside, Headline}
-use Rattle.command_plans.specs.Plans.{Due, RunFrom, Plan, End, Read, Judge, Found, Missing, Longer, Held}
-use Rattle.command_plans.specs.Reading.{Follows}
+use Rattle.cli_plans.specs.Plans.{Due, RunFrom, Plan, End, Read, Judge, Found, Missing, Longer, Held}
+use Rattle.cli_plans.specs.Reading.{Follows}
 
 -- ---- what is due in files that hold something
 

@@ -2,12 +2,12 @@
 use Rattle.std.specs.Prelude.{◌≡◌, ◌≤◌, ℕ, List, [], Option, Some, None, Result, Ok, Err, IsErrOf, Vec, map, string_bytes}
 use Rattle.std.specs.Option.{option_copied}
 use Rattle.std.specs.declared.alloc.Global.{Global}
-use Rattle.sv_types.specs.Limits.{most_events}
-use Rattle.reference.specs.Counting.{CountsAtMost}
+use Rattle.sv_types.specs.Limits.{max_events}
+use Rattle.spec_reference.specs.Counting.{CountsAtMost}
 use Rattle.sv_types.specs.declared.event.Event.{Event}
-use Rattle.reference.specs.States.{State}
-use Rattle.machine_model.specs.Machine.{Machine}
-use Rattle.machine_model.specs.Reaches.{IsNew}
+use Rattle.spec_reference.specs.States.{State}
+use Rattle.spec_hardware.specs.Machine.{Machine}
+use Rattle.spec_hardware.specs.Reaches.{IsNew}
 use Rattle.sv_types.specs.Schedule.{Schedule, first_events}
 use Rattle.script.specs.AutoScripts.{events_of_text, first_refused}
 use Rattle.sv_types.specs.Kernel.{kernel_refusal}
@@ -24,22 +24,22 @@ use Rattle.elf64_load.specs.declared.image.KernelImage.{KernelImage}
 use Rattle.policy_making.specs.declared.bind_fault.BindRefusal.{BindRefusal}
 use Rattle.policy_making.specs.declared.bind_fault.BindRefusal.TheVariants as binding
 use Rattle.machine.specs.Boot.{IsImageOf}
-use Rattle.outside.specs.Outside.{FilesState, after_asking}
+use Rattle.host_io.specs.Outside.{FilesState, after_asking}
 use Rattle.machine.specs.declared.boot.BootRefusal.{BootRefusal}
-use Rattle.command_plans.specs.declared.file_fault.Part.{Part}
-use Rattle.command_plans.specs.declared.file_fault.FileFault.{FileFault}
-use Rattle.command_plans.specs.declared.refusal.Refusal.{Refusal}
-use Rattle.command_plans.specs.declared.refusal.Refusal.TheVariants.{ReadFault, File}
+use Rattle.cli_plans.specs.declared.file_fault.Part.{Part}
+use Rattle.cli_plans.specs.declared.file_fault.FileFault.{FileFault}
+use Rattle.cli_plans.specs.declared.refusal.Refusal.{Refusal}
+use Rattle.cli_plans.specs.declared.refusal.Refusal.TheVariants.{ReadFault, File}
 use Rattle.secvisor_cli.specs.declared.ready.Ready.{Ready}
 use Rattle.secvisor_cli.specs.declared.ready.Ready.TheVariants.{Run, Save}
-use Rattle.secvisor_cli.specs.declared.ready.Booted.{Booted}
+use Rattle.secvisor_cli.specs.declared.ready.PreparedRun.{PreparedRun}
 use Rattle.secvisor_cli.specs.declared.ready.Made.{Made}
 use Rattle.secvisor_cli.specs.declared.making.MeasuredKernel.{MeasuredKernel}
 use Rattle.secvisor_cli.specs.declared.making.WantingModules.{WantingModules}
 use Rattle.secvisor_cli.specs.declared.ready.Stop.{Stop}
 use Rattle.secvisor_cli.specs.declared.ready.Stop.TheVariants.{Refused, Memory}
-use Rattle.command_plans.specs.Plans.{Due, Refuse, RunFrom, Make, making_fault, binding_refusal, Kernel, Modules, saves_due, Plan, Found, Faulty, Missing, Longer, Held}
-use Rattle.command_plans.specs.Reading.{Follows, FoundAs, MayFollow, MaySave}
+use Rattle.cli_plans.specs.Plans.{Due, Refuse, RunFrom, Make, making_fault, binding_refusal, Kernel, Modules, saves_due, Plan, Found, Faulty, Missing, Longer, Held}
+use Rattle.cli_plans.specs.Reading.{Follows, FoundAs, MayFollow, MaySave}
 use Rattle.machine.specs.Standing.{HasState}
 
 -- the refusal of a part that isn't read
@@ -72,17 +72,17 @@ stop_of_binding (binding.Fault fault) = Refused (binding_refusal fault)
 stop_of_binding binding.Memory = Memory
 
 -- a machine that has made no event, and the events that it is to make
-pub record IsFresh (ready : Booted) : Type 0 where
-  pub events : ready.events ≤ most_events
+pub record IsFresh (ready : PreparedRun) : Type 0 where
+  pub events : ready.events ≤ max_events
   pub state : HasState ready.machine
   pub counts : CountsAtMost 0 ready.machine.journal.counts
   pub console : ready.machine.journal.printed ≡ []
 
 -- a machine of which nothing is printed yet and no count is above the most events, and the events that it is to make
-pub record IsRunnable (ready : Booted) : Type 0 where
-  pub events : ready.events ≤ most_events
+pub record IsRunnable (ready : PreparedRun) : Type 0 where
+  pub events : ready.events ≤ max_events
   pub state : HasState ready.machine
-  pub counts : CountsAtMost most_events ready.machine.journal.counts
+  pub counts : CountsAtMost max_events ready.machine.journal.counts
   pub console : ready.machine.journal.printed ≡ []
 
 -- the events are drawn behind a number, for as many harts as the machine has

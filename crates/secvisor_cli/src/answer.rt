@@ -3,35 +3,35 @@ ghost use Rattle.std.specs.Prelude.{◌≡◌, ◌<◌, ◌≤◌, ◌-◌, ◌�
 ghost use Rattle.std.specs.Option.{option_copied};
 ghost use Rattle.std.specs.Result.{is_ok};
 ghost use Rattle.sv_types.specs.Output.{run_status};
-ghost use Rattle.reference.specs.Disk.{disk_bytes};
-ghost use Rattle.reference.specs.Report.{output};
-ghost use Rattle.reference.specs.Run.{run};
-ghost use Rattle.reference.specs.States.{State};
-ghost use Rattle.machine_model.specs.Reaches.{IsNew};
+ghost use Rattle.spec_reference.specs.Disk.{disk_bytes};
+ghost use Rattle.spec_reference.specs.Report.{output};
+ghost use Rattle.spec_reference.specs.Run.{run};
+ghost use Rattle.spec_reference.specs.States.{State};
+ghost use Rattle.spec_hardware.specs.Reaches.{IsNew};
 ghost use Rattle.machine.specs.Console.{MayRun};
 ghost use Rattle.machine.specs.Standing.{machine_output};
 ghost use Rattle.sv_types.specs.Schedule.{first_events};
-ghost use Rattle.command_plans.specs.Refusals.{refusal_line, refusal_status, takes_memory};
-ghost use Rattle.command_plans.specs.CommandLine.{judgement_of_words};
-ghost use Rattle.command_plans.specs.Words.{command_of, IsInRange};
-ghost use Rattle.command_plans.specs.Plans.{Due, Exactly, RunFrom, command_plan, plan_of};
-ghost use Rattle.command_plans.specs.Reading.{MayFollow, IsNamed, SavesUnder};
+ghost use Rattle.cli_plans.specs.Refusals.{refusal_line, refusal_status, takes_memory};
+ghost use Rattle.cli_plans.specs.CommandLine.{judgement_of_words};
+ghost use Rattle.cli_plans.specs.Words.{command_of, IsInRange};
+ghost use Rattle.cli_plans.specs.Plans.{Due, Exactly, RunFrom, command_plan, plan_of};
+ghost use Rattle.cli_plans.specs.Reading.{MayFollow, IsNamed, SavesUnder};
 ghost use Rattle.secvisor_cli.specs.Ready.{Prepares, IsReady, IsRunnable, MayCarryOut, MaySaveRun};
 ghost use Rattle.secvisor_cli.specs.Answers.{outside, Writes, Answers, SavesAndWrites, Performs, RunsTo, RunsAndSaves, Headline};
-ghost use Rattle.outside.specs.Outside.{MayWrite};
-ghost use Rattle.processor.specs.Counters.{CanCount};
+ghost use Rattle.host_io.specs.Outside.{MayWrite};
+ghost use Rattle.spec_processor.specs.Counters.{CanCount};
 
 use crate::converting::prepare_converted;
 use crate::flat::prepare_flat;
 use crate::generated::prepare_gen;
 use crate::image_run::prepare_run;
 use crate::making::prepare_policy;
-use crate::ready::{Booted, Made, Ready, Stop};
+use crate::ready::{Made, PreparedRun, Ready, Stop};
 use crate::save::save_disk;
-use command_plans::{Command, Refusal, judge, read_words};
-use command_words::split;
+use cli_plans::{Command, Refusal, judge, read_words};
+use cli_words::split;
+use host_io::{Files, Sink, Trouble, status_of_end, write_all};
 use machine::{Machine, run};
-use outside::{Files, Sink, Trouble, status_of_end, write_all};
 use report::{report, status_of};
 use script::Script;
 use std::alloc::Global;
@@ -128,7 +128,7 @@ fn prepare<'a, R: Threads + Sync, F: Files>(
     prepare_command(rt, alloc, &command, files)
 }
 
-#[tactic(auto, unfolding(command_plans::specs::Plans::command_plan))]
+#[tactic(auto, unfolding(cli_plans::specs::Plans::command_plan))]
 fn prepare_command<'a, R: Threads + Sync, F: Files>(
     rt: &R,
     alloc: Global,
@@ -202,7 +202,7 @@ fn save_policy<F: Files, O: Sink>(
 /// Runs a machine, writes its report and saves its disk. It stands on the bench from then on.
 pub fn run_on_bench<F: Files, O: Sink>(
     alloc: Global,
-    ready: Booted<'_>,
+    ready: PreparedRun<'_>,
     files: &mut F,
     out: &mut O,
     bench: &mut Bench,
@@ -215,7 +215,7 @@ pub fn run_on_bench<F: Files, O: Sink>(
         (outside (F.state files.old) (O.state out.old) bench.old.machine)
         (outside (F.state files.new) (O.state out.new) bench.new.machine) result }
 {
-    let Booted {
+    let PreparedRun {
         mut machine,
         script,
         events,

@@ -1,19 +1,19 @@
 // The command `convert`: a policy's entries are bound to their places in a kernel.
 ghost use Rattle.std.specs.Prelude.{◌≡◌, ◌<◌, ◌-◌, IfOk, IsTrue, length, string_bytes, true};
 ghost use Rattle.sv_types.specs.Policies.{rules_of, rules_within};
-ghost use Rattle.outside.specs.Outside.{FilesState};
-ghost use Rattle.processor.specs.Counters.{CanCount};
-ghost use Rattle.command_plans.specs.Plans.{bound_plan, convert_plan, converted_line, kernel_part};
-ghost use Rattle.command_plans.specs.Reading.{MayFollow};
+ghost use Rattle.host_io.specs.Outside.{FilesState};
+ghost use Rattle.spec_processor.specs.Counters.{CanCount};
+ghost use Rattle.cli_plans.specs.Plans.{bound_plan, convert_plan, converted_line, kernel_part};
+ghost use Rattle.cli_plans.specs.Reading.{MayFollow};
 ghost use Rattle.secvisor_cli.specs.Ready.{IsMade, Prepares};
-ghost use Rattle.command_words.specs.Values.{convert_split_of};
+ghost use Rattle.cli_words.specs.Values.{convert_split_of};
 
-use crate::image_run::{MOST_IMAGE_BYTES, judge_kernel, read_policy};
+use crate::image_run::{MAX_IMAGE_BYTES, judge_kernel, read_policy};
 use crate::parts::read_part;
 use crate::ready::{Made, Ready, Stop};
-use command_plans::Part;
-use command_words::ConvertWords;
-use outside::Files;
+use cli_plans::Part;
+use cli_words::ConvertWords;
+use host_io::Files;
 use policy_making::bind;
 use std::alloc::{AllocError, Global};
 use std::thread::Threads;
@@ -31,7 +31,7 @@ pub fn prepare_converted<'a, R: Threads + Sync, F: Files>(
     ensures { Prepares (convert_plan (convert_split_of asked.now)) (F.state files.old) (F.state files.new) result }
 {
     let policy = read_policy(alloc, asked.given, files)?;
-    let file = read_part(alloc, files, Part::Image, asked.kernel, MOST_IMAGE_BYTES)?;
+    let file = read_part(alloc, files, Part::Image, asked.kernel, MAX_IMAGE_BYTES)?;
     bind_file(rt, alloc, asked, policy, &file)
 }
 

@@ -1,26 +1,26 @@
 // The command `flat`.
 ghost use Rattle.std.specs.Prelude.{◌≡◌, ◌<◌, ◌≤◌, ◌-◌, ◌%◌, IsTrue, length};
-ghost use Rattle.processor.specs.Bytes.{page_size};
-ghost use Rattle.sv_types.specs.Limits.{most_events};
-ghost use Rattle.sv_types.specs.Boot.{most_flat_bytes};
-ghost use Rattle.command_plans.specs.Plans.{flat_plan, flat_events, is_whole_pages, measure_judged};
-ghost use Rattle.command_plans.specs.Reading.{MayFollow};
+ghost use Rattle.spec_processor.specs.Bytes.{page_size};
+ghost use Rattle.sv_types.specs.Limits.{max_events};
+ghost use Rattle.sv_types.specs.Boot.{max_flat_bytes};
+ghost use Rattle.cli_plans.specs.Plans.{flat_plan, flat_events, is_whole_pages, measure_judged};
+ghost use Rattle.cli_plans.specs.Reading.{MayFollow};
 ghost use Rattle.secvisor_cli.specs.Ready.{IsReady, Prepares};
-ghost use Rattle.processor.specs.Counters.{CanCount};
+ghost use Rattle.spec_processor.specs.Counters.{CanCount};
 
 use crate::parts::read_part;
-use crate::ready::{Booted, Ready, Stop};
-use command_plans::{FileFault, Flat, Part, Refusal};
+use crate::ready::{PreparedRun, Ready, Stop};
+use cli_plans::{FileFault, Flat, Part, Refusal};
+use host_io::Files;
 use machine::Machine;
-use outside::Files;
-use processor::PAGE_SIZE;
 use script::rounds;
+use spec_processor::PAGE_SIZE;
 use std::alloc::Global;
 use std::thread::Threads;
 use sv_types::{Digest, FLAT_PAGES};
 
 /// The most bytes of plain pages.
-pub const MOST_FLAT_BYTES: usize = FLAT_PAGES * PAGE_SIZE;
+pub const MAX_FLAT_BYTES: usize = FLAT_PAGES * PAGE_SIZE;
 
 /// Reads the pages, judges and measures them, and boots a machine.
 pub fn prepare_flat<R: Threads + Sync, F: Files>(
@@ -31,10 +31,10 @@ pub fn prepare_flat<R: Threads + Sync, F: Files>(
 ) -> Result<Ready<'static>, Stop>
     requires permitted { MayFollow (flat_plan flat.now.file.now flat.now.wanted flat.now.events) (F.state files.old) }
     requires reads { CanCount (F.state files.old).read_faults }
-    requires events { flat.now.events ≤ most_events }
+    requires events { flat.now.events ≤ max_events }
     ensures { Prepares (flat_plan flat.now.file.now flat.now.wanted flat.now.events) (F.state files.old) (F.state files.new) result }
 {
-    let bytes = read_part(alloc, files, Part::Flat, flat.file, MOST_FLAT_BYTES)?;
+    let bytes = read_part(alloc, files, Part::Flat, flat.file, MAX_FLAT_BYTES)?;
     if !is_whole_pages(&bytes) {
         return Err(Stop::Refused(Refusal::File {
             fault: FileFault::FlatPages,
@@ -59,13 +59,13 @@ fn boot<R: Threads + Sync>(
     events: u64,
 ) -> Result<Ready<'static>, Stop>
     requires whole { length pages.now % page_size ≡ 0 }
-    requires size { length pages.now ≤ most_flat_bytes }
-    requires events { events ≤ most_events }
+    requires size { length pages.now ≤ max_flat_bytes }
+    requires events { events ≤ max_events }
     ensures { IsReady (measure_judged pages.now wanted (flat_events events)) result }
 {
     let machine = Machine::flat(rt, alloc, pages, wanted)?;
     let script = rounds(1);
-    Ok(Ready::Run(Booted {
+    Ok(Ready::Run(PreparedRun {
         machine,
         script,
         events,

@@ -1,21 +1,21 @@
 // The command `gen`.
 ghost use Rattle.std.specs.Prelude.{◌≡◌, ◌≤◌, IfOk, IsTrue};
 ghost use Rattle.sv_types.specs.Policies.{rules_of, rules_within};
-ghost use Rattle.reference.specs.Start.{boot_start};
-ghost use Rattle.machine_model.specs.Reaches.{IsNew};
-ghost use Rattle.guest_gen.specs.GuestCode.{most_calls};
+ghost use Rattle.spec_reference.specs.Start.{boot_start};
+ghost use Rattle.spec_hardware.specs.Reaches.{IsNew};
+ghost use Rattle.guest_gen.specs.GuestCode.{max_calls};
 ghost use Rattle.guest_gen.specs.Booting.{IsBootable};
-ghost use Rattle.command_plans.specs.Plans.{gen_due, gen_disk};
+ghost use Rattle.cli_plans.specs.Plans.{gen_due, gen_disk};
 ghost use Rattle.secvisor_cli.specs.Ready.{IsReady};
 
-use crate::ready::{Booted, Ready, Stop};
+use crate::ready::{PreparedRun, Ready, Stop};
 use elf64_load::{ElfRefusal, read_kernel};
 use guest_gen::generate;
 use machine::{BootRefusal, Machine};
 use script::weave;
 use std::alloc::{AllocError, Global};
 use std::thread::Threads;
-use sv_types::{MOST_EVENTS, Policy, SECTOR_BYTES};
+use sv_types::{MAX_EVENTS, Policy, SECTOR_BYTES};
 
 const DISK_BYTES: u32 = 2 * SECTOR_BYTES as u32;
 
@@ -26,16 +26,16 @@ pub fn prepare_gen<R: Threads + Sync>(
     calls: u64,
 ) -> Result<Ready<'static>, Stop>
     requires some { 1 ≤ calls }
-    requires most { calls ≤ most_calls }
+    requires most { calls ≤ max_calls }
     ensures { IsReady (gen_due calls) result }
 {
     let (file, policy) = generate(alloc, calls)?;
     let disk = disk(alloc)?;
     let machine = boot(rt, alloc, &file, policy, disk)?;
-    Ok(Ready::Run(Booted {
+    Ok(Ready::Run(PreparedRun {
         machine,
         script: weave(),
-        events: MOST_EVENTS,
+        events: MAX_EVENTS,
         save: None,
     }))
 }

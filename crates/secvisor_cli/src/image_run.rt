@@ -1,30 +1,30 @@
 // The commands `run` and `vrun`.
 ghost use Rattle.std.specs.Prelude.{◌≡◌, ◌<◌, ◌≤◌, ◌-◌, ◌%◌, ◌==◌, ℕ, List, IfOk, OnOk, IfErr, IsTrue, length, true};
 ghost use Rattle.std.specs.Option.{option_copied};
-ghost use Rattle.sv_types.specs.Limits.{most_events};
-ghost use Rattle.reference.specs.BlockDisk.{sector_size};
+ghost use Rattle.sv_types.specs.Limits.{max_events};
+ghost use Rattle.spec_reference.specs.BlockDisk.{sector_size};
 ghost use Rattle.sv_types.specs.Measure.{measure};
 ghost use Rattle.sv_types.specs.Policies.{rules_of, rules_within};
 ghost use Rattle.sv_types.specs.Schedule.{Schedule};
-ghost use Rattle.reference.specs.States.{has_number};
-ghost use Rattle.machine_model.specs.Reaches.{IsNew};
+ghost use Rattle.spec_reference.specs.States.{has_number};
+ghost use Rattle.spec_hardware.specs.Reaches.{IsNew};
 ghost use Rattle.machine.specs.Boot.{IsImageOf, IsRead, image_text, RefusesImage};
 ghost use Rattle.policy.specs.Text.{rules_of_text};
-ghost use Rattle.command_plans.specs.CommandLine.{Auto};
-ghost use Rattle.command_plans.specs.Plans.{policy_part, kernel_part, disk_part, text_part, script_part, boot_plan, run_plan, start_with};
-ghost use Rattle.command_plans.specs.Reading.{MayFollow};
+ghost use Rattle.cli_plans.specs.CommandLine.{Auto};
+ghost use Rattle.cli_plans.specs.Plans.{policy_part, kernel_part, disk_part, text_part, script_part, boot_plan, run_plan, start_with};
+ghost use Rattle.cli_plans.specs.Reading.{MayFollow};
 ghost use Rattle.secvisor_cli.specs.Ready.{Prepares, Staged, MayStage, DrawsFrom, IsPolicy, IsKernel, IsScript};
-ghost use Rattle.command_plans.specs.Words.{source_value, run_value};
+ghost use Rattle.cli_plans.specs.Words.{source_value, run_value};
 ghost use Rattle.script.specs.HartCounts.{IsHartCount};
-ghost use Rattle.processor.specs.Counters.{CanCount};
+ghost use Rattle.spec_processor.specs.Counters.{CanCount};
 
 use crate::parts::read_part;
-use crate::ready::{Booted, Ready, Stop};
-use command_plans::{FileFault, Part, Refusal, Run, Source};
-use command_words::DiskKind;
+use crate::ready::{PreparedRun, Ready, Stop};
+use cli_plans::{FileFault, Part, Refusal, Run, Source};
+use cli_words::DiskKind;
 use elf64_load::{ElfRefusal, KernelImage, read_kernel};
+use host_io::Files;
 use machine::{BootRefusal, Machine, SECTOR_BYTES};
-use outside::Files;
 use policy::PolicyRefusal;
 use script::{Script, ScriptRefusal, auto, bursts, rounds};
 use std::alloc::Global;
@@ -32,16 +32,16 @@ use std::thread::Threads;
 use sv_types::Policy;
 
 /// The most bytes of a policy's text.
-pub const MOST_POLICY_BYTES: usize = 16 << 20;
+pub const MAX_POLICY_BYTES: usize = 16 << 20;
 
 /// The most bytes of an image.
-pub const MOST_IMAGE_BYTES: usize = 64 << 20;
+pub const MAX_IMAGE_BYTES: usize = 64 << 20;
 
 /// The most bytes of a disk.
-pub const MOST_DISK_BYTES: usize = sv_types::MOST_DISK_BYTES as usize;
+pub const MAX_DISK_BYTES: usize = sv_types::MAX_DISK_BYTES as usize;
 
 /// The most bytes of a script's text.
-pub const MOST_SCRIPT_BYTES: usize = 1 << 20;
+pub const MAX_SCRIPT_BYTES: usize = 1 << 20;
 
 /// Reads the policy, the image, the disk and the script, each judged before the next, and boots a machine.
 pub fn prepare_run<'a, R: Threads + Sync, F: Files>(
@@ -52,12 +52,12 @@ pub fn prepare_run<'a, R: Threads + Sync, F: Files>(
 ) -> Result<Ready<'a>, Stop>
     requires permitted { MayFollow (run_plan (run_value asked.now)) (F.state files.old) }
     requires reads { CanCount (F.state files.old).read_faults }
-    requires events { asked.now.events ≤ most_events }
+    requires events { asked.now.events ≤ max_events }
     ensures prepares { Prepares (run_plan (run_value asked.now)) (F.state files.old) (F.state files.new) result }
     ensures draws { (number : ℕ) → source_value asked.now.script ≡ Auto number → IfOk result (DrawsFrom number) }
 {
     let policy = read_policy(alloc, asked.policy, files)?;
-    let file = read_part(alloc, files, Part::Image, asked.image, MOST_IMAGE_BYTES)?;
+    let file = read_part(alloc, files, Part::Image, asked.image, MAX_IMAGE_BYTES)?;
     boot_file(rt, alloc, asked, policy, &file, files)
 }
 
@@ -72,7 +72,7 @@ fn boot_file<'a, R: Threads + Sync, F: Files>(
 ) -> Result<Ready<'a>, Stop>
     requires permitted { MayFollow (kernel_part (rules_of policy) file.now (boot_plan (run_value asked.now) (rules_of policy) file.now)) (F.state files.old) }
     requires reads { CanCount (F.state files.old).read_faults }
-    requires events { asked.now.events ≤ most_events }
+    requires events { asked.now.events ≤ max_events }
     requires within { IsTrue (rules_within (rules_of policy)) }
     ensures prepares { Prepares (kernel_part (rules_of policy) file.now (boot_plan (run_value asked.now) (rules_of policy) file.now)) (F.state files.old) (F.state files.new) result }
     ensures draws { (number : ℕ) → source_value asked.now.script ≡ Auto number → IfOk result (DrawsFrom number) }
@@ -81,7 +81,7 @@ fn boot_file<'a, R: Threads + Sync, F: Files>(
     let disk = read_disk(alloc, asked.disk, files)?;
     let script = read_script(alloc, &asked.script, policy.harts, files)?;
     let machine = boot_with(rt, alloc, asked.kind, &image, policy, disk)?;
-    Ok(Ready::Run(Booted {
+    Ok(Ready::Run(PreparedRun {
         machine,
         script,
         events: asked.events,
@@ -121,7 +121,7 @@ pub fn read_policy<F: Files>(alloc: Global, name: &str, files: &mut F) -> Result
     ensures stage { Staged (policy_part name.now) rules_of (F.state files.old) (F.state files.new) result }
     ensures within { IfOk result (λ p. IsTrue (rules_within (rules_of p))) }
 {
-    let text = read_part(alloc, files, Part::Policy, name, MOST_POLICY_BYTES)?;
+    let text = read_part(alloc, files, Part::Policy, name, MAX_POLICY_BYTES)?;
     judge_policy(alloc, &text)
 }
 
@@ -168,7 +168,7 @@ fn read_disk<F: Files>(alloc: Global, name: Option<&str>, files: &mut F) -> Resu
     let Some(name) = name else {
         return Ok(Vec::new(alloc));
     };
-    let disk = read_part(alloc, files, Part::Disk, name, MOST_DISK_BYTES)?;
+    let disk = read_part(alloc, files, Part::Disk, name, MAX_DISK_BYTES)?;
     if !is_whole_sectors(&disk) {
         return Err(Stop::Refused(Refusal::File {
             fault: FileFault::DiskSectors,
@@ -213,7 +213,7 @@ fn read_text<F: Files>(alloc: Global, name: &str, harts: u8, files: &mut F) -> R
     requires harts { IsHartCount harts }
     ensures { Staged (text_part harts name.now) (λ script. script) (F.state files.old) (F.state files.new) result }
 {
-    let text = read_part(alloc, files, Part::Script, name, MOST_SCRIPT_BYTES)?;
+    let text = read_part(alloc, files, Part::Script, name, MAX_SCRIPT_BYTES)?;
     judge_script(alloc, &text, harts)
 }
 

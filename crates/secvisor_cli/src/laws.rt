@@ -1,13 +1,13 @@
 // Laws of the definitions alone. A law takes no argument and does nothing; its clause is the theorem.
 
 ghost use Rattle.std.specs.Prelude.{Ok};
-ghost use Rattle.command_words.specs.Commands.{ConvertSplit};
+ghost use Rattle.cli_words.specs.Commands.{ConvertSplit};
 ghost use Rattle.sv_types.specs.declared.status.Status.{Status};
 ghost use Rattle.secvisor_cli.specs.Answers.{Headline, Outside};
-ghost use Rattle.command_plans.specs.CommandLine.{Convert};
+ghost use Rattle.cli_plans.specs.CommandLine.{Convert};
 ghost use Rattle.secvisor_cli.specs.Converted.{IsConverted};
 ghost use Rattle.secvisor_cli.specs.DueIn.{ComesToDue, RunEnds};
-ghost use Rattle.command_plans.specs.Plans.{plan_of};
+ghost use Rattle.cli_plans.specs.Plans.{plan_of};
 
 /// Where `convert` ends with status 0, the policy that its name holds was saved with its entries bound to their places in the
 /// kernel that its name holds, each to an address in the kernel's text, and its line was written.

@@ -14,14 +14,14 @@ mod ready;
 mod save;
 
 pub use answer::{Bench, finish, refuse, run_on_bench, secvisor};
-pub use flat::MOST_FLAT_BYTES;
+pub use flat::MAX_FLAT_BYTES;
+pub use host_io::{Trouble, status_of_end};
 pub use image_run::{
-    MOST_DISK_BYTES, MOST_IMAGE_BYTES, MOST_POLICY_BYTES, MOST_SCRIPT_BYTES, prepare_run,
-    read_policy, read_script,
+    MAX_DISK_BYTES, MAX_IMAGE_BYTES, MAX_POLICY_BYTES, MAX_SCRIPT_BYTES, prepare_run, read_policy,
+    read_script,
 };
 pub use laws::{law_converted, law_due, law_run_ends};
-pub use making::MOST_OBJECT_BYTES;
-pub use outside::{Trouble, status_of_end};
+pub use making::MAX_OBJECT_BYTES;
 pub use parts::read_part;
-pub use ready::{Booted, Made, Ready, Stop};
+pub use ready::{Made, PreparedRun, Ready, Stop};
 pub use sv_types::Status;

@@ -5,27 +5,27 @@ ghost use Rattle.sv_types.specs.Policies.{rules_of, rules_within};
 ghost use Rattle.policy_making.specs.Making.{file_names, terms_of};
 ghost use Rattle.policy_making.specs.Ranges.{terms_within};
 ghost use Rattle.policy_making.specs.WordRanges.{are_module_names};
-ghost use Rattle.outside.specs.Outside.{FilesState};
-ghost use Rattle.processor.specs.Counters.{CanCount};
-ghost use Rattle.command_plans.specs.Plans.{Plan, Modules, digest_part, no_modules, module_part, modules_part, making_plan, measure_plan, measured_line};
-ghost use Rattle.command_plans.specs.Reading.{MayFollow};
+ghost use Rattle.host_io.specs.Outside.{FilesState};
+ghost use Rattle.spec_processor.specs.Counters.{CanCount};
+ghost use Rattle.cli_plans.specs.Plans.{Plan, Modules, digest_part, no_modules, module_part, modules_part, making_plan, measure_plan, measured_line};
+ghost use Rattle.cli_plans.specs.Reading.{MayFollow};
 ghost use Rattle.secvisor_cli.specs.Ready.{IsMade, Prepares, Passes, Staged, MayStage, kernel_value, modules_value};
-ghost use Rattle.command_plans.specs.Words.{policy_value, terms_value};
+ghost use Rattle.cli_plans.specs.Words.{policy_value, terms_value};
 ghost use Rattle.sv_types.specs.Names.{name_within};
 
-use crate::image_run::MOST_IMAGE_BYTES;
+use crate::image_run::MAX_IMAGE_BYTES;
 use crate::parts::read_part;
 use crate::ready::{Made, Ready, Stop};
-use command_plans::{MakePolicy, Part, Terms};
-use outside::Files;
-use policy_making::{ObjectFile, Settings, entries_of, kernel_digest, policy_behind, want_names};
+use cli_plans::{MakePolicy, Part, Terms};
+use host_io::Files;
+use policy_making::{ObjectFile, Settings, entries_of, kernel_digest, policy_after, want_names};
 use std::alloc::{AllocError, Global};
 use std::thread::Threads;
 use sv_types::{Digest, Name, Policy};
 use text_numbers::digest_text;
 
 /// The most bytes of a module's object.
-pub const MOST_OBJECT_BYTES: usize = 16 << 20;
+pub const MAX_OBJECT_BYTES: usize = 16 << 20;
 
 /// A kernel's file and its digest.
 #[derive(Drop)]
@@ -72,7 +72,7 @@ fn measure_kernel<R: Threads + Sync, F: Files>(
     requires reads { CanCount (F.state files.old).read_faults }
     ensures { Staged (digest_part name.now ram_pages) kernel_value (F.state files.old) (F.state files.new) result }
 {
-    let file = read_part(alloc, files, Part::Image, name, MOST_IMAGE_BYTES)?;
+    let file = read_part(alloc, files, Part::Image, name, MAX_IMAGE_BYTES)?;
     let digest = kernel_digest(rt, alloc, &file, ram_pages)?;
     Ok(MeasuredKernel { file, digest })
 }
@@ -117,7 +117,7 @@ fn read_module<F: Files>(
     let Some(name) = Name::new(word) else {
         unreachable!();
     };
-    let bytes = read_part(alloc, files, Part::Module, word, MOST_OBJECT_BYTES)?;
+    let bytes = read_part(alloc, files, Part::Module, word, MAX_OBJECT_BYTES)?;
     want_names(alloc, &mut modules.names, &bytes)?;
     modules.objects.push(ObjectFile { name, bytes })?;
     Ok(())
@@ -138,7 +138,7 @@ fn make_ready<'a, R: Threads + Sync>(
     ensures { (files : FilesState) → Prepares (making_plan (policy_value asked.now) (kernel_value kernel.now) (modules_value modules.now)) files files result }
 {
     let settings = settings(alloc, &asked.terms)?;
-    let policy = policy_behind(
+    let policy = policy_after(
         rt,
         alloc,
         settings,

@@ -1,11 +1,11 @@
 // The reading of files.
 ghost use Rattle.std.specs.Prelude.{◌<◌, ◌-◌, [], ◌∷◌, IsTrue};
 ghost use Rattle.secvisor_cli.specs.Ready.{PartRead};
-ghost use Rattle.processor.specs.Counters.{CanCount};
+ghost use Rattle.spec_processor.specs.Counters.{CanCount};
 
 use crate::ready::Stop;
-use command_plans::{FileFault, Part, Refusal};
-use outside::{FileRefusal, Files};
+use cli_plans::{FileFault, Part, Refusal};
+use host_io::{FileRefusal, Files};
 use std::alloc::Global;
 
 /// The bytes of a part, which is read once and refused where it can't be read.

@@ -1,10 +1,10 @@
 // What is made ready of a command, before anything is written.
 ghost use Rattle.std.specs.Prelude.{◌≡◌};
 ghost use Rattle.secvisor_cli.specs.declared.ready.Stop.TheVariants.{Refused, Memory};
-ghost use Rattle.command_plans.specs.Plans.{binding_refusal, making_fault};
+ghost use Rattle.cli_plans.specs.Plans.{binding_refusal, making_fault};
 ghost use Rattle.secvisor_cli.specs.Ready.{stop_of, stop_of_binding, stop_of_making};
 
-use command_plans::{FileFault, Refusal};
+use cli_plans::{FileFault, Refusal};
 use machine::{BootRefusal, Machine};
 use policy_limits::PolicyFault;
 use policy_making::{BindFault, BindRefusal, MakingFault, MakingRefusal};
@@ -14,7 +14,7 @@ use std::alloc::{AllocError, AllocFailed};
 /// What is ready of a command.
 #[derive(Drop)]
 pub enum Ready<'a> {
-    Run(Booted<'a>),
+    Run(PreparedRun<'a>),
     Save(Made<'a>),
 }
 
@@ -28,7 +28,7 @@ pub struct Made<'a> {
 
 /// A booted machine, and the events that it is to make: the first `events` of the script, or all where there are fewer.
 #[derive(Drop)]
-pub struct Booted<'a> {
+pub struct PreparedRun<'a> {
     pub machine: Machine,
     pub script: Script,
     pub events: u64,

@@ -1,14 +1,14 @@
 // The disk as a run left it, saved.
 ghost use Rattle.std.specs.Prelude.{◌<◌, ◌-◌};
 ghost use Rattle.std.specs.Option.{option_copied};
-ghost use Rattle.reference.specs.Disk.{disk_bytes};
-ghost use Rattle.command_plans.specs.Plans.{saving_of_bytes};
-ghost use Rattle.command_plans.specs.Reading.{MaySave};
+ghost use Rattle.spec_reference.specs.Disk.{disk_bytes};
+ghost use Rattle.cli_plans.specs.Plans.{saving_of_bytes};
+ghost use Rattle.cli_plans.specs.Reading.{MaySave};
 ghost use Rattle.secvisor_cli.specs.Answers.{AfterSave};
-ghost use Rattle.processor.specs.Counters.{CanCount};
+ghost use Rattle.spec_processor.specs.Counters.{CanCount};
 
+use host_io::{Files, Trouble};
 use machine::Machine;
-use outside::{Files, Trouble};
 
 /// Saves the disk's bytes, where a name for them is given.
 #[tactic(auto, using(crate::proofs::SaveLemmas::saved_exactly, crate::proofs::SaveLemmas::broke_exactly))]

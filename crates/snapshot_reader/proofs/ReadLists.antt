@@ -3,12 +3,12 @@ use Rattle.std.proofs.Common.{◌≡◌, ℕ, suc, ◌-◌, ◌+◌, ◌≤◌, 
 use Rattle.std.specs.Prelude.{Result}
 use Rattle.std.specs.Result.{IsErrAnd}
 use Rattle.std.proofs.lemmas.List.{append-nil}
-use Rattle.snapshot_form.specs.declared.refusal.SnapRefusal.{SnapRefusal}
+use Rattle.snapshot_format.specs.declared.refusal.SnapRefusal.{SnapRefusal}
 use Rattle.snapshot_reader.specs.declared.read_error.ReadError.{ReadError}
 use Rattle.snapshot_reader.specs.declared.read_error.ReadError.TheVariants.{Refused}
 use Rattle.snapshot_reader.specs.Reading.{Gives, Reads}
 use Rattle.sv_types.specs.Steps.{◌>>=◌}
-use Rattle.snapshot_form.specs.Forms.{Form, Taken, put_first, all_taken}
+use Rattle.snapshot_format.specs.Forms.{Form, Taken, put_first, all_taken}
 
 abbrev values_and_rest : {A : Type 0} → List A → List ℕ → Taken (List A)
 values_and_rest values rest = Ok (values, rest)

@@ -1,7 +1,7 @@
 -- Registers 1 to 31, read into an array behind register 0.
 use Rattle.std.proofs.Common.{◌≡◌, ℕ, ◌+◌, ◌-◌, ◌≤◌, ◌<◌, List, [], ◌∷◌, ◌++◌, length, take, drop, set, Ok, ap, ◌∙◌, arith}
 use Rattle.std.proofs.lemmas.List.{take_all, take_more_set, drop-append-le, length-take}
-use Rattle.snapshot_form.specs.Forms.{Taken, number, number_at, all_taken}
+use Rattle.snapshot_format.specs.Forms.{Taken, number, number_at, all_taken}
 use Rattle.snapshot_reader.proofs.ReadLists.{with_front, goes_on, is_done}
 
 -- those that are read, of an array that is filled up to one place

@@ -3,17 +3,17 @@ use Rattle.std.proofs.Common.{◌≡◌, ℕ, ◌+◌, ◌-◌, ◌≤◌, ◌<�
 use Rattle.std.specs.Prelude.{Result, Option, slice_index, Bool, zero, true, false, if◌then◌else◌}
 use Rattle.std.proofs.lemmas.List.{append-nil, drop_all, take_all, take_more_set, length-take}
 use Rattle.std.proofs.lemmas.Bool.Decides.{nat_tests}
-use Rattle.snapshot_form.specs.Forms.{Form, Taken, number, number_at, within, if_in_range, put_first, all_taken}
-use Rattle.snapshot_form.specs.JournalForms.{AnswerParts, answer, code, demote, hart_number, retire, stopped_entry, stopped_write, count, counts, event_counts, hart_counts, rule_counts}
-use Rattle.snapshot_form.specs.DeviceForms.{block, standing_status}
-use Rattle.snapshot_form.specs.PageForms.{is_above, module_within}
-use Rattle.snapshot_form.specs.declared.refusal.SnapRefusal.{SnapRefusal}
-use Rattle.snapshot_form.specs.declared.refusal.SnapRefusal.TheVariants.{OutOfRange}
-use Rattle.snapshot_form.specs.HartForms.{Status, legal, multiple_of, status, trap_status}
+use Rattle.snapshot_format.specs.Forms.{Form, Taken, number, number_at, within, if_in_range, put_first, all_taken}
+use Rattle.snapshot_format.specs.JournalForms.{AnswerParts, answer, code, demote_form, hart_number, retire, stopped_entry, stopped_write, count, counts, event_counts, hart_counts, rule_counts}
+use Rattle.snapshot_format.specs.DeviceForms.{block, standing_status}
+use Rattle.snapshot_format.specs.PageForms.{is_above, module_within}
+use Rattle.snapshot_format.specs.declared.refusal.SnapRefusal.{SnapRefusal}
+use Rattle.snapshot_format.specs.declared.refusal.SnapRefusal.TheVariants.{OutOfRange}
+use Rattle.snapshot_format.specs.HartForms.{Status, legal, multiple_of, status, trap_status}
 use Rattle.snapshot_reader.specs.Reading.{Gives}
 use Rattle.snapshot_reader.specs.declared.row.Range.{Range}
 use Rattle.snapshot_reader.specs.declared.row.Range.TheVariants.{Any, Below, Between}
-use Rattle.snapshot_reader.specs.Rows.{HeaderNumbers, answer_ranges, block_ranges, demote_of_row, demote_ranges, entry_of_row, entry_ranges, header_numbers, header_of_row, header_ranges, is_within, module_of_row, module_ranges, retire_ranges, write_of_row, write_ranges, ranged, row_taken, counts_of_row, may_hold, register_behind, status_of_row}
+use Rattle.snapshot_reader.specs.Rows.{HeaderNumbers, answer_ranges, block_ranges, demote_of_row, demote_ranges, entry_of_row, entry_ranges, header_numbers, header_of_row, header_ranges, is_within, module_of_row, module_ranges, retire_ranges, write_of_row, write_ranges, ranged, row_taken, counts_of_row, may_hold, register_after, status_of_row}
 use Rattle.snapshot_reader.proofs.ReadLists.{with_front, regroup, goes_on, is_done}
 use Rattle.sv_types.specs.Steps.{◌>>=◌}
 use Rattle.sv_types.specs.declared.event.Counts.{Counts}
@@ -21,7 +21,7 @@ use Rattle.sv_types.specs.declared.block.BlockState.{BlockState}
 use Rattle.sv_types.specs.declared.block.BlockStatus.{BlockStatus}
 use Rattle.sv_types.specs.declared.event.Note.{Note}
 use Rattle.sv_types.specs.declared.event.Verdict.{Verdict}
-use Rattle.sv_types.specs.declared.saved.SavedModule.{SavedModule}
+use Rattle.sv_types.specs.declared.saved.ModulePlacement.{ModulePlacement}
 use Rattle.sv_types.specs.declared.sbi.SbiCode.{SbiCode}
 
 -- ---- an array that is filled up to one place
@@ -57,17 +57,17 @@ counts_by_row events bytes = simp bind_assoc
 abbrev status_and_rest : List ℕ × List ℕ → Taken Status
 status_and_rest x = Ok (status_of_row x.0, x.1)
 
-status_by_row : (bytes : List ℕ) → status.taken bytes ≡ (all_taken register_behind [] 10 bytes >>= status_and_rest)
+status_by_row : (bytes : List ℕ) → status.taken bytes ≡ (all_taken register_after [] 10 bytes >>= status_and_rest)
 unfolding status trap_status legal all_taken
 status_by_row bytes = simp bind_assoc
 
-pub status_read : {X : Type 0} (row rest : X → List ℕ) (bytes : List ℕ) (result : Result X SnapRefusal) → Gives (λ x. (row x, rest x)) result (all_taken register_behind [] 10 bytes)
+pub status_read : {X : Type 0} (row rest : X → List ℕ) (bytes : List ℕ) (result : Result X SnapRefusal) → Gives (λ x. (row x, rest x)) result (all_taken register_after [] 10 bytes)
     → Gives (λ x. (status_of_row (row x), rest x)) result (status.taken bytes)
 status_read row rest bytes (Ok x) h = rw (status_by_row bytes, h) refl
 status_read row rest bytes (Err e) h = rw (status_by_row bytes, h) refl
 
 pub register_at : (i : ℕ) (row bytes : List ℕ) (read : Taken ℕ) → i < 10 → length row ≡ 10 → (within (may_hold i) number).taken bytes ≡ read
-    → (register_behind (take i row)).taken bytes ≡ read
+    → (register_after (take i row)).taken bytes ≡ read
 register_at i row bytes read lt size h =
     let place : length (take i row) ≡ i = omega (arith, length-take i row, size) in
     subst (λ (p : ℕ). (within (may_hold p) number).taken bytes ≡ read) (sym place) h
@@ -113,7 +113,7 @@ all_read i ranges row bytes total le same so_far =
 
 -- ---- forms of a few numbers are rows
 
-abbrev module_and_rest : List ℕ × List ℕ → Taken SavedModule
+abbrev module_and_rest : List ℕ × List ℕ → Taken ModulePlacement
 module_and_rest x = Ok (module_of_row x.0, x.1)
 
 pub module_by_row : (last : Option ℕ) (bytes : List ℕ) → (module_within (is_above last)).taken bytes ≡ (row_taken (module_ranges last) bytes >>= module_and_rest)
@@ -123,8 +123,8 @@ module_by_row last bytes = simp bind_assoc
 abbrev demote_and_rest : List ℕ × List ℕ → Taken Note
 demote_and_rest x = Ok (demote_of_row x.0, x.1)
 
-pub demote_by_row : (harts : ℕ) (bytes : List ℕ) → (demote harts).taken bytes ≡ (row_taken (demote_ranges harts) bytes >>= demote_and_rest)
-unfolding demote hart_number multiple_of row_taken
+pub demote_by_row : (harts : ℕ) (bytes : List ℕ) → (demote_form harts).taken bytes ≡ (row_taken (demote_ranges harts) bytes >>= demote_and_rest)
+unfolding demote_form hart_number multiple_of row_taken
 demote_by_row harts bytes = simp bind_assoc
 
 abbrev code_and_rest : List ℕ → SbiCode × List ℕ → Taken AnswerParts

@@ -2,7 +2,7 @@
 use Rattle.std.specs.Prelude.{◌≡◌, Result, Ok, Err}
 use Rattle.snapshot_reader.specs.declared.read_error.ReadError.TheVariants.{Refused, Memory}
 use Rattle.snapshot_reader.specs.declared.read_error.ReadError.{ReadError}
-use Rattle.snapshot_form.specs.declared.refusal.SnapRefusal.{SnapRefusal}
+use Rattle.snapshot_format.specs.declared.refusal.SnapRefusal.{SnapRefusal}
 
 -- what was read is the value and the rest, or the refusal, that a form gives
 abbrev pub Gives : {X A : Type 0} → (X → A) → Result X SnapRefusal → Result A SnapRefusal → Type 0

@@ -1,22 +1,22 @@
 -- Values from the numbers that are read for them, one behind the other. This project's own.
 use Rattle.std.specs.Prelude.{ℕ, Option, ◌%◌, ◌^◌, nat_le, List, [], ◌∷◌, length, Bool, true, Ok, ◌||◌, nat_lt, slice_index, ◌==◌, if◌then◌else◌}
-use Rattle.processor.specs.Bytes.{instruction_size, page_size}
-use Rattle.processor.specs.Regions.{most_ram_pages}
-use Rattle.processor.specs.Registers.{software_bit, legal_status, legal_interrupts, legal_tvec, legal_counteren, legal_epc, legal_satp}
-use Rattle.snapshot_form.specs.Forms.{Form, Taken, number, within, put_first, ◌⨾◌}
-use Rattle.snapshot_form.specs.PageForms.{is_above}
-use Rattle.snapshot_form.specs.Snapshots.{events_made, hart_count, page_count}
-use Rattle.sv_types.specs.Limits.{most_events, most_harts, fewest_ram_pages}
+use Rattle.spec_processor.specs.Bytes.{instruction_size, page_size}
+use Rattle.spec_processor.specs.Regions.{max_ram_pages}
+use Rattle.spec_processor.specs.Registers.{software_bit, legal_status, legal_interrupts, legal_tvec, legal_counteren, legal_epc, legal_satp}
+use Rattle.snapshot_format.specs.Forms.{Form, Taken, number, within, put_first, ◌⨾◌}
+use Rattle.snapshot_format.specs.PageForms.{is_above}
+use Rattle.snapshot_format.specs.Snapshots.{events_made, hart_count, page_count}
+use Rattle.sv_types.specs.Limits.{max_events, max_harts, min_ram_pages}
 use Rattle.sv_types.specs.Policies.{is_between}
 use Rattle.snapshot_reader.specs.declared.row.Range.{Range}
 use Rattle.snapshot_reader.specs.declared.row.Range.TheVariants.{Any, AtMost, Below, Between, Above, InstructionPlace, PageStart}
 use Rattle.sv_types.specs.Steps.{◌>>=◌}
-use Rattle.snapshot_form.specs.HartForms.{Status}
+use Rattle.snapshot_format.specs.HartForms.{Status}
 use Rattle.sv_types.specs.declared.event.Counts.{Counts}
 use Rattle.sv_types.specs.declared.event.Note.{Note}
 use Rattle.sv_types.specs.declared.event.Rule.{Rule}
 use Rattle.sv_types.specs.declared.event.Verdict.{Verdict}
-use Rattle.sv_types.specs.declared.saved.SavedModule.{SavedModule}
+use Rattle.sv_types.specs.declared.saved.ModulePlacement.{ModulePlacement}
 
 abbrev pub counts_of_row : List ℕ → Counts
 counts_of_row row = record {
@@ -51,8 +51,8 @@ may_hold place n =
     else if place == 9 then legal_satp 0 n == n
     else true
 
-abbrev pub register_behind : List ℕ → Form ℕ
-register_behind before = within (may_hold (length before)) number
+abbrev pub register_after : List ℕ → Form ℕ
+register_after before = within (may_hold (length before)) number
 
 abbrev pub status_of_row : List ℕ → Status
 status_of_row row = (
@@ -96,7 +96,7 @@ row_taken (range ∷ ranges) bytes = (ranged range).taken bytes >>= λ a. row_ta
 abbrev pub module_ranges : Option ℕ → List Range
 module_ranges last = Above last ∷ PageStart ∷ PageStart ∷ Any ∷ []
 
-abbrev pub module_of_row : List ℕ → SavedModule
+abbrev pub module_of_row : List ℕ → ModulePlacement
 module_of_row row = record { id = slice_index row 0; gpa = slice_index row 1; va = slice_index row 2; data_va = slice_index row 3 }
 
 abbrev pub demote_ranges : ℕ → List Range
@@ -131,7 +131,7 @@ abbrev pub header_numbers : Form HeaderNumbers
 header_numbers = events_made ⨾ (hart_count ⨾ (page_count ⨾ number))
 
 abbrev pub header_ranges : List Range
-header_ranges = AtMost most_events ∷ Between 1 most_harts ∷ Between fewest_ram_pages most_ram_pages ∷ Any ∷ []
+header_ranges = AtMost max_events ∷ Between 1 max_harts ∷ Between min_ram_pages max_ram_pages ∷ Any ∷ []
 
 abbrev pub header_of_row : List ℕ → HeaderNumbers
 header_of_row row = (slice_index row 0, (slice_index row 1, (slice_index row 2, slice_index row 3)))

@@ -6,10 +6,10 @@ use Rattle.snapshot_reader.specs.declared.modules.Gate.{Gate}
 use Rattle.snapshot_reader.specs.declared.pages.Pages.{Pages}
 use Rattle.snapshot_reader.specs.declared.whole.Body.{Body}
 use Rattle.snapshot_reader.specs.declared.whole.Header.{Header}
-use Rattle.snapshot_form.specs.DeviceForms as device
-use Rattle.snapshot_form.specs.JournalForms as recorded
-use Rattle.snapshot_form.specs.PageForms as page
-use Rattle.snapshot_form.specs.Snapshots as whole
+use Rattle.snapshot_format.specs.DeviceForms as device
+use Rattle.snapshot_format.specs.JournalForms as recorded
+use Rattle.snapshot_format.specs.PageForms as page
+use Rattle.snapshot_format.specs.Snapshots as whole
 
 abbrev pub pages_parts : Pages → page.Pages
 pages_parts p = (p.protection.items, p.text.items)

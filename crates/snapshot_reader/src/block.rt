@@ -2,12 +2,12 @@
 
 ghost use Rattle.std.specs.Prelude.{◌≡◌, ◌<◌, ◌==◌, ◌^◌};
 ghost use Rattle.snapshot_reader.specs.Reading.{Gives};
-ghost use Rattle.snapshot_form.specs.DeviceForms.{block, busy, goes_with, has_beats, holds_transfer, standing_status, status_of, transfer};
+ghost use Rattle.snapshot_format.specs.DeviceForms.{block, busy, goes_with, has_beats, holds_transfer, standing_status, status_of, transfer};
 
 use crate::row::{Range, read_row};
 use crate::values::{read_at_most, read_number};
-use snapshot_form::SnapRefusal;
-use sv_types::{BEAT_BYTES, BlockCommand, BlockState, BlockStatus, MOST_DISK_BYTES, SECTOR_BYTES};
+use snapshot_format::SnapRefusal;
+use sv_types::{BEAT_BYTES, BlockCommand, BlockState, BlockStatus, MAX_DISK_BYTES, SECTOR_BYTES};
 
 pub(crate) fn read_block(bytes: &[u8]) -> Result<(BlockState, &[u8]), SnapRefusal>
     ensures { Gives (λ x. (x.0, x.1.now)) result (block.taken bytes.now) }
@@ -27,7 +27,7 @@ pub(crate) fn read_block(bytes: &[u8]) -> Result<(BlockState, &[u8]), SnapRefusa
 }
 
 // How the device stands, from its three numbers.
-#[tactic(auto, unfolding(snapshot_form::specs::DeviceForms::standing_status))]
+#[tactic(auto, unfolding(snapshot_format::specs::DeviceForms::standing_status))]
 fn read_standing(bytes: &[u8], gpa: u64, count: u64) -> Result<(BlockStatus, &[u8]), SnapRefusal>
     requires { count < 2 ^ 32 }
     ensures { Gives (λ x. (x.0, x.1.now)) result ((standing_status gpa count).taken bytes.now) }
@@ -65,7 +65,7 @@ impl Transfer {
     }
 }
 
-#[tactic(auto, unfolding(snapshot_form::specs::DeviceForms::transfer))]
+#[tactic(auto, unfolding(snapshot_format::specs::DeviceForms::transfer))]
 fn read_transfer(bytes: &[u8], gpa: u64, count: u64) -> Result<(Transfer, &[u8]), SnapRefusal>
     requires { count < 2 ^ 32 }
     ensures { Gives (λ x. ((x.0.command, (x.0.status, x.0.done)), x.1.now)) result ((transfer gpa count).taken bytes.now) }
@@ -127,7 +127,7 @@ fn has_beats(count: u64, status: u64, done: u64) -> bool
 pub(crate) fn holds_transfer(state: &BlockState, size: u64) -> bool
     ensures { result ≡ holds_transfer state.now size }
 {
-    if size > MOST_DISK_BYTES || size % SECTOR_BYTES != 0 {
+    if size > MAX_DISK_BYTES || size % SECTOR_BYTES != 0 {
         return false;
     }
     if !matches!(state.status, BlockStatus::Busy { .. }) {

@@ -1,13 +1,13 @@
 // The bytes of counts.
 
 ghost use Rattle.std.specs.Prelude.{◌≡◌, []};
-ghost use Rattle.snapshot_form.specs.Forms.{list_form};
-ghost use Rattle.snapshot_form.specs.JournalForms.{count, counts};
+ghost use Rattle.snapshot_format.specs.Forms.{list_form};
+ghost use Rattle.snapshot_format.specs.JournalForms.{count, counts};
 ghost use Rattle.snapshot_reader.specs.Reading.{Gives};
 ghost use Rattle.snapshot_reader.specs.Rows.{counts_of_row};
 
 use crate::values::read_at_most;
-use snapshot_form::SnapRefusal;
+use snapshot_format::SnapRefusal;
 use sv_types::Counts;
 
 /// The numbers of `Counts`.
@@ -73,7 +73,7 @@ fn read_row(bytes: &[u8], events: u64) -> Result<([u64; COUNTS], &[u8]), SnapRef
     Ok((row, rest))
 }
 
-#[tactic(auto, unfolding(snapshot_form::specs::JournalForms::count))]
+#[tactic(auto, unfolding(snapshot_format::specs::JournalForms::count))]
 fn read_count(bytes: &[u8], events: u64) -> Result<(u64, &[u8]), SnapRefusal>
     ensures { Gives (λ x. (x.0, x.1.now)) result ((count events).taken bytes.now) }
 {

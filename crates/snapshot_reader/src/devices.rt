@@ -1,17 +1,17 @@
 // The bytes of the devices: the console's input, the block device and its disk.
 
 ghost use Rattle.sv_types.specs.declared.port.PortState.{PortState};
-ghost use Rattle.snapshot_form.specs.Forms.{plain};
-ghost use Rattle.snapshot_form.specs.DeviceForms.{console, devices, disk, port};
+ghost use Rattle.snapshot_format.specs.Forms.{plain};
+ghost use Rattle.snapshot_format.specs.DeviceForms.{console, devices, disk, port};
 ghost use Rattle.snapshot_reader.specs.Reading.{Gives, Reads};
 ghost use Rattle.snapshot_reader.specs.Views.{devices_parts};
 
 use crate::block::{holds_transfer, read_block};
 use crate::read_error::ReadError;
 use crate::values::{read_at_most, read_number, read_plain};
-use snapshot_form::SnapRefusal;
+use snapshot_format::SnapRefusal;
 use std::alloc::Global;
-use sv_types::{BlockState, MOST_QUEUED};
+use sv_types::{BlockState, MAX_QUEUED};
 
 /// The console's input, the block device and its disk.
 #[derive(Drop)]
@@ -21,7 +21,7 @@ pub(crate) struct Devices {
     pub(crate) disk: Vec<u8>,
 }
 
-#[tactic(auto, unfolding(snapshot_form::specs::DeviceForms::devices))]
+#[tactic(auto, unfolding(snapshot_format::specs::DeviceForms::devices))]
 pub(crate) fn read_devices(alloc: Global, bytes: &[u8]) -> Result<(Devices, &[u8]), ReadError>
     ensures { Reads (λ x. (devices_parts x.0, x.1.now)) result (devices.taken bytes.now) }
 {
@@ -39,7 +39,7 @@ pub(crate) fn read_devices(alloc: Global, bytes: &[u8]) -> Result<(Devices, &[u8
 }
 
 // The block device.
-#[tactic(auto, unfolding(snapshot_form::specs::DeviceForms::port))]
+#[tactic(auto, unfolding(snapshot_format::specs::DeviceForms::port))]
 fn read_port(bytes: &[u8]) -> Result<(BlockState, &[u8]), SnapRefusal>
     ensures { Gives (λ x. (PortState.Block x.0, x.1.now)) result (port.taken bytes.now) }
 {
@@ -47,15 +47,15 @@ fn read_port(bytes: &[u8]) -> Result<(BlockState, &[u8]), SnapRefusal>
     Ok((block, rest))
 }
 
-#[tactic(auto, unfolding(snapshot_form::specs::DeviceForms::console))]
+#[tactic(auto, unfolding(snapshot_format::specs::DeviceForms::console))]
 fn read_console(alloc: Global, bytes: &[u8]) -> Result<(Vec<u8>, &[u8]), ReadError>
     ensures { Reads (λ x. (x.0.items, x.1.now)) result (console.taken bytes.now) }
 {
-    let (count, rest) = read_at_most(bytes, MOST_QUEUED as u64)?;
+    let (count, rest) = read_at_most(bytes, MAX_QUEUED as u64)?;
     read_bytes(alloc, rest, count)
 }
 
-#[tactic(auto, unfolding(snapshot_form::specs::DeviceForms::disk))]
+#[tactic(auto, unfolding(snapshot_format::specs::DeviceForms::disk))]
 fn read_disk<'a>(
     alloc: Global,
     bytes: &'a [u8],

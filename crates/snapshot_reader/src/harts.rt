@@ -1,15 +1,15 @@
 // The bytes of harts.
 
 ghost use Rattle.std.specs.Prelude.{◌≡◌, ◌∷◌, drop, length, not, IfOk, ◌&&◌, ◌||◌, ◌==◌};
-ghost use Rattle.snapshot_form.specs.HartForms.{hart, harts, is_user, mode, place_number, registers, reservation, side};
+ghost use Rattle.snapshot_format.specs.HartForms.{hart, harts, is_user, mode, place_number, registers, reservation, privilege};
 ghost use Rattle.snapshot_reader.specs.Reading.{Gives, Reads};
 
 use crate::read_error::ReadError;
 use crate::supervisor::read_status;
 use crate::values::{read_flag, read_number, read_pc, read_place};
-use processor::{Mode, PAGE_BYTES, REGISTERS, RESERVED_BYTES, is_in_ram};
-use saved_machine::SavedHart;
-use snapshot_form::SnapRefusal;
+use snapshot_format::SnapRefusal;
+use spec_processor::{Mode, PAGE_BYTES, REGISTERS, RESERVED_BYTES, is_in_ram};
+use spec_saved_machine::SavedHart;
 use std::alloc::Global;
 
 /// So many harts.
@@ -32,11 +32,11 @@ pub(crate) fn read_harts(
     Ok((read, rest))
 }
 
-#[tactic(auto, unfolding(snapshot_form::specs::HartForms::hart))]
+#[tactic(auto, unfolding(snapshot_format::specs::HartForms::hart))]
 fn read_hart(bytes: &[u8], ram_pages: u32) -> Result<(SavedHart, &[u8]), SnapRefusal>
     ensures { Gives (λ x. (x.0, x.1.now)) result ((hart ram_pages).taken bytes.now) }
 {
-    let ((started, mode, entry), rest) = read_side(bytes)?;
+    let ((started, mode, entry), rest) = read_privilege(bytes)?;
     let (pc, rest) = read_pc(rest)?;
     let (registers, rest) = read_registers(rest)?;
     let (status, rest) = read_status(rest)?;
@@ -77,9 +77,9 @@ fn read_hart(bytes: &[u8], ram_pages: u32) -> Result<(SavedHart, &[u8]), SnapRef
 }
 
 // Started, mode and entry.
-#[tactic(auto, unfolding(snapshot_form::specs::HartForms::side))]
-fn read_side(bytes: &[u8]) -> Result<((bool, Mode, Option<u8>), &[u8]), SnapRefusal>
-    ensures { Gives (λ x. ((x.0.0, (x.0.1, x.0.2)), x.1.now)) result (side.taken bytes.now) }
+#[tactic(auto, unfolding(snapshot_format::specs::HartForms::privilege))]
+fn read_privilege(bytes: &[u8]) -> Result<((bool, Mode, Option<u8>), &[u8]), SnapRefusal>
+    ensures { Gives (λ x. ((x.0.0, (x.0.1, x.0.2)), x.1.now)) result (privilege.taken bytes.now) }
 {
     let (started, rest) = read_flag(bytes)?;
     let (mode, rest) = read_mode(rest)?;
@@ -107,7 +107,7 @@ fn may_have_entry(started: bool, mode: Mode, entry: Option<u8>) -> bool
     (started && mode == Mode::Kernel) || entry.is_none()
 }
 
-#[tactic(auto, unfolding(snapshot_form::specs::HartForms::mode))]
+#[tactic(auto, unfolding(snapshot_format::specs::HartForms::mode))]
 fn read_mode(bytes: &[u8]) -> Result<(Mode, &[u8]), SnapRefusal>
     ensures { Gives (λ x. (x.0, x.1.now)) result (mode.taken bytes.now) }
 {
@@ -135,7 +135,7 @@ fn read_registers(bytes: &[u8]) -> Result<([u64; REGISTERS], &[u8]), SnapRefusal
 }
 
 // Address 0 stands for none.
-#[tactic(auto, unfolding(snapshot_form::specs::HartForms::reservation), using(policy_limits::proofs::InRam::byte_in_ram))]
+#[tactic(auto, unfolding(snapshot_format::specs::HartForms::reservation), using(policy_limits::proofs::InRam::byte_in_ram))]
 fn read_reservation(bytes: &[u8], ram_pages: u32) -> Result<(Option<u64>, &[u8]), SnapRefusal>
     ensures { Gives (λ x. (x.0, x.1.now)) result ((reservation ram_pages).taken bytes.now) }
 {

@@ -1,6 +1,6 @@
 // The bytes of what a machine recorded: its counts, notes and verdict.
 
-ghost use Rattle.snapshot_form.specs.JournalForms.{journal};
+ghost use Rattle.snapshot_format.specs.JournalForms.{journal};
 ghost use Rattle.snapshot_reader.specs.Reading.{Reads};
 ghost use Rattle.snapshot_reader.specs.Views.{recorded_parts};
 
@@ -19,7 +19,7 @@ pub(crate) struct Recorded {
     pub(crate) verdict: Verdict,
 }
 
-#[tactic(auto, unfolding(snapshot_form::specs::JournalForms::journal))]
+#[tactic(auto, unfolding(snapshot_format::specs::JournalForms::journal))]
 pub(crate) fn read_journal(
     alloc: Global,
     bytes: &[u8],

@@ -1,4 +1,4 @@
-//! The snapshot that some bytes are: what is read is spelled so, as `snapshot_form` defines it.
+//! The snapshot that some bytes are: what is read is spelled so, as `snapshot_format` defines it.
 #![tactic(auto)]
 
 mod block;
@@ -17,4 +17,4 @@ mod verdict;
 mod whole;
 
 pub use read_error::ReadError;
-pub use whole::{MOST_SNAPSHOT_BYTES, read};
+pub use whole::{MAX_SNAPSHOT_BYTES, read};

@@ -1,37 +1,37 @@
 // The bytes of loaded modules and of a load under way.
 
 ghost use Rattle.std.specs.Prelude.{◌≡◌, ◌≤◌, [], length, slice_get};
-ghost use Rattle.sv_types.specs.Limits.{most_harts};
-ghost use Rattle.snapshot_form.specs.Forms.{list_form, number, within};
-ghost use Rattle.snapshot_form.specs.PageForms.{gate, is_above, last_id, load, load_under_way, may_load, module_within, modules, next_module};
+ghost use Rattle.sv_types.specs.Limits.{max_harts};
+ghost use Rattle.snapshot_format.specs.Forms.{list_form, number, within};
+ghost use Rattle.snapshot_format.specs.PageForms.{gate, is_above, last_id, load, load_under_way, may_load, module_within, modules, next_module};
 ghost use Rattle.snapshot_reader.specs.Reading.{Gives, Reads};
 ghost use Rattle.snapshot_reader.specs.Views.{gate_parts};
 
 use crate::read_error::ReadError;
 use crate::row::{Range, read_row};
 use crate::values::{read_at_most, read_flag, read_number};
-use policy_limits::{MOST_MODULE_PAGES, MOST_MODULES};
-use processor::Mode;
-use saved_machine::{SavedHart, SavedLoad};
-use snapshot_form::SnapRefusal;
+use policy_limits::{MAX_MODULE_PAGES, MAX_MODULES};
+use snapshot_format::SnapRefusal;
+use spec_processor::Mode;
+use spec_saved_machine::{SavedHart, SavedLoad};
 use std::alloc::Global;
-use sv_types::SavedModule;
+use sv_types::ModulePlacement;
 
 /// Loaded modules, whether init pages are retired, and the load under way.
 #[derive(Drop)]
 pub(crate) struct Gate {
-    pub(crate) modules: Vec<SavedModule>,
+    pub(crate) modules: Vec<ModulePlacement>,
     pub(crate) retired: bool,
     pub(crate) loading: Option<SavedLoad>,
 }
 
-#[tactic(auto, unfolding(snapshot_form::specs::PageForms::gate))]
+#[tactic(auto, unfolding(snapshot_format::specs::PageForms::gate))]
 pub(crate) fn read_gate<'a>(
     alloc: Global,
     bytes: &'a [u8],
     harts: &[SavedHart],
 ) -> Result<(Gate, &'a [u8]), ReadError>
-    requires { length harts.now ≤ most_harts }
+    requires { length harts.now ≤ max_harts }
     ensures { Reads (λ x. (gate_parts x.0, x.1.now)) result ((gate harts.now).taken bytes.now) }
 {
     let (modules, rest) = read_modules(alloc, bytes)?;
@@ -47,11 +47,11 @@ pub(crate) fn read_gate<'a>(
     ))
 }
 
-#[tactic(auto, unfolding(snapshot_form::specs::PageForms::modules))]
-fn read_modules(alloc: Global, bytes: &[u8]) -> Result<(Vec<SavedModule>, &[u8]), ReadError>
+#[tactic(auto, unfolding(snapshot_format::specs::PageForms::modules))]
+fn read_modules(alloc: Global, bytes: &[u8]) -> Result<(Vec<ModulePlacement>, &[u8]), ReadError>
     ensures { Reads (λ x. (x.0.items, x.1.now)) result (modules.taken bytes.now) }
 {
-    let (count, rest) = read_at_most(bytes, MOST_MODULES as u64)?;
+    let (count, rest) = read_at_most(bytes, MAX_MODULES as u64)?;
     read_loaded(alloc, rest, count)
 }
 
@@ -59,7 +59,7 @@ fn read_loaded(
     alloc: Global,
     bytes: &[u8],
     count: u64,
-) -> Result<(Vec<SavedModule>, &[u8]), ReadError>
+) -> Result<(Vec<ModulePlacement>, &[u8]), ReadError>
     ensures { Reads (λ x. (x.0.items, x.1.now)) result ((list_form next_module [] count).taken bytes.now) }
 {
     let mut read = Vec::new(alloc);
@@ -72,7 +72,7 @@ fn read_loaded(
     Ok((read, rest))
 }
 
-fn last_id(before: &[SavedModule]) -> Option<u64>
+fn last_id(before: &[ModulePlacement]) -> Option<u64>
     ensures { result ≡ last_id before.now }
 {
     let last = before.last()?;
@@ -80,7 +80,7 @@ fn last_id(before: &[SavedModule]) -> Option<u64>
 }
 
 // A module whose id is above the last one.
-fn read_module(bytes: &[u8], last: Option<u64>) -> Result<(SavedModule, &[u8]), SnapRefusal>
+fn read_module(bytes: &[u8], last: Option<u64>) -> Result<(ModulePlacement, &[u8]), SnapRefusal>
     ensures { Gives (λ x. (x.0, x.1.now)) result ((module_within (is_above last)).taken bytes.now) }
 {
     let ranges = [
@@ -91,7 +91,7 @@ fn read_module(bytes: &[u8], last: Option<u64>) -> Result<(SavedModule, &[u8]), 
     ];
     let ([id, gpa, va, data_va], rest) = read_row(bytes, ranges)?;
     Ok((
-        SavedModule {
+        ModulePlacement {
             id,
             gpa,
             va,
@@ -101,12 +101,12 @@ fn read_module(bytes: &[u8], last: Option<u64>) -> Result<(SavedModule, &[u8]), 
     ))
 }
 
-#[tactic(auto, unfolding(snapshot_form::specs::PageForms::load_under_way, snapshot_form::specs::PageForms::load_behind))]
+#[tactic(auto, unfolding(snapshot_format::specs::PageForms::load_under_way, snapshot_format::specs::PageForms::load_after))]
 fn read_loading<'a>(
     bytes: &'a [u8],
     harts: &[SavedHart],
 ) -> Result<(Option<SavedLoad>, &'a [u8]), SnapRefusal>
-    requires { length harts.now ≤ most_harts }
+    requires { length harts.now ≤ max_harts }
     ensures { Gives (λ x. (x.0, x.1.now)) result ((load_under_way harts.now).taken bytes.now) }
 {
     let (is_under_way, rest) = read_flag(bytes)?;
@@ -117,14 +117,14 @@ fn read_loading<'a>(
     Ok((Some(under_way), rest))
 }
 
-#[tactic(auto, unfolding(snapshot_form::specs::PageForms::load))]
+#[tactic(auto, unfolding(snapshot_format::specs::PageForms::load))]
 fn read_load<'a>(bytes: &'a [u8], harts: &[SavedHart]) -> Result<(SavedLoad, &'a [u8]), SnapRefusal>
-    requires { length harts.now ≤ most_harts }
+    requires { length harts.now ≤ max_harts }
     ensures { Gives (λ x. (x.0, x.1.now)) result ((load harts.now).taken bytes.now) }
 {
     let (hart, rest) = read_loading_hart(bytes, harts)?;
     let (loaded, rest) = read_module(rest, None)?;
-    let (left, rest) = read_at_most(rest, u64::from(MOST_MODULE_PAGES))?;
+    let (left, rest) = read_at_most(rest, u64::from(MAX_MODULE_PAGES))?;
     Ok((
         SavedLoad {
             hart,
@@ -140,7 +140,7 @@ fn read_loading_hart<'a>(
     bytes: &'a [u8],
     harts: &[SavedHart],
 ) -> Result<(u8, &'a [u8]), SnapRefusal>
-    requires { length harts.now ≤ most_harts }
+    requires { length harts.now ≤ max_harts }
     ensures { Gives (λ x. (x.0, x.1.now)) result ((within (λ h. may_load (slice_get harts.now h)) number).taken bytes.now) }
 {
     let (n, rest) = read_number(bytes)?;

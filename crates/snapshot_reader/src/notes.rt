@@ -1,20 +1,20 @@
 // The bytes of notes: a kind, and the fields of each.
 
 ghost use Rattle.std.specs.Prelude.{◌≡◌, [], Some, None, if◌then◌else◌};
-ghost use Rattle.snapshot_form.specs.Forms.{list_form};
-ghost use Rattle.snapshot_form.specs.JournalForms.{answer, code, codes_known, demote, denied_note, found_among, is_among, load_note, note, note_behind, notes, retire, unload};
+ghost use Rattle.snapshot_format.specs.Forms.{list_form};
+ghost use Rattle.snapshot_format.specs.JournalForms.{answer, code, codes_known, demote_form, denied_note, found_among, is_among, load_note, note_form, note_after, notes, retire, unload};
 ghost use Rattle.snapshot_reader.specs.Reading.{Gives, Reads};
 
 use crate::read_error::ReadError;
 use crate::row::{Range, read_row};
 use crate::values::read_number;
-use snapshot_form::SnapRefusal;
-use snapshot_form::note_kind::{DEMOTE, DENIED, LOAD, RETIRE, UNLOAD};
+use snapshot_format::SnapRefusal;
+use snapshot_format::note_kind::{DEMOTE, DENIED, LOAD, RETIRE, UNLOAD};
 use std::alloc::Global;
-use sv_types::{MOST_NOTES, Note, SbiCode};
+use sv_types::{MAX_NOTES, Note, SbiCode};
 
 // The first 4,096, or all of them.
-#[tactic(auto, unfolding(snapshot_form::specs::JournalForms::notes))]
+#[tactic(auto, unfolding(snapshot_format::specs::JournalForms::notes))]
 pub(crate) fn read_notes(
     alloc: Global,
     bytes: &[u8],
@@ -24,7 +24,7 @@ pub(crate) fn read_notes(
     ensures { Reads (λ x. (x.0.items, x.1.now)) result ((notes harts all).taken bytes.now) }
 {
     let (count, rest) = read_number(bytes)?;
-    if count != (MOST_NOTES as u64).min(all) {
+    if count != (MAX_NOTES as u64).min(all) {
         return Err(ReadError::Refused(SnapRefusal::OutOfRange));
     }
     read_kept(alloc, rest, count, harts)
@@ -36,7 +36,7 @@ fn read_kept(
     count: u64,
     harts: u8,
 ) -> Result<(Vec<Note>, &[u8]), ReadError>
-    ensures { Reads (λ x. (x.0.items, x.1.now)) result ((list_form (λ before. note harts) [] count).taken bytes.now) }
+    ensures { Reads (λ x. (x.0.items, x.1.now)) result ((list_form (λ before. note_form harts) [] count).taken bytes.now) }
 {
     let mut read = Vec::new(alloc);
     let mut rest = bytes;
@@ -48,21 +48,21 @@ fn read_kept(
     Ok((read, rest))
 }
 
-#[tactic(auto, unfolding(snapshot_form::specs::JournalForms::note))]
+#[tactic(auto, unfolding(snapshot_format::specs::JournalForms::note_form))]
 fn read_note(bytes: &[u8], harts: u8) -> Result<(Note, &[u8]), SnapRefusal>
-    ensures { Gives (λ x. (x.0, x.1.now)) result ((note harts).taken bytes.now) }
+    ensures { Gives (λ x. (x.0, x.1.now)) result ((note_form harts).taken bytes.now) }
 {
     let (kind, rest) = read_number(bytes)?;
     if kind < DEMOTE || RETIRE < kind {
         return Err(SnapRefusal::OutOfRange);
     }
-    read_note_behind(rest, harts, kind)
+    read_note_after(rest, harts, kind)
 }
 
 // The fields behind a kind.
-#[tactic(auto, unfolding(snapshot_form::specs::JournalForms::note_behind, snapshot_form::specs::JournalForms::denied_note))]
-fn read_note_behind(bytes: &[u8], harts: u8, kind: u64) -> Result<(Note, &[u8]), SnapRefusal>
-    ensures { Gives (λ x. (x.0, x.1.now)) result ((note_behind harts kind).taken bytes.now) }
+#[tactic(auto, unfolding(snapshot_format::specs::JournalForms::note_after, snapshot_format::specs::JournalForms::denied_note))]
+fn read_note_after(bytes: &[u8], harts: u8, kind: u64) -> Result<(Note, &[u8]), SnapRefusal>
+    ensures { Gives (λ x. (x.0, x.1.now)) result ((note_after harts kind).taken bytes.now) }
 {
     if kind == DEMOTE {
         read_demote(bytes, harts)
@@ -78,7 +78,7 @@ fn read_note_behind(bytes: &[u8], harts: u8, kind: u64) -> Result<(Note, &[u8]),
 }
 
 fn read_demote(bytes: &[u8], harts: u8) -> Result<(Note, &[u8]), SnapRefusal>
-    ensures { Gives (λ x. (x.0, x.1.now)) result ((demote harts).taken bytes.now) }
+    ensures { Gives (λ x. (x.0, x.1.now)) result ((demote_form harts).taken bytes.now) }
 {
     let ranges = [
         Range::Below(u64::from(harts)),
@@ -98,7 +98,7 @@ fn read_demote(bytes: &[u8], harts: u8) -> Result<(Note, &[u8]), SnapRefusal>
     ))
 }
 
-#[tactic(auto, unfolding(snapshot_form::specs::JournalForms::denied_note))]
+#[tactic(auto, unfolding(snapshot_format::specs::JournalForms::denied_note))]
 fn read_denied(bytes: &[u8]) -> Result<(Note, &[u8]), SnapRefusal>
     ensures { Gives (λ x. (x.0, x.1.now)) result (denied_note.taken bytes.now) }
 {
@@ -106,7 +106,7 @@ fn read_denied(bytes: &[u8]) -> Result<(Note, &[u8]), SnapRefusal>
     Ok((Note::Denied { gpa }, rest))
 }
 
-#[tactic(auto, unfolding(snapshot_form::specs::JournalForms::load_note))]
+#[tactic(auto, unfolding(snapshot_format::specs::JournalForms::load_note))]
 fn read_load_note(bytes: &[u8], harts: u8) -> Result<(Note, &[u8]), SnapRefusal>
     ensures { Gives (λ x. (x.0, x.1.now)) result ((load_note harts).taken bytes.now) }
 {
@@ -122,7 +122,7 @@ fn read_load_note(bytes: &[u8], harts: u8) -> Result<(Note, &[u8]), SnapRefusal>
     ))
 }
 
-#[tactic(auto, unfolding(snapshot_form::specs::JournalForms::unload))]
+#[tactic(auto, unfolding(snapshot_format::specs::JournalForms::unload))]
 fn read_unload(bytes: &[u8], harts: u8) -> Result<(Note, &[u8]), SnapRefusal>
     ensures { Gives (λ x. (x.0, x.1.now)) result ((unload harts).taken bytes.now) }
 {
@@ -164,7 +164,7 @@ fn read_answer(bytes: &[u8], harts: u8) -> Result<((u8, u64, u64, SbiCode), &[u8
     Ok(((hart as u8, turn, id, code), rest))
 }
 
-#[tactic(auto, unfolding(snapshot_form::specs::JournalForms::code))]
+#[tactic(auto, unfolding(snapshot_format::specs::JournalForms::code))]
 fn read_code(bytes: &[u8]) -> Result<(SbiCode, &[u8]), SnapRefusal>
     ensures { Gives (λ x. (x.0, x.1.now)) result (code.taken bytes.now) }
 {
@@ -176,7 +176,7 @@ fn read_code(bytes: &[u8]) -> Result<(SbiCode, &[u8]), SnapRefusal>
 }
 
 // The code that a register holds so.
-#[tactic(auto, unfolding(snapshot_form::specs::JournalForms::is_among, snapshot_form::specs::JournalForms::found_among))]
+#[tactic(auto, unfolding(snapshot_format::specs::JournalForms::is_among, snapshot_format::specs::JournalForms::found_among))]
 fn code_of(word: u64) -> Option<SbiCode>
     ensures { result ≡ (if is_among codes_known word then Some (found_among codes_known word) else None) }
 {
@@ -194,8 +194,8 @@ fn code_of(word: u64) -> Option<SbiCode>
         Some(SbiCode::InvalidAddress)
     } else if word == SbiCode::Already.word() {
         Some(SbiCode::Already)
-    } else if word == SbiCode::UnderWay.word() {
-        Some(SbiCode::UnderWay)
+    } else if word == SbiCode::PendingLoad.word() {
+        Some(SbiCode::PendingLoad)
     } else {
         None
     }

@@ -1,26 +1,26 @@
 // The bytes of protections and of the kernel's text.
 
 ghost use Rattle.std.specs.Prelude.{◌≡◌, []};
-ghost use Rattle.snapshot_form.specs.Forms.{list_form};
-ghost use Rattle.snapshot_form.specs.PageForms.{is_above, last_page, pages, protection, protections, text, text_page};
+ghost use Rattle.snapshot_format.specs.Forms.{list_form};
+ghost use Rattle.snapshot_format.specs.PageForms.{is_above, last_page, pages, protection_form, protections, text, text_page};
 ghost use Rattle.snapshot_reader.specs.Reading.{Gives, Reads};
 ghost use Rattle.snapshot_reader.specs.Views.{pages_parts};
 
 use crate::read_error::ReadError;
 use crate::values::{read_at_most, read_byte, read_number};
-use snapshot_form::protection_number::{APPROVED, FREE, HELD};
-use snapshot_form::{SnapRefusal, TextPage};
+use snapshot_format::protection_number::{APPROVED, FREE, HELD};
+use snapshot_format::{SnapRefusal, TextPage};
 use std::alloc::Global;
 use sv_types::{DIGEST_BYTES, Protection};
 
 /// What pages are, and the kernel's text.
 #[derive(Drop)]
 pub(crate) struct Pages {
-    pub(crate) protection: Vec<Protection>,
+    pub(crate) protection_form: Vec<Protection>,
     pub(crate) text: Vec<TextPage>,
 }
 
-#[tactic(auto, unfolding(snapshot_form::specs::PageForms::pages))]
+#[tactic(auto, unfolding(snapshot_format::specs::PageForms::pages))]
 pub(crate) fn read_pages(
     alloc: Global,
     bytes: &[u8],
@@ -28,9 +28,15 @@ pub(crate) fn read_pages(
 ) -> Result<(Pages, &[u8]), ReadError>
     ensures { Reads (λ x. (pages_parts x.0, x.1.now)) result ((pages ram_pages).taken bytes.now) }
 {
-    let (protection, rest) = read_protections(alloc, bytes, ram_pages)?;
+    let (protection_form, rest) = read_protections(alloc, bytes, ram_pages)?;
     let (text, rest) = read_text(alloc, rest, ram_pages)?;
-    Ok((Pages { protection, text }, rest))
+    Ok((
+        Pages {
+            protection_form,
+            text,
+        },
+        rest,
+    ))
 }
 
 fn read_protections(
@@ -50,9 +56,9 @@ fn read_protections(
     Ok((read, rest))
 }
 
-#[tactic(auto, unfolding(snapshot_form::specs::PageForms::protection))]
+#[tactic(auto, unfolding(snapshot_format::specs::PageForms::protection_form))]
 fn read_protection(bytes: &[u8]) -> Result<(Protection, &[u8]), SnapRefusal>
-    ensures { Gives (λ x. (x.0, x.1.now)) result (protection.taken bytes.now) }
+    ensures { Gives (λ x. (x.0, x.1.now)) result (protection_form.taken bytes.now) }
 {
     let (n, rest) = read_byte(bytes)?;
     match n {
@@ -63,7 +69,7 @@ fn read_protection(bytes: &[u8]) -> Result<(Protection, &[u8]), SnapRefusal>
     }
 }
 
-#[tactic(auto, unfolding(snapshot_form::specs::PageForms::text))]
+#[tactic(auto, unfolding(snapshot_format::specs::PageForms::text))]
 fn read_text(
     alloc: Global,
     bytes: &[u8],
@@ -94,7 +100,7 @@ fn read_text_pages(
 }
 
 // A page in RAM, above those before it, and its digest.
-#[tactic(auto, unfolding(snapshot_form::specs::PageForms::text_page, snapshot_form::specs::Forms::bytes_at))]
+#[tactic(auto, unfolding(snapshot_format::specs::PageForms::text_page, snapshot_format::specs::Forms::bytes_at))]
 fn read_text_page<'a>(
     bytes: &'a [u8],
     ram_pages: u32,

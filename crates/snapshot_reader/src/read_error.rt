@@ -3,7 +3,7 @@
 ghost use Rattle.snapshot_reader.specs.declared.read_error.ReadError.TheVariants.{Memory, Refused};
 ghost use Rattle.std.specs.Prelude.{◌≡◌};
 
-use snapshot_form::SnapRefusal;
+use snapshot_format::SnapRefusal;
 use std::alloc::{AllocError, AllocFailed};
 use thiserror::Error;
 

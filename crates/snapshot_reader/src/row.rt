@@ -6,8 +6,8 @@ ghost use Rattle.snapshot_reader.specs.Rows.{is_within, ranged, row_taken};
 
 use crate::pages::is_above;
 use crate::values::read_number;
-use processor::{INSTRUCTION_BYTES, PAGE_BYTES};
-use snapshot_form::SnapRefusal;
+use snapshot_format::SnapRefusal;
+use spec_processor::{INSTRUCTION_BYTES, PAGE_BYTES};
 
 /// The numbers that may stand at a place.
 #[derive(Clone, Copy, Drop)]

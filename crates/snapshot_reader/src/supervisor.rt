@@ -1,19 +1,19 @@
 // The bytes of a hart's supervisor registers.
 
 ghost use Rattle.std.specs.Prelude.{◌≡◌, [], ◌==◌};
-ghost use Rattle.processor.specs.Registers.{legal_satp};
-ghost use Rattle.snapshot_form.specs.Forms.{list_form, number, within};
-ghost use Rattle.snapshot_form.specs.HartForms.{status};
+ghost use Rattle.spec_processor.specs.Registers.{legal_satp};
+ghost use Rattle.snapshot_format.specs.Forms.{list_form, number, within};
+ghost use Rattle.snapshot_format.specs.HartForms.{status};
 ghost use Rattle.snapshot_reader.specs.Reading.{Gives};
-ghost use Rattle.snapshot_reader.specs.Rows.{may_hold, register_behind, status_of_row};
+ghost use Rattle.snapshot_reader.specs.Rows.{may_hold, register_after, status_of_row};
 
 use crate::values::read_number;
 use csr_file::{
     INTERRUPT_BITS, MISALIGNED, SATP_BITS, SOFTWARE_INTERRUPT, STATUS_BITS, TIME_ENABLE,
     TVEC_RESERVED,
 };
-use processor::{BARE, ROOT_MODE_PLACE, SV39};
-use snapshot_form::SnapRefusal;
+use snapshot_format::SnapRefusal;
+use spec_processor::{BARE, ROOT_MODE_SHIFT, SV39};
 
 /// The supervisor registers: sstatus, sie, stvec, scounteren, sscratch, sepc, scause, stval, sip and satp.
 pub(crate) const SUPERVISOR: usize = 10;
@@ -40,7 +40,7 @@ pub(crate) fn read_status(bytes: &[u8]) -> Result<([u64; SUPERVISOR], &[u8]), Sn
 }
 
 fn read_row(bytes: &[u8]) -> Result<([u64; SUPERVISOR], &[u8]), SnapRefusal>
-    ensures { Gives (λ x. (x.0, x.1.now)) result ((list_form register_behind [] 10).taken bytes.now) }
+    ensures { Gives (λ x. (x.0, x.1.now)) result ((list_form register_after [] 10).taken bytes.now) }
 {
     let mut row = [0; SUPERVISOR];
     let mut rest = bytes;
@@ -82,7 +82,7 @@ fn may_hold(place: usize, n: u64) -> bool
 fn is_root(n: u64) -> bool
     ensures { result ≡ (legal_satp 0 n == n) }
 {
-    let mode = n >> ROOT_MODE_PLACE;
+    let mode = n >> ROOT_MODE_SHIFT;
     if mode == BARE || mode == SV39 {
         n & SATP_BITS == n
     } else {

@@ -1,19 +1,19 @@
 // A value at the front of some bytes, and the bytes behind it.
 
 ghost use Rattle.std.specs.Prelude.{nat_le};
-ghost use Rattle.processor.specs.Bytes.{instruction_size};
-ghost use Rattle.snapshot_form.specs.Forms.{byte, number, plain, within};
-ghost use Rattle.snapshot_form.specs.HartForms.{multiple_of, flag, place};
+ghost use Rattle.spec_processor.specs.Bytes.{instruction_size};
+ghost use Rattle.snapshot_format.specs.Forms.{byte, number, plain, within};
+ghost use Rattle.snapshot_format.specs.HartForms.{multiple_of, flag, place};
 ghost use Rattle.snapshot_reader.specs.Reading.{Gives};
 
-use policy_limits::MOST_ENTRIES;
-use processor::INSTRUCTION_BYTES;
-use snapshot_form::SnapRefusal;
+use policy_limits::MAX_ENTRIES;
+use snapshot_format::SnapRefusal;
+use spec_processor::INSTRUCTION_BYTES;
 
 /// The bytes of a number.
 const NUMBER_BYTES: usize = 8;
 
-#[tactic(auto, unfolding(snapshot_form::specs::Forms::number_at))]
+#[tactic(auto, unfolding(snapshot_format::specs::Forms::number_at))]
 pub(crate) fn read_number(bytes: &[u8]) -> Result<(u64, &[u8]), SnapRefusal>
     ensures { Gives (λ x. (x.0, x.1.now)) result (number.taken bytes.now) }
 {
@@ -33,7 +33,7 @@ pub(crate) fn read_byte(bytes: &[u8]) -> Result<(u8, &[u8]), SnapRefusal>
 }
 
 // So many bytes as they are.
-#[tactic(auto, unfolding(snapshot_form::specs::Forms::bytes_at))]
+#[tactic(auto, unfolding(snapshot_format::specs::Forms::bytes_at))]
 pub(crate) fn read_plain(bytes: &[u8], count: u64) -> Result<(&[u8], &[u8]), SnapRefusal>
     ensures { Gives (λ x. (x.0.now, x.1.now)) result ((plain count).taken bytes.now) }
 {
@@ -54,7 +54,7 @@ pub(crate) fn read_at_most(bytes: &[u8], most: u64) -> Result<(u64, &[u8]), Snap
     Ok((n, rest))
 }
 
-#[tactic(auto, unfolding(snapshot_form::specs::HartForms::flag))]
+#[tactic(auto, unfolding(snapshot_format::specs::HartForms::flag))]
 pub(crate) fn read_flag(bytes: &[u8]) -> Result<(bool, &[u8]), SnapRefusal>
     ensures { Gives (λ x. (x.0, x.1.now)) result (flag.taken bytes.now) }
 {
@@ -62,11 +62,11 @@ pub(crate) fn read_flag(bytes: &[u8]) -> Result<(bool, &[u8]), SnapRefusal>
     Ok((n == 1, rest))
 }
 
-#[tactic(auto, unfolding(snapshot_form::specs::HartForms::place))]
+#[tactic(auto, unfolding(snapshot_format::specs::HartForms::place))]
 pub(crate) fn read_place(bytes: &[u8]) -> Result<(Option<u8>, &[u8]), SnapRefusal>
     ensures { Gives (λ x. (x.0, x.1.now)) result (place.taken bytes.now) }
 {
-    let (n, rest) = read_at_most(bytes, MOST_ENTRIES as u64)?;
+    let (n, rest) = read_at_most(bytes, MAX_ENTRIES as u64)?;
     if n == 0 {
         return Ok((None, rest));
     }
@@ -74,7 +74,7 @@ pub(crate) fn read_place(bytes: &[u8]) -> Result<(Option<u8>, &[u8]), SnapRefusa
 }
 
 // An instruction's address.
-#[tactic(auto, unfolding(snapshot_form::specs::HartForms::multiple_of))]
+#[tactic(auto, unfolding(snapshot_format::specs::HartForms::multiple_of))]
 pub(crate) fn read_pc(bytes: &[u8]) -> Result<(u64, &[u8]), SnapRefusal>
     ensures { Gives (λ x. (x.0, x.1.now)) result ((multiple_of instruction_size).taken bytes.now) }
 {

@@ -1,26 +1,26 @@
 // The bytes of the verdict: a kind, and the fields of each.
 
-ghost use Rattle.snapshot_form.specs.JournalForms.{stopped_entry, stopped_write, verdict, verdict_behind};
+ghost use Rattle.snapshot_format.specs.JournalForms.{stopped_entry, stopped_write, verdict, verdict_after};
 ghost use Rattle.snapshot_reader.specs.Reading.{Gives};
 
 use crate::row::{Range, read_row};
 use crate::values::read_at_most;
-use snapshot_form::SnapRefusal;
-use snapshot_form::verdict_kind::{RUNNING, SHUTDOWN, STOPPED_ENTRY, STOPPED_WRITE};
+use snapshot_format::SnapRefusal;
+use snapshot_format::verdict_kind::{RUNNING, SHUTDOWN, STOPPED_ENTRY, STOPPED_WRITE};
 use sv_types::{Rule, Verdict};
 
-#[tactic(auto, unfolding(snapshot_form::specs::JournalForms::verdict))]
+#[tactic(auto, unfolding(snapshot_format::specs::JournalForms::verdict))]
 pub(crate) fn read_verdict(bytes: &[u8], harts: u8) -> Result<(Verdict, &[u8]), SnapRefusal>
     ensures { Gives (λ x. (x.0, x.1.now)) result ((verdict harts).taken bytes.now) }
 {
     let (kind, rest) = read_at_most(bytes, STOPPED_WRITE)?;
-    read_verdict_behind(rest, harts, kind)
+    read_verdict_after(rest, harts, kind)
 }
 
 // The fields behind a kind.
-#[tactic(auto, unfolding(snapshot_form::specs::JournalForms::verdict_behind))]
-fn read_verdict_behind(bytes: &[u8], harts: u8, kind: u64) -> Result<(Verdict, &[u8]), SnapRefusal>
-    ensures { Gives (λ x. (x.0, x.1.now)) result ((verdict_behind harts kind).taken bytes.now) }
+#[tactic(auto, unfolding(snapshot_format::specs::JournalForms::verdict_after))]
+fn read_verdict_after(bytes: &[u8], harts: u8, kind: u64) -> Result<(Verdict, &[u8]), SnapRefusal>
+    ensures { Gives (λ x. (x.0, x.1.now)) result ((verdict_after harts kind).taken bytes.now) }
 {
     if kind == RUNNING {
         Ok((Verdict::Running, bytes))

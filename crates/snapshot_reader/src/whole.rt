@@ -1,8 +1,8 @@
 // The bytes of a whole snapshot.
 
 ghost use Rattle.std.specs.Prelude.{◌≡◌, ◌≤◌, true, Ok, IfOk};
-ghost use Rattle.sv_types.specs.Limits.{most_harts};
-ghost use Rattle.snapshot_form.specs.Snapshots.{Contents, magic_form, body, contents, header, magic, snapshot, snapshot_read, whole_of};
+ghost use Rattle.sv_types.specs.Limits.{max_harts};
+ghost use Rattle.snapshot_format.specs.Snapshots.{Contents, magic_form, body, contents, header, magic, snapshot, snapshot_read, whole_of};
 ghost use Rattle.snapshot_reader.specs.Reading.{Gives, Reads};
 ghost use Rattle.snapshot_reader.specs.Rows.{header_numbers};
 ghost use Rattle.snapshot_reader.specs.Views.{body_parts, header_view};
@@ -14,33 +14,33 @@ use crate::modules::{Gate, read_gate};
 use crate::pages::{Pages, read_pages};
 use crate::read_error::ReadError;
 use crate::row::{Range, read_row};
-use policy_limits::{FEWEST_RAM_PAGES, MOST_RAM_PAGES};
-use processor::PAGE_BYTES;
-use saved_machine::{Saved, SavedHart};
-use snapshot_form::{MAGIC, MAGIC_BYTES, SnapRefusal, Snapshot, law_snapshot};
+use policy_limits::{MAX_RAM_PAGES, MIN_RAM_PAGES};
+use snapshot_format::{MAGIC, MAGIC_BYTES, SnapRefusal, Snapshot, law_snapshot};
+use spec_processor::PAGE_BYTES;
+use spec_saved_machine::{Saved, SavedHart};
 use std::alloc::Global;
-use sv_types::{MOST_EVENTS, MOST_HARTS, PortState};
+use sv_types::{MAX_EVENTS, MAX_HARTS, PortState};
 
 /// The most bytes that a snapshot has.
-pub const MOST_SNAPSHOT_BYTES: usize = 1300 << 20;
+pub const MAX_SNAPSHOT_BYTES: usize = 1300 << 20;
 
 /// The snapshot that some bytes are. What is read is spelled so, and each snapshot is read from its spelling; else the first
 /// refusal from left to right is answered, or want of memory.
 pub fn read(alloc: Global, bytes: &[u8]) -> Result<Snapshot, ReadError>
     ensures read { Reads contents result (snapshot_read bytes.now) }
-    ensures spelled { IfOk result (λ s. bytes.now ≡ snapshot.spell (contents s)) }
+    ensures encoded { IfOk result (λ s. bytes.now ≡ snapshot.encode (contents s)) }
     ensures has { IfOk result (λ s. snapshot.has (contents s) ≡ true) }
-    ensures every { (s : Contents) → snapshot.has s ≡ true → bytes.now ≡ snapshot.spell s → Reads contents result (Ok s) }
+    ensures every { (s : Contents) → snapshot.has s ≡ true → bytes.now ≡ snapshot.encode s → Reads contents result (Ok s) }
 {
     law_snapshot();
     read_all(alloc, bytes)
 }
 
-#[tactic(auto, unfolding(snapshot_form::specs::Snapshots::snapshot_read))]
+#[tactic(auto, unfolding(snapshot_format::specs::Snapshots::snapshot_read))]
 fn read_all(alloc: Global, bytes: &[u8]) -> Result<Snapshot, ReadError>
     ensures { Reads contents result (snapshot_read bytes.now) }
 {
-    if bytes.len() > MOST_SNAPSHOT_BYTES {
+    if bytes.len() > MAX_SNAPSHOT_BYTES {
         return Err(ReadError::Refused(SnapRefusal::TooLong));
     }
     let (snapshot, rest) = read_snapshot(alloc, bytes)?;
@@ -50,7 +50,7 @@ fn read_all(alloc: Global, bytes: &[u8]) -> Result<Snapshot, ReadError>
     Ok(snapshot)
 }
 
-#[tactic(auto, unfolding(snapshot_form::specs::Snapshots::snapshot))]
+#[tactic(auto, unfolding(snapshot_format::specs::Snapshots::snapshot))]
 fn read_snapshot(alloc: Global, bytes: &[u8]) -> Result<(Snapshot, &[u8]), ReadError>
     ensures { Reads (λ x. (contents x.0, x.1.now)) result (snapshot.taken bytes.now) }
 {
@@ -113,9 +113,9 @@ struct Header {
     time: u64,
 }
 
-#[tactic(auto, unfolding(snapshot_form::specs::Snapshots::header))]
+#[tactic(auto, unfolding(snapshot_format::specs::Snapshots::header))]
 fn read_header(bytes: &[u8]) -> Result<(Header, &[u8]), SnapRefusal>
-    ensures range { IfOk result (λ x. x.0.harts ≤ most_harts) }
+    ensures range { IfOk result (λ x. x.0.harts ≤ max_harts) }
     ensures header { Gives (λ x. (header_view x.0, x.1.now)) result (header.taken bytes.now) }
 {
     let rest = read_magic(bytes)?;
@@ -123,13 +123,13 @@ fn read_header(bytes: &[u8]) -> Result<(Header, &[u8]), SnapRefusal>
 }
 
 fn read_header_numbers(bytes: &[u8]) -> Result<(Header, &[u8]), SnapRefusal>
-    ensures range { IfOk result (λ x. x.0.harts ≤ most_harts) }
+    ensures range { IfOk result (λ x. x.0.harts ≤ max_harts) }
     ensures numbers { Gives (λ x. ((x.0.events, (x.0.harts, (x.0.ram_pages, x.0.time))), x.1.now)) result (header_numbers.taken bytes.now) }
 {
     let ranges = [
-        Range::AtMost(MOST_EVENTS),
-        Range::Between(1, u64::from(MOST_HARTS)),
-        Range::Between(u64::from(FEWEST_RAM_PAGES), u64::from(MOST_RAM_PAGES)),
+        Range::AtMost(MAX_EVENTS),
+        Range::Between(1, u64::from(MAX_HARTS)),
+        Range::Between(u64::from(MIN_RAM_PAGES), u64::from(MAX_RAM_PAGES)),
         Range::Any,
     ];
     let ([events, harts, ram_pages, time], rest) = read_row(bytes, ranges)?;
@@ -144,7 +144,7 @@ fn read_header_numbers(bytes: &[u8]) -> Result<(Header, &[u8]), SnapRefusal>
     ))
 }
 
-#[tactic(auto, unfolding(snapshot_form::specs::Snapshots::magic_at))]
+#[tactic(auto, unfolding(snapshot_format::specs::Snapshots::magic_at))]
 fn read_magic(bytes: &[u8]) -> Result<&[u8], SnapRefusal>
     ensures { Gives (λ rest. (magic, rest.now)) result (magic_form.taken bytes.now) }
 {
@@ -168,9 +168,9 @@ struct Body {
     ram: Vec<u8>,
 }
 
-#[tactic(auto, unfolding(snapshot_form::specs::Snapshots::body))]
+#[tactic(auto, unfolding(snapshot_format::specs::Snapshots::body))]
 fn read_body(alloc: Global, bytes: &[u8], header: Header) -> Result<(Body, &[u8]), ReadError>
-    requires { header.harts ≤ most_harts }
+    requires { header.harts ≤ max_harts }
     ensures { Reads (λ x. (body_parts x.0, x.1.now)) result ((body (header_view header)).taken bytes.now) }
 {
     let (harts, rest) = read_harts(alloc, bytes, header.ram_pages, header.harts)?;

@@ -4,43 +4,43 @@ use Rattle.std.proofs.lemmas.Bool.{lt-ltb}
 use Rattle.std.proofs.lemmas.List.{append-nil, take_all, take_more}
 use Rattle.std.proofs.lemmas.List.Folds.{list_all_more}
 use Rattle.std.specs.List.{list_all}
-use Rattle.snapshot_form.specs.Forms.{Form, is_word, spell_all}
-use Rattle.snapshot_form.specs.Typed.{are_words}
-use Rattle.snapshot_form.proofs.FormLaws.{both_true}
+use Rattle.snapshot_format.specs.Forms.{Form, is_word, encode_all}
+use Rattle.snapshot_format.specs.Typed.{are_words}
+use Rattle.snapshot_format.proofs.FormLaws.{both_true}
 
 -- one value more is spelled
-pub spelled_one : {A : Type 0} (f : List A → Form A) (before values : List A) (a : A) → spell_all f before (values ++ a ∷ []) ≡ spell_all f before values ++ (f (before ++ values)).spell a
-unfolding spell_all
-spelled_one f before [] a = rw (append-nil before, append-nil ((f before).spell a)) refl
-spelled_one f before (x ∷ values) a =
-    let rest = spelled_one f (before ++ x ∷ []) values a in
-    rw (rest, append_assoc before (x ∷ []) values) (sym (append_assoc ((f before).spell x) (spell_all f (before ++ x ∷ []) values) ((f (before ++ (x ∷ values))).spell a)))
+pub encoded_one : {A : Type 0} (f : List A → Form A) (before values : List A) (a : A) → encode_all f before (values ++ a ∷ []) ≡ encode_all f before values ++ (f (before ++ values)).encode a
+unfolding encode_all
+encoded_one f before [] a = rw (append-nil before, append-nil ((f before).encode a)) refl
+encoded_one f before (x ∷ values) a =
+    let rest = encoded_one f (before ++ x ∷ []) values a in
+    rw (rest, append_assoc before (x ∷ []) values) (sym (append_assoc ((f before).encode x) (encode_all f (before ++ x ∷ []) values) ((f (before ++ (x ∷ values))).encode a)))
 
 -- ---- a loop over values: before it, at a step, behind it. The bytes before stand in front
 
-pub nothing_yet : {A : Type 0} (f : List A → Form A) (front : List ℕ) → front ≡ front ++ spell_all f [] []
-unfolding spell_all
+pub nothing_yet : {A : Type 0} (f : List A → Form A) (front : List ℕ) → front ≡ front ++ encode_all f [] []
+unfolding encode_all
 nothing_yet f front = sym (append-nil front)
 
 pub one_more : {A : Type 0} (d : A) (f : List A → Form A) (values : List A) (i : ℕ) (front out next : List ℕ) → i < length values
-    → out ≡ front ++ spell_all f [] (take i values)
-    → next ≡ out ++ (f (take i values)).spell (get_or values i d)
-    → next ≡ front ++ spell_all f [] (take (i + 1) values)
+    → out ≡ front ++ encode_all f [] (take i values)
+    → next ≡ out ++ (f (take i values)).encode (get_or values i d)
+    → next ≡ front ++ encode_all f [] (take (i + 1) values)
 one_more d f values i front out next lt so_far written =
-    let grown : spell_all f [] (take (i + 1) values) ≡ spell_all f [] (take i values) ++ (f (take i values)).spell (get_or values i d) =
-    ap (λ taken. spell_all f [] taken) (take_more values i d lt) ∙ spelled_one f [] (take i values) (get_or values i d) in
-    written ∙ ap (λ bytes. bytes ++ (f (take i values)).spell (get_or values i d)) so_far
-    ∙ append_assoc front (spell_all f [] (take i values)) ((f (take i values)).spell (get_or values i d))
+    let grown : encode_all f [] (take (i + 1) values) ≡ encode_all f [] (take i values) ++ (f (take i values)).encode (get_or values i d) =
+    ap (λ taken. encode_all f [] taken) (take_more values i d lt) ∙ encoded_one f [] (take i values) (get_or values i d) in
+    written ∙ ap (λ bytes. bytes ++ (f (take i values)).encode (get_or values i d)) so_far
+    ∙ append_assoc front (encode_all f [] (take i values)) ((f (take i values)).encode (get_or values i d))
     ∙ ap (λ bytes. front ++ bytes) (sym grown)
 
 pub all_written : {A : Type 0} (f : List A → Form A) (values : List A) (i : ℕ) (front out : List ℕ) → length values ≤ i
-    → out ≡ front ++ spell_all f [] (take i values) → out ≡ front ++ spell_all f [] values
-all_written f values i front out le so_far = so_far ∙ ap (λ taken. front ++ spell_all f [] taken) (take_all i values le)
+    → out ≡ front ++ encode_all f [] (take i values) → out ≡ front ++ encode_all f [] values
+all_written f values i front out le so_far = so_far ∙ ap (λ taken. front ++ encode_all f [] taken) (take_all i values le)
 
 -- behind the number of values
 pub all_counted : {A : Type 0} (f : List A → Form A) (values : List A) (i : ℕ) (front count out : List ℕ) → length values ≤ i
-    → out ≡ (front ++ count) ++ spell_all f [] (take i values) → out ≡ front ++ (count ++ spell_all f [] values)
-all_counted f values i front count out le so_far = all_written f values i (front ++ count) out le so_far ∙ append_assoc front count (spell_all f [] values)
+    → out ≡ (front ++ count) ++ encode_all f [] (take i values) → out ≡ front ++ (count ++ encode_all f [] values)
+all_counted f values i front count out le so_far = all_written f values i (front ++ count) out le so_far ∙ append_assoc front count (encode_all f [] values)
 
 -- ---- the same loop, of a test that each value passes
 

@@ -1,8 +1,8 @@
 // The bytes of the block device.
 
 ghost use Rattle.std.specs.Prelude.{◌≡◌, ◌++◌, OnOk};
-ghost use Rattle.reference.specs.BlockDisk.{beats_done};
-ghost use Rattle.snapshot_form.specs.DeviceForms.{block, command_under_way};
+ghost use Rattle.spec_reference.specs.BlockDisk.{beats_done};
+ghost use Rattle.snapshot_format.specs.DeviceForms.{block, command_under_way};
 
 use crate::values::write_number;
 use std::alloc::AllocError;
@@ -28,9 +28,9 @@ fn beats_done(status: BlockStatus) -> u64
     }
 }
 
-#[tactic(auto, unfolding(snapshot_form::specs::DeviceForms::block, snapshot_form::specs::DeviceForms::standing_status, snapshot_form::specs::DeviceForms::transfer))]
+#[tactic(auto, unfolding(snapshot_format::specs::DeviceForms::block, snapshot_format::specs::DeviceForms::standing_status, snapshot_format::specs::DeviceForms::transfer))]
 pub(crate) fn write_block(out: &mut Vec<u8>, state: &BlockState) -> Result<(), AllocError>
-    ensures { OnOk result (out.new.items ≡ out.old.items ++ block.spell state.now) }
+    ensures { OnOk result (out.new.items ≡ out.old.items ++ block.encode state.now) }
 {
     write_number(out, state.sector)?;
     write_number(out, state.gpa)?;

@@ -1,24 +1,24 @@
 // The bytes of counts.
 
 ghost use Rattle.std.specs.Prelude.{◌≡◌, ℕ, ◌++◌, OnOk};
-ghost use Rattle.snapshot_form.specs.JournalForms.{counts, counts_parts, event_counts, hart_counts, rule_counts};
+ghost use Rattle.snapshot_format.specs.JournalForms.{counts, counts_parts, event_counts, hart_counts, rule_counts};
 
 use crate::values::write_number;
 use std::alloc::AllocError;
 use sv_types::Counts;
 
-#[tactic(auto, unfolding(snapshot_form::specs::JournalForms::counts))]
+#[tactic(auto, unfolding(snapshot_format::specs::JournalForms::counts))]
 pub(crate) fn write_counts(out: &mut Vec<u8>, c: &Counts) -> Result<(), AllocError>
-    ensures { (events : ℕ) → OnOk result (out.new.items ≡ out.old.items ++ (counts events).spell c.now) }
+    ensures { (events : ℕ) → OnOk result (out.new.items ≡ out.old.items ++ (counts events).encode c.now) }
 {
     write_event_counts(out, c)?;
     write_hart_counts(out, c)?;
     write_rule_counts(out, c)
 }
 
-#[tactic(auto, unfolding(snapshot_form::specs::JournalForms::event_counts, snapshot_form::specs::JournalForms::count))]
+#[tactic(auto, unfolding(snapshot_format::specs::JournalForms::event_counts, snapshot_format::specs::JournalForms::count))]
 fn write_event_counts(out: &mut Vec<u8>, c: &Counts) -> Result<(), AllocError>
-    ensures { (events : ℕ) → OnOk result (out.new.items ≡ out.old.items ++ (event_counts events).spell (counts_parts c.now).0) }
+    ensures { (events : ℕ) → OnOk result (out.new.items ≡ out.old.items ++ (event_counts events).encode (counts_parts c.now).0) }
 {
     write_number(out, c.turns)?;
     write_number(out, c.beats)?;
@@ -26,9 +26,9 @@ fn write_event_counts(out: &mut Vec<u8>, c: &Counts) -> Result<(), AllocError>
     write_number(out, c.ticks)
 }
 
-#[tactic(auto, unfolding(snapshot_form::specs::JournalForms::hart_counts, snapshot_form::specs::JournalForms::count))]
+#[tactic(auto, unfolding(snapshot_format::specs::JournalForms::hart_counts, snapshot_format::specs::JournalForms::count))]
 fn write_hart_counts(out: &mut Vec<u8>, c: &Counts) -> Result<(), AllocError>
-    ensures { (events : ℕ) → OnOk result (out.new.items ≡ out.old.items ++ (hart_counts events).spell (counts_parts c.now).1.0) }
+    ensures { (events : ℕ) → OnOk result (out.new.items ≡ out.old.items ++ (hart_counts events).encode (counts_parts c.now).1.0) }
 {
     write_number(out, c.retired)?;
     write_number(out, c.traps)?;
@@ -37,9 +37,9 @@ fn write_hart_counts(out: &mut Vec<u8>, c: &Counts) -> Result<(), AllocError>
     write_number(out, c.demotes)
 }
 
-#[tactic(auto, unfolding(snapshot_form::specs::JournalForms::rule_counts, snapshot_form::specs::JournalForms::count))]
+#[tactic(auto, unfolding(snapshot_format::specs::JournalForms::rule_counts, snapshot_format::specs::JournalForms::count))]
 fn write_rule_counts(out: &mut Vec<u8>, c: &Counts) -> Result<(), AllocError>
-    ensures { (events : ℕ) → OnOk result (out.new.items ≡ out.old.items ++ (rule_counts events).spell (counts_parts c.now).1.1) }
+    ensures { (events : ℕ) → OnOk result (out.new.items ≡ out.old.items ++ (rule_counts events).encode (counts_parts c.now).1.1) }
 {
     write_number(out, c.denied)?;
     write_number(out, c.dropped)?;

@@ -2,17 +2,17 @@
 
 ghost use Rattle.std.specs.Prelude.{◌≡◌, ℕ, ◌++◌, drop, true, OnOk};
 ghost use Rattle.std.specs.List.{list_all};
-ghost use Rattle.snapshot_form.specs.HartForms.{hart, hart_parts, harts, registers, side};
-ghost use Rattle.snapshot_form.specs.Typed.{are_registers, is_typed_hart};
+ghost use Rattle.snapshot_format.specs.HartForms.{hart, hart_parts, harts, registers, privilege};
+ghost use Rattle.snapshot_format.specs.Typed.{are_registers, is_typed_hart};
 
 use crate::supervisor::write_status;
-use crate::values::{write_address, write_flag, write_number, write_place};
-use processor::{Mode, REGISTERS};
-use saved_machine::SavedHart;
+use crate::values::{write_address, write_bit, write_flag, write_number};
+use spec_processor::{Mode, REGISTERS};
+use spec_saved_machine::SavedHart;
 use std::alloc::AllocError;
 
 pub(crate) fn write_harts(out: &mut Vec<u8>, saved: &[SavedHart]) -> Result<(), AllocError>
-    ensures spelled { (ram_pages count : ℕ) → OnOk result (out.new.items ≡ out.old.items ++ (harts ram_pages count).spell saved.now) }
+    ensures encoded { (ram_pages count : ℕ) → OnOk result (out.new.items ≡ out.old.items ++ (harts ram_pages count).encode saved.now) }
     ensures typed { OnOk result (list_all is_typed_hart saved.now ≡ true) }
 {
     'harts: for h in saved {
@@ -21,12 +21,12 @@ pub(crate) fn write_harts(out: &mut Vec<u8>, saved: &[SavedHart]) -> Result<(), 
     Ok(())
 }
 
-#[tactic(auto, unfolding(snapshot_form::specs::HartForms::hart, snapshot_form::specs::HartForms::multiple_of, snapshot_form::specs::HartForms::reservation))]
+#[tactic(auto, unfolding(snapshot_format::specs::HartForms::hart, snapshot_format::specs::HartForms::multiple_of, snapshot_format::specs::HartForms::reservation))]
 fn write_hart(out: &mut Vec<u8>, h: &SavedHart) -> Result<(), AllocError>
-    ensures spelled { (ram_pages : ℕ) → OnOk result (out.new.items ≡ out.old.items ++ (hart ram_pages).spell h.now) }
+    ensures encoded { (ram_pages : ℕ) → OnOk result (out.new.items ≡ out.old.items ++ (hart ram_pages).encode h.now) }
     ensures typed { OnOk result (is_typed_hart h.now ≡ true) }
 {
-    write_side(out, h)?;
+    write_privilege(out, h)?;
     write_number(out, h.pc)?;
     write_registers(out, &h.registers)?;
     write_status(out, h)?;
@@ -35,18 +35,18 @@ fn write_hart(out: &mut Vec<u8>, h: &SavedHart) -> Result<(), AllocError>
 }
 
 // Started, mode and entry.
-#[tactic(auto, unfolding(snapshot_form::specs::HartForms::side, snapshot_form::specs::HartForms::mode))]
-fn write_side(out: &mut Vec<u8>, h: &SavedHart) -> Result<(), AllocError>
-    ensures { OnOk result (out.new.items ≡ out.old.items ++ side.spell (hart_parts h.now).0) }
+#[tactic(auto, unfolding(snapshot_format::specs::HartForms::privilege, snapshot_format::specs::HartForms::mode))]
+fn write_privilege(out: &mut Vec<u8>, h: &SavedHart) -> Result<(), AllocError>
+    ensures { OnOk result (out.new.items ≡ out.old.items ++ privilege.encode (hart_parts h.now).0) }
 {
     write_flag(out, h.started)?;
     write_flag(out, h.mode == Mode::User)?;
-    write_place(out, h.entry)
+    write_bit(out, h.entry)
 }
 
 // Registers 1 to 31, behind register 0.
 fn write_registers(out: &mut Vec<u8>, register_file: &[u64; REGISTERS]) -> Result<(), AllocError>
-    ensures spelled { OnOk result (out.new.items ≡ out.old.items ++ registers.spell (drop 1 register_file.now)) }
+    ensures encoded { OnOk result (out.new.items ≡ out.old.items ++ registers.encode (drop 1 register_file.now)) }
     ensures typed { are_registers register_file.now ≡ true }
 {
     let (_zero, values) = register_file.split_at(1);
@@ -54,7 +54,7 @@ fn write_registers(out: &mut Vec<u8>, register_file: &[u64; REGISTERS]) -> Resul
 }
 
 fn write_values(out: &mut Vec<u8>, values: &[u64]) -> Result<(), AllocError>
-    ensures { OnOk result (out.new.items ≡ out.old.items ++ registers.spell values.now) }
+    ensures { OnOk result (out.new.items ≡ out.old.items ++ registers.encode values.now) }
 {
     'values: for value in values {
         write_number(out, *value)?;

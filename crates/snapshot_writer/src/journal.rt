@@ -2,18 +2,18 @@
 
 ghost use Rattle.std.specs.Prelude.{◌≡◌, ℕ, ◌++◌, true, OnOk};
 ghost use Rattle.std.specs.List.{list_all};
-ghost use Rattle.snapshot_form.specs.JournalForms.{journal};
-ghost use Rattle.snapshot_form.specs.Typed.{are_words, is_typed_note, verdict_numbers};
+ghost use Rattle.snapshot_format.specs.JournalForms.{journal};
+ghost use Rattle.snapshot_format.specs.Typed.{are_words, is_typed_note, verdict_numbers};
 
 use crate::counts::write_counts;
 use crate::notes::write_notes;
 use crate::verdict::write_verdict;
-use saved_machine::Saved;
+use spec_saved_machine::Saved;
 use std::alloc::AllocError;
 
-#[tactic(auto, unfolding(snapshot_form::specs::JournalForms::journal))]
+#[tactic(auto, unfolding(snapshot_format::specs::JournalForms::journal))]
 pub(crate) fn write_journal(out: &mut Vec<u8>, machine: &Saved) -> Result<(), AllocError>
-    ensures spelled { (events harts : ℕ) → OnOk result (out.new.items ≡ out.old.items ++ (journal events harts).spell (machine.now.counts, (machine.now.notes.items, machine.now.verdict))) }
+    ensures encoded { (events harts : ℕ) → OnOk result (out.new.items ≡ out.old.items ++ (journal events harts).encode (machine.now.counts, (machine.now.notes.items, machine.now.verdict))) }
     ensures notes { OnOk result (list_all is_typed_note machine.now.notes.items ≡ true) }
     ensures verdict { OnOk result (are_words (verdict_numbers machine.now.verdict) ≡ true) }
 {

@@ -2,18 +2,18 @@
 
 ghost use Rattle.std.specs.Prelude.{◌≡◌, ℕ, Bool, List, ◌++◌, true, Some, OnOk};
 ghost use Rattle.std.specs.List.{list_all};
-ghost use Rattle.saved_machine.specs.declared.harts.SavedHart.{SavedHart};
-ghost use Rattle.snapshot_form.specs.PageForms.{gate, load, load_under_way, module_within, modules};
-ghost use Rattle.snapshot_form.specs.Typed.{are_words, is_typed_module, load_numbers};
+ghost use Rattle.spec_saved_machine.specs.declared.harts.SavedHart.{SavedHart};
+ghost use Rattle.snapshot_format.specs.PageForms.{gate, load, load_under_way, module_within, modules};
+ghost use Rattle.snapshot_format.specs.Typed.{are_words, is_typed_module, load_numbers};
 
 use crate::values::{write_flag, write_number};
-use saved_machine::{Saved, SavedLoad};
+use spec_saved_machine::{Saved, SavedLoad};
 use std::alloc::AllocError;
-use sv_types::SavedModule;
+use sv_types::ModulePlacement;
 
-#[tactic(auto, unfolding(snapshot_form::specs::PageForms::gate))]
+#[tactic(auto, unfolding(snapshot_format::specs::PageForms::gate))]
 pub(crate) fn write_gate(out: &mut Vec<u8>, machine: &Saved) -> Result<(), AllocError>
-    ensures spelled { (harts : List SavedHart) → OnOk result (out.new.items ≡ out.old.items ++ (gate harts).spell (machine.now.modules.items, (machine.now.retired, machine.now.loading))) }
+    ensures encoded { (harts : List SavedHart) → OnOk result (out.new.items ≡ out.old.items ++ (gate harts).encode (machine.now.modules.items, (machine.now.retired, machine.now.loading))) }
     ensures modules { OnOk result (list_all is_typed_module machine.now.modules.items ≡ true) }
     ensures loading { OnOk result (are_words (load_numbers machine.now.loading) ≡ true) }
 {
@@ -22,8 +22,8 @@ pub(crate) fn write_gate(out: &mut Vec<u8>, machine: &Saved) -> Result<(), Alloc
     write_loading(out, machine.loading)
 }
 
-fn write_modules(out: &mut Vec<u8>, loaded: &[SavedModule]) -> Result<(), AllocError>
-    ensures spelled { OnOk result (out.new.items ≡ out.old.items ++ modules.spell loaded.now) }
+fn write_modules(out: &mut Vec<u8>, loaded: &[ModulePlacement]) -> Result<(), AllocError>
+    ensures encoded { OnOk result (out.new.items ≡ out.old.items ++ modules.encode loaded.now) }
     ensures typed { OnOk result (list_all is_typed_module loaded.now ≡ true) }
 {
     write_number(out, loaded.len() as u64)?;
@@ -33,9 +33,9 @@ fn write_modules(out: &mut Vec<u8>, loaded: &[SavedModule]) -> Result<(), AllocE
     Ok(())
 }
 
-#[tactic(auto, unfolding(snapshot_form::specs::PageForms::module_within, snapshot_form::specs::HartForms::multiple_of))]
-fn write_module(out: &mut Vec<u8>, m: &SavedModule) -> Result<(), AllocError>
-    ensures spelled { (good : ℕ → Bool) → OnOk result (out.new.items ≡ out.old.items ++ (module_within good).spell m.now) }
+#[tactic(auto, unfolding(snapshot_format::specs::PageForms::module_within, snapshot_format::specs::HartForms::multiple_of))]
+fn write_module(out: &mut Vec<u8>, m: &ModulePlacement) -> Result<(), AllocError>
+    ensures encoded { (good : ℕ → Bool) → OnOk result (out.new.items ≡ out.old.items ++ (module_within good).encode m.now) }
     ensures typed { OnOk result (is_typed_module m.now ≡ true) }
 {
     write_number(out, m.id)?;
@@ -44,9 +44,9 @@ fn write_module(out: &mut Vec<u8>, m: &SavedModule) -> Result<(), AllocError>
     write_number(out, m.data_va)
 }
 
-#[tactic(auto, unfolding(snapshot_form::specs::PageForms::load_under_way, snapshot_form::specs::PageForms::load_behind))]
+#[tactic(auto, unfolding(snapshot_format::specs::PageForms::load_under_way, snapshot_format::specs::PageForms::load_after))]
 fn write_loading(out: &mut Vec<u8>, under_way: Option<SavedLoad>) -> Result<(), AllocError>
-    ensures spelled { (harts : List SavedHart) → OnOk result (out.new.items ≡ out.old.items ++ (load_under_way harts).spell under_way) }
+    ensures encoded { (harts : List SavedHart) → OnOk result (out.new.items ≡ out.old.items ++ (load_under_way harts).encode under_way) }
     ensures typed { OnOk result (are_words (load_numbers under_way) ≡ true) }
 {
     let Some(under_way) = under_way else {
@@ -56,9 +56,9 @@ fn write_loading(out: &mut Vec<u8>, under_way: Option<SavedLoad>) -> Result<(), 
     write_load(out, &under_way)
 }
 
-#[tactic(auto, unfolding(snapshot_form::specs::PageForms::load))]
+#[tactic(auto, unfolding(snapshot_format::specs::PageForms::load))]
 fn write_load(out: &mut Vec<u8>, under_way: &SavedLoad) -> Result<(), AllocError>
-    ensures spelled { (harts : List SavedHart) → OnOk result (out.new.items ≡ out.old.items ++ (load harts).spell under_way.now) }
+    ensures encoded { (harts : List SavedHart) → OnOk result (out.new.items ≡ out.old.items ++ (load harts).encode under_way.now) }
     ensures typed { OnOk result (are_words (load_numbers (Some under_way.now)) ≡ true) }
 {
     write_number(out, u64::from(under_way.hart))?;

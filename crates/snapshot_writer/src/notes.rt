@@ -3,17 +3,17 @@
 ghost use Rattle.std.specs.Prelude.{◌≡◌, ℕ, ◌++◌, true, OnOk};
 ghost use Rattle.std.specs.List.{list_all};
 ghost use Rattle.sv_types.specs.SbiCodes.{code_word};
-ghost use Rattle.snapshot_form.specs.Forms.{spell_number};
-ghost use Rattle.snapshot_form.specs.JournalForms.{demote_kind, denied_kind, note, notes, retire_kind};
-ghost use Rattle.snapshot_form.specs.Typed.{is_typed_note};
+ghost use Rattle.snapshot_format.specs.Forms.{encode_number};
+ghost use Rattle.snapshot_format.specs.JournalForms.{demote_kind, denied_kind, note_form, notes, retire_kind};
+ghost use Rattle.snapshot_format.specs.Typed.{is_typed_note};
 
 use crate::values::write_number;
-use snapshot_form::note_kind::{DEMOTE, DENIED, LOAD, RETIRE, UNLOAD};
+use snapshot_format::note_kind::{DEMOTE, DENIED, LOAD, RETIRE, UNLOAD};
 use std::alloc::AllocError;
 use sv_types::{Note, SbiCode};
 
 pub(crate) fn write_notes(out: &mut Vec<u8>, kept: &[Note]) -> Result<(), AllocError>
-    ensures spelled { (harts all : ℕ) → OnOk result (out.new.items ≡ out.old.items ++ (notes harts all).spell kept.now) }
+    ensures encoded { (harts all : ℕ) → OnOk result (out.new.items ≡ out.old.items ++ (notes harts all).encode kept.now) }
     ensures typed { OnOk result (list_all is_typed_note kept.now ≡ true) }
 {
     write_number(out, kept.len() as u64)?;
@@ -23,9 +23,9 @@ pub(crate) fn write_notes(out: &mut Vec<u8>, kept: &[Note]) -> Result<(), AllocE
     Ok(())
 }
 
-#[tactic(auto, unfolding(snapshot_form::specs::JournalForms::note, snapshot_form::specs::JournalForms::note_behind, snapshot_form::specs::JournalForms::demote, snapshot_form::specs::JournalForms::denied_note, snapshot_form::specs::JournalForms::load_note, snapshot_form::specs::JournalForms::unload, snapshot_form::specs::JournalForms::retire, snapshot_form::specs::JournalForms::answer, snapshot_form::specs::JournalForms::code, snapshot_form::specs::JournalForms::hart_number, snapshot_form::specs::HartForms::multiple_of))]
+#[tactic(auto, unfolding(snapshot_format::specs::JournalForms::note_form, snapshot_format::specs::JournalForms::note_after, snapshot_format::specs::JournalForms::demote, snapshot_format::specs::JournalForms::denied_note, snapshot_format::specs::JournalForms::load_note, snapshot_format::specs::JournalForms::unload, snapshot_format::specs::JournalForms::retire, snapshot_format::specs::JournalForms::answer, snapshot_format::specs::JournalForms::code, snapshot_format::specs::JournalForms::hart_number, snapshot_format::specs::HartForms::multiple_of))]
 fn write_note(out: &mut Vec<u8>, n: Note) -> Result<(), AllocError>
-    ensures spelled { (harts : ℕ) → OnOk result (out.new.items ≡ out.old.items ++ (note harts).spell n) }
+    ensures encoded { (harts : ℕ) → OnOk result (out.new.items ≡ out.old.items ++ (note_form harts).encode n) }
     ensures typed { OnOk result (is_typed_note n ≡ true) }
 {
     match n {
@@ -53,7 +53,7 @@ fn write_note(out: &mut Vec<u8>, n: Note) -> Result<(), AllocError>
 }
 
 fn write_demote(out: &mut Vec<u8>, hart: u8, turn: u64, pc: u64, gpa: u64) -> Result<(), AllocError>
-    ensures { OnOk result (out.new.items ≡ out.old.items ++ (spell_number demote_kind ++ (spell_number hart ++ (spell_number turn ++ (spell_number pc ++ spell_number gpa))))) }
+    ensures { OnOk result (out.new.items ≡ out.old.items ++ (encode_number demote_kind ++ (encode_number hart ++ (encode_number turn ++ (encode_number pc ++ encode_number gpa))))) }
 {
     write_number(out, DEMOTE)?;
     write_number(out, u64::from(hart))?;
@@ -63,7 +63,7 @@ fn write_demote(out: &mut Vec<u8>, hart: u8, turn: u64, pc: u64, gpa: u64) -> Re
 }
 
 fn write_denied(out: &mut Vec<u8>, gpa: u64) -> Result<(), AllocError>
-    ensures { OnOk result (out.new.items ≡ out.old.items ++ (spell_number denied_kind ++ spell_number gpa)) }
+    ensures { OnOk result (out.new.items ≡ out.old.items ++ (encode_number denied_kind ++ encode_number gpa)) }
 {
     write_number(out, DENIED)?;
     write_number(out, gpa)
@@ -78,7 +78,7 @@ fn write_answer(
     id: u64,
     code: SbiCode,
 ) -> Result<(), AllocError>
-    ensures { OnOk result (out.new.items ≡ out.old.items ++ (spell_number kind ++ (spell_number hart ++ (spell_number turn ++ (spell_number id ++ spell_number (code_word code)))))) }
+    ensures { OnOk result (out.new.items ≡ out.old.items ++ (encode_number kind ++ (encode_number hart ++ (encode_number turn ++ (encode_number id ++ encode_number (code_word code)))))) }
 {
     write_number(out, kind)?;
     write_number(out, u64::from(hart))?;
@@ -88,7 +88,7 @@ fn write_answer(
 }
 
 fn write_retire(out: &mut Vec<u8>, hart: u8, turn: u64, code: SbiCode) -> Result<(), AllocError>
-    ensures { OnOk result (out.new.items ≡ out.old.items ++ (spell_number retire_kind ++ (spell_number hart ++ (spell_number turn ++ spell_number (code_word code))))) }
+    ensures { OnOk result (out.new.items ≡ out.old.items ++ (encode_number retire_kind ++ (encode_number hart ++ (encode_number turn ++ encode_number (code_word code))))) }
 {
     write_number(out, RETIRE)?;
     write_number(out, u64::from(hart))?;

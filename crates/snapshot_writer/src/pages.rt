@@ -2,41 +2,41 @@
 
 ghost use Rattle.std.specs.Prelude.{◌≡◌, ℕ, List, ◌++◌, true, OnOk};
 ghost use Rattle.std.specs.List.{list_all};
-ghost use Rattle.snapshot_form.specs.PageForms.{pages, protection, protection_number, protections, text, text_page};
-ghost use Rattle.snapshot_form.specs.Typed.{is_typed_page};
+ghost use Rattle.snapshot_format.specs.PageForms.{pages, protection_form, protection_number, protections, text, text_page};
+ghost use Rattle.snapshot_format.specs.Typed.{is_typed_page};
 
 use crate::values::write_number;
-use snapshot_form::TextPage;
-use snapshot_form::protection_number::{APPROVED, FREE, HELD};
+use snapshot_format::TextPage;
+use snapshot_format::protection_number::{APPROVED, FREE, HELD};
 use std::alloc::AllocError;
 use sv_types::Protection;
 
-#[tactic(auto, unfolding(snapshot_form::specs::PageForms::pages))]
+#[tactic(auto, unfolding(snapshot_format::specs::PageForms::pages))]
 pub(crate) fn write_pages(
     out: &mut Vec<u8>,
-    protection: &[Protection],
+    protection_form: &[Protection],
     kernel_text: &[TextPage],
 ) -> Result<(), AllocError>
-    ensures spelled { (ram_pages : ℕ) → OnOk result (out.new.items ≡ out.old.items ++ (pages ram_pages).spell (protection.now, kernel_text.now)) }
+    ensures encoded { (ram_pages : ℕ) → OnOk result (out.new.items ≡ out.old.items ++ (pages ram_pages).encode (protection_form.now, kernel_text.now)) }
     ensures typed { OnOk result (list_all is_typed_page kernel_text.now ≡ true) }
 {
-    write_protections(out, protection)?;
+    write_protections(out, protection_form)?;
     write_text(out, kernel_text)
 }
 
-fn write_protections(out: &mut Vec<u8>, protection: &[Protection]) -> Result<(), AllocError>
-    ensures { (ram_pages : ℕ) → OnOk result (out.new.items ≡ out.old.items ++ (protections ram_pages).spell protection.now) }
+fn write_protections(out: &mut Vec<u8>, protection_form: &[Protection]) -> Result<(), AllocError>
+    ensures { (ram_pages : ℕ) → OnOk result (out.new.items ≡ out.old.items ++ (protections ram_pages).encode protection_form.now) }
 {
-    'pages: for page in protection {
+    'pages: for page in protection_form {
         out.push(protection_byte(*page))?;
     }
     Ok(())
 }
 
-fn protection_byte(protection: Protection) -> u8
-    ensures { result ≡ protection_number protection }
+fn protection_byte(protection_form: Protection) -> u8
+    ensures { result ≡ protection_number protection_form }
 {
-    match protection {
+    match protection_form {
         Protection::Free => FREE,
         Protection::Held => HELD,
         Protection::Approved => APPROVED,
@@ -44,7 +44,7 @@ fn protection_byte(protection: Protection) -> u8
 }
 
 fn write_text(out: &mut Vec<u8>, text_pages: &[TextPage]) -> Result<(), AllocError>
-    ensures spelled { (ram_pages : ℕ) → OnOk result (out.new.items ≡ out.old.items ++ (text ram_pages).spell text_pages.now) }
+    ensures encoded { (ram_pages : ℕ) → OnOk result (out.new.items ≡ out.old.items ++ (text ram_pages).encode text_pages.now) }
     ensures typed { OnOk result (list_all is_typed_page text_pages.now ≡ true) }
 {
     write_number(out, text_pages.len() as u64)?;
@@ -54,9 +54,9 @@ fn write_text(out: &mut Vec<u8>, text_pages: &[TextPage]) -> Result<(), AllocErr
     Ok(())
 }
 
-#[tactic(auto, unfolding(snapshot_form::specs::PageForms::text_page))]
+#[tactic(auto, unfolding(snapshot_format::specs::PageForms::text_page))]
 fn write_text_page(out: &mut Vec<u8>, page: &TextPage) -> Result<(), AllocError>
-    ensures spelled { (ram_pages : ℕ) (before : List TextPage) → OnOk result (out.new.items ≡ out.old.items ++ (text_page ram_pages before).spell page.now) }
+    ensures encoded { (ram_pages : ℕ) (before : List TextPage) → OnOk result (out.new.items ≡ out.old.items ++ (text_page ram_pages before).encode page.now) }
     ensures typed { OnOk result (is_typed_page page.now ≡ true) }
 {
     write_number(out, u64::from(page.page))?;

@@ -1,16 +1,16 @@
 // The bytes of a hart's supervisor registers.
 
 ghost use Rattle.std.specs.Prelude.{◌≡◌, ◌++◌, [], ◌∷◌, true, OnOk};
-ghost use Rattle.snapshot_form.specs.HartForms.{hart_parts, status, trap_status};
-ghost use Rattle.snapshot_form.specs.Typed.{are_words, supervisor_numbers};
+ghost use Rattle.snapshot_format.specs.HartForms.{hart_parts, status, trap_status};
+ghost use Rattle.snapshot_format.specs.Typed.{are_words, supervisor_numbers};
 
 use crate::values::write_number;
-use saved_machine::SavedHart;
+use spec_saved_machine::SavedHart;
 use std::alloc::AllocError;
 
-#[tactic(auto, unfolding(snapshot_form::specs::HartForms::status, snapshot_form::specs::HartForms::legal))]
+#[tactic(auto, unfolding(snapshot_format::specs::HartForms::status, snapshot_format::specs::HartForms::legal))]
 pub(crate) fn write_status(out: &mut Vec<u8>, h: &SavedHart) -> Result<(), AllocError>
-    ensures spelled { OnOk result (out.new.items ≡ out.old.items ++ status.spell (hart_parts h.now).1.1.1.0) }
+    ensures encoded { OnOk result (out.new.items ≡ out.old.items ++ status.encode (hart_parts h.now).1.1.1.0) }
     ensures typed { OnOk result (are_words (supervisor_numbers h.now) ≡ true) }
 {
     write_number(out, h.sstatus)?;
@@ -22,9 +22,9 @@ pub(crate) fn write_status(out: &mut Vec<u8>, h: &SavedHart) -> Result<(), Alloc
 }
 
 // What a trap writes, the software interrupt and the root of translation.
-#[tactic(auto, unfolding(snapshot_form::specs::HartForms::trap_status, snapshot_form::specs::HartForms::legal))]
+#[tactic(auto, unfolding(snapshot_format::specs::HartForms::trap_status, snapshot_format::specs::HartForms::legal))]
 fn write_trap_status(out: &mut Vec<u8>, h: &SavedHart) -> Result<(), AllocError>
-    ensures spelled { OnOk result (out.new.items ≡ out.old.items ++ trap_status.spell (hart_parts h.now).1.1.1.0.1.1.1.1.1) }
+    ensures encoded { OnOk result (out.new.items ≡ out.old.items ++ trap_status.encode (hart_parts h.now).1.1.1.0.1.1.1.1.1) }
     ensures typed { OnOk result (are_words (h.now.sepc ∷ h.now.scause ∷ h.now.stval ∷ h.now.satp ∷ []) ≡ true) }
 {
     write_number(out, h.sepc)?;

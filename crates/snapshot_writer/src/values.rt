@@ -1,28 +1,28 @@
 // Numbers, and what is spelled as one.
 
 ghost use Rattle.std.specs.Prelude.{◌≡◌, ◌++◌, true, OnOk};
-ghost use Rattle.snapshot_form.specs.Forms.{counted_bytes, spell_number};
-ghost use Rattle.snapshot_form.specs.HartForms.{address_number, flag, place};
+ghost use Rattle.snapshot_format.specs.Forms.{counted_bytes, encode_number};
+ghost use Rattle.snapshot_format.specs.HartForms.{address_number, flag, place};
 
 use std::alloc::AllocError;
 
-#[tactic(auto, unfolding(snapshot_form::specs::Forms::spell_number))]
+#[tactic(auto, unfolding(snapshot_format::specs::Forms::encode_number))]
 pub(crate) fn write_number(out: &mut Vec<u8>, number: u64) -> Result<(), AllocError>
-    ensures { OnOk result (out.new.items ≡ out.old.items ++ spell_number number) }
+    ensures { OnOk result (out.new.items ≡ out.old.items ++ encode_number number) }
 {
     out.extend_from_slice(&number.to_le_bytes())
 }
 
-#[tactic(auto, unfolding(snapshot_form::specs::HartForms::flag))]
+#[tactic(auto, unfolding(snapshot_format::specs::HartForms::flag))]
 pub(crate) fn write_flag(out: &mut Vec<u8>, is: bool) -> Result<(), AllocError>
-    ensures { OnOk result (out.new.items ≡ out.old.items ++ flag.spell is) }
+    ensures { OnOk result (out.new.items ≡ out.old.items ++ flag.encode is) }
 {
     write_number(out, u64::from(is))
 }
 
-#[tactic(auto, unfolding(snapshot_form::specs::HartForms::place))]
-pub(crate) fn write_place(out: &mut Vec<u8>, index: Option<u8>) -> Result<(), AllocError>
-    ensures { OnOk result (out.new.items ≡ out.old.items ++ place.spell index) }
+#[tactic(auto, unfolding(snapshot_format::specs::HartForms::place))]
+pub(crate) fn write_bit(out: &mut Vec<u8>, index: Option<u8>) -> Result<(), AllocError>
+    ensures { OnOk result (out.new.items ≡ out.old.items ++ place.encode index) }
 {
     match index {
         None => write_number(out, 0),
@@ -32,14 +32,14 @@ pub(crate) fn write_place(out: &mut Vec<u8>, index: Option<u8>) -> Result<(), Al
 
 // Address 0 stands for none.
 pub(crate) fn write_address(out: &mut Vec<u8>, address: Option<u64>) -> Result<(), AllocError>
-    ensures { OnOk result (out.new.items ≡ out.old.items ++ spell_number (address_number address)) }
+    ensures { OnOk result (out.new.items ≡ out.old.items ++ encode_number (address_number address)) }
 {
     write_number(out, address.unwrap_or(0))
 }
 
 // The number of bytes, and the bytes.
 pub(crate) fn write_measured(out: &mut Vec<u8>, bytes: &[u8]) -> Result<(), AllocError>
-    ensures { OnOk result (out.new.items ≡ out.old.items ++ (counted_bytes (λ _. true)).spell bytes.now) }
+    ensures { OnOk result (out.new.items ≡ out.old.items ++ (counted_bytes (λ _. true)).encode bytes.now) }
 {
     write_number(out, bytes.len() as u64)?;
     out.extend_from_slice(bytes)

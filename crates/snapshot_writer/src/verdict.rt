@@ -1,18 +1,18 @@
 // The bytes of the verdict: a kind, and the fields of each.
 
 ghost use Rattle.std.specs.Prelude.{◌≡◌, ℕ, ◌++◌, true, OnOk};
-ghost use Rattle.snapshot_form.specs.Forms.{spell_number};
-ghost use Rattle.snapshot_form.specs.JournalForms.{entry_kind, verdict, write_kind};
-ghost use Rattle.snapshot_form.specs.Typed.{are_words, verdict_numbers};
+ghost use Rattle.snapshot_format.specs.Forms.{encode_number};
+ghost use Rattle.snapshot_format.specs.JournalForms.{entry_kind, verdict, write_kind};
+ghost use Rattle.snapshot_format.specs.Typed.{are_words, verdict_numbers};
 
 use crate::values::write_number;
-use snapshot_form::verdict_kind::{RUNNING, SHUTDOWN, STOPPED_ENTRY, STOPPED_WRITE};
+use snapshot_format::verdict_kind::{RUNNING, SHUTDOWN, STOPPED_ENTRY, STOPPED_WRITE};
 use std::alloc::AllocError;
 use sv_types::{Rule, Verdict};
 
-#[tactic(auto, unfolding(snapshot_form::specs::JournalForms::verdict, snapshot_form::specs::JournalForms::verdict_behind, snapshot_form::specs::JournalForms::stopped_entry, snapshot_form::specs::JournalForms::stopped_write, snapshot_form::specs::JournalForms::hart_number, snapshot_form::specs::HartForms::multiple_of))]
+#[tactic(auto, unfolding(snapshot_format::specs::JournalForms::verdict, snapshot_format::specs::JournalForms::verdict_after, snapshot_format::specs::JournalForms::stopped_entry, snapshot_format::specs::JournalForms::stopped_write, snapshot_format::specs::JournalForms::hart_number, snapshot_format::specs::HartForms::multiple_of))]
 pub(crate) fn write_verdict(out: &mut Vec<u8>, v: Verdict) -> Result<(), AllocError>
-    ensures spelled { (harts : ℕ) → OnOk result (out.new.items ≡ out.old.items ++ (verdict harts).spell v) }
+    ensures encoded { (harts : ℕ) → OnOk result (out.new.items ≡ out.old.items ++ (verdict harts).encode v) }
     ensures typed { OnOk result (are_words (verdict_numbers v) ≡ true) }
 {
     match v {
@@ -37,7 +37,7 @@ fn write_stopped_entry(
     hart: u8,
     turn: u64,
 ) -> Result<(), AllocError>
-    ensures { OnOk result (out.new.items ≡ out.old.items ++ (spell_number entry_kind ++ (spell_number target ++ (spell_number hart ++ spell_number turn)))) }
+    ensures { OnOk result (out.new.items ≡ out.old.items ++ (encode_number entry_kind ++ (encode_number target ++ (encode_number hart ++ encode_number turn)))) }
 {
     write_number(out, STOPPED_ENTRY)?;
     write_number(out, target)?;
@@ -52,7 +52,7 @@ fn write_stopped_write(
     hart: u8,
     turn: u64,
 ) -> Result<(), AllocError>
-    ensures { OnOk result (out.new.items ≡ out.old.items ++ (spell_number write_kind ++ (spell_number pc ++ (spell_number gpa ++ (spell_number hart ++ spell_number turn))))) }
+    ensures { OnOk result (out.new.items ≡ out.old.items ++ (encode_number write_kind ++ (encode_number pc ++ (encode_number gpa ++ (encode_number hart ++ encode_number turn))))) }
 {
     write_number(out, STOPPED_WRITE)?;
     write_number(out, pc)?;

@@ -2,10 +2,10 @@
 
 ghost use Rattle.std.specs.Prelude.{◌≡◌, ◌++◌, true, OnOk, IfOk};
 ghost use Rattle.std.specs.List.{list_all};
-ghost use Rattle.snapshot_form.specs.DeviceForms.{is_block};
-ghost use Rattle.snapshot_form.specs.Forms.{is_word};
-ghost use Rattle.snapshot_form.specs.Snapshots.{body, contents, header, snapshot, whole_body, whole_header};
-ghost use Rattle.snapshot_form.specs.Typed.{IsTyped, are_words, is_typed_hart, is_typed_module, is_typed_note, is_typed_page, load_numbers, verdict_numbers};
+ghost use Rattle.snapshot_format.specs.DeviceForms.{is_block};
+ghost use Rattle.snapshot_format.specs.Forms.{is_word};
+ghost use Rattle.snapshot_format.specs.Snapshots.{body, contents, header, snapshot, whole_body, whole_header};
+ghost use Rattle.snapshot_format.specs.Typed.{IsTyped, are_words, is_typed_hart, is_typed_module, is_typed_note, is_typed_page, load_numbers, verdict_numbers};
 
 use crate::devices::write_devices;
 use crate::harts::write_harts;
@@ -13,14 +13,14 @@ use crate::journal::write_journal;
 use crate::modules::write_gate;
 use crate::pages::write_pages;
 use crate::values::write_number;
-use snapshot_form::{MAGIC, Snapshot};
+use snapshot_format::{MAGIC, Snapshot};
 use std::alloc::{AllocError, Global};
 
 /// The bytes of a snapshot, of a machine with a block device. Want of memory is the one refusal.
-#[tactic(auto, unfolding(snapshot_form::specs::Snapshots::snapshot))]
+#[tactic(auto, unfolding(snapshot_format::specs::Snapshots::snapshot))]
 pub fn write(alloc: Global, s: &Snapshot) -> Result<Vec<u8>, AllocError>
     requires { is_block s.now.machine.port ≡ true }
-    ensures spelled { IfOk result (λ bytes. bytes.items ≡ snapshot.spell (contents s.now)) }
+    ensures encoded { IfOk result (λ bytes. bytes.items ≡ snapshot.encode (contents s.now)) }
     ensures typed { IfOk result (λ bytes. IsTyped (contents s.now)) }
 {
     let mut out = Vec::new(alloc);
@@ -29,9 +29,9 @@ pub fn write(alloc: Global, s: &Snapshot) -> Result<Vec<u8>, AllocError>
     Ok(out)
 }
 
-#[tactic(auto, unfolding(snapshot_form::specs::Snapshots::header))]
+#[tactic(auto, unfolding(snapshot_format::specs::Snapshots::header))]
 fn write_header(out: &mut Vec<u8>, s: &Snapshot) -> Result<(), AllocError>
-    ensures spelled { OnOk result (out.new.items ≡ out.old.items ++ header.spell (whole_header (contents s.now))) }
+    ensures encoded { OnOk result (out.new.items ≡ out.old.items ++ header.encode (whole_header (contents s.now))) }
     ensures time { OnOk result (is_word s.now.machine.time ≡ true) }
 {
     out.extend_from_slice(MAGIC)?;
@@ -41,10 +41,10 @@ fn write_header(out: &mut Vec<u8>, s: &Snapshot) -> Result<(), AllocError>
     write_number(out, s.machine.time)
 }
 
-#[tactic(auto, unfolding(snapshot_form::specs::Snapshots::body))]
+#[tactic(auto, unfolding(snapshot_format::specs::Snapshots::body))]
 fn write_body(out: &mut Vec<u8>, s: &Snapshot) -> Result<(), AllocError>
     requires { is_block s.now.machine.port ≡ true }
-    ensures spelled { OnOk result (out.new.items ≡ out.old.items ++ (body (whole_header (contents s.now))).spell (whole_body (contents s.now))) }
+    ensures encoded { OnOk result (out.new.items ≡ out.old.items ++ (body (whole_header (contents s.now))).encode (whole_body (contents s.now))) }
     ensures harts { OnOk result (list_all is_typed_hart s.now.machine.harts.items ≡ true) }
     ensures text { OnOk result (list_all is_typed_page s.now.text.items ≡ true) }
     ensures modules { OnOk result (list_all is_typed_module s.now.machine.modules.items ≡ true) }

@@ -1,10 +1,10 @@
 -- Where the second stage maps an address, whichever the access. This project's own.
 use Rattle.std.specs.Prelude.{ℕ, if◌then◌else◌, Option, Some, None}
-use Rattle.processor.specs.Translation.{is_leaf, leaf_address}
-use Rattle.processor.specs.SecondStage.{permits_guest}
-use Rattle.processor.specs.declared.pte_bits.PteBits.{PteBits}
-use Rattle.processor.specs.declared.access.Access.{Access}
-use Rattle.sv39_walk.specs.declared.second_stage.Mapping.{Mapping}
+use Rattle.spec_processor.specs.Translation.{is_leaf, leaf_address}
+use Rattle.spec_processor.specs.GStage.{permits_guest}
+use Rattle.spec_processor.specs.declared.pte_bits.PteBits.{PteBits}
+use Rattle.spec_processor.specs.declared.access.Access.{Access}
+use Rattle.sv39_walk.specs.declared.g_stage.Mapping.{Mapping}
 
 -- the host place where the leaf permits an access
 abbrev pub mapping_answer : Option Mapping → Access → Option ℕ

@@ -1,8 +1,8 @@
 -- A walk that goes through a second stage. This project's own.
 use Rattle.std.specs.Prelude.{ℕ}
-use Rattle.processor.specs.Regions.{Region}
-use Rattle.processor.specs.SecondStage.{WalksInside}
-use Rattle.processor.specs.Roots.{IsSv39x4}
+use Rattle.spec_processor.specs.Regions.{Region}
+use Rattle.spec_processor.specs.GStage.{WalksInside}
+use Rattle.spec_processor.specs.Roots.{IsSv39x4}
 
 -- A walk may go through it: it is Sv39x4, no walk under it leads out of the region, and it may be asked.
 pub record MayPass {S : Type 0} (serves : S → Region → ℕ → Type 0) (second : S) (r : Region) (hgatp : ℕ) : Type 0 where

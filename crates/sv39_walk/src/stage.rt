@@ -1,16 +1,16 @@
 // The second stage, as a translation goes through it.
 
 ghost use Rattle.std.specs.Prelude.{◌≡◌, ℕ};
-ghost use Rattle.processor.specs.Regions.{Region};
-ghost use Rattle.processor.specs.SecondStage.{walk_guest};
-ghost use Rattle.processor.specs.Roots.{IsSv39x4};
+ghost use Rattle.spec_processor.specs.Regions.{Region};
+ghost use Rattle.spec_processor.specs.GStage.{walk_guest};
+ghost use Rattle.spec_processor.specs.Roots.{IsSv39x4};
 
-use crate::second_stage::walk_from_root;
+use crate::g_stage::walk_from_root;
 use host_mem::HostMem;
-use processor::Access;
+use spec_processor::Access;
 
 /// A second stage of translation: the tables themselves, or a cache in front of them.
-pub trait SecondStage {
+pub trait GStage {
     // that it may be asked under an hgatp value
     ghost serves: { Self → Region → ℕ → Type 0 };
 
@@ -34,7 +34,7 @@ pub trait SecondStage {
 #[derive(Drop)]
 pub struct Uncached;
 
-impl SecondStage for Uncached {
+impl GStage for Uncached {
     ghost serves = { λ _ _ _. Unit {0} };
 
     ghost walked = { λ _ _ _ _. Unit {0} };

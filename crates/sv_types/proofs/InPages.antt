@@ -1,7 +1,7 @@
 -- Whole pages, and what begins at a multiple of its width, which lies in one page.
 use Rattle.std.proofs.Common.{◌≡◌, refl, inl, inr, ℕ, ◌+◌, ◌*◌, ◌/◌, ◌%◌, ◌≤◌, List, length, arith}
-use Rattle.processor.specs.Bytes.{page_size}
-use Rattle.processor.specs.Regions.{IsWidth}
+use Rattle.spec_processor.specs.Bytes.{page_size}
+use Rattle.spec_processor.specs.Regions.{IsWidth}
 
 abbrev pub IsWhole : List ℕ → Type 0
 IsWhole bytes = length bytes % page_size ≡ 0

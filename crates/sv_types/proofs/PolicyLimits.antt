@@ -4,9 +4,9 @@ use Rattle.std.specs.Prelude.{Some, IsTrue, ◌==◌, if◌then◌else◌}
 use Rattle.std.specs.List.{list_any, sum}
 use Rattle.std.proofs.lemmas.Bool.{and_parts, eqb-true}
 use Rattle.std.proofs.lemmas.Bool.Decides.{nat_tests}
-use Rattle.processor.specs.Regions.{most_ram_pages}
+use Rattle.spec_processor.specs.Regions.{max_ram_pages}
 use Rattle.sv_types.specs.Policies.{Rules, ModuleRule, rules_within, numbers_within, lists_within, init_within, bound_within, bound_fits, all_bound, modules_count_within, modules_within, module_within, module_pages_within, sites_count_within, sites_within, sites_of, is_module, each_within}
-use Rattle.sv_types.specs.Limits.{plain_format, most_entries, most_modules}
+use Rattle.sv_types.specs.Limits.{plain_format, max_entries, max_modules}
 use Rattle.std.proofs.lemmas.List.{map-append}
 use Rattle.std.proofs.lemmas.List.Sums.{sum_by_push}
 
@@ -18,12 +18,12 @@ few_harts rules within = grind (arith, nat_tests)
 pub some_hart : (rules : Rules) → IsTrue (rules_within rules) → 1 ≤ rules.harts
 some_hart rules within = grind (arith, nat_tests)
 
-pub few_pages : (rules : Rules) → IsTrue (rules_within rules) → rules.ram_pages ≤ most_ram_pages
+pub few_pages : (rules : Rules) → IsTrue (rules_within rules) → rules.ram_pages ≤ max_ram_pages
 few_pages rules within = grind (arith, nat_tests)
 
 -- ---- entries
 
-pub few_entries : (rules : Rules) → IsTrue (rules_within rules) → length rules.entries ≤ most_entries
+pub few_entries : (rules : Rules) → IsTrue (rules_within rules) → length rules.entries ≤ max_entries
 few_entries rules within = grind (arith, nat_tests)
 
 pub bound_rules : (rules : Rules) → IsTrue (rules_within rules) → IsTrue (bound_within rules)
@@ -53,7 +53,7 @@ along_by rules false each = within_entries rules.ram_pages [] rules.entries rule
 pub bound_along : (rules : Rules) → IsTrue (rules_within rules) → length rules.bound ≤ length rules.entries
 bound_along rules within = along_by rules (rules.format == plain_format) (bound_rules rules within)
 
-pub bound_few : (rules : Rules) → IsTrue (rules_within rules) → length rules.bound ≤ most_entries
+pub bound_few : (rules : Rules) → IsTrue (rules_within rules) → length rules.bound ≤ max_entries
 bound_few rules within =
     let along = bound_along rules within in
     let entries = few_entries rules within in
@@ -61,7 +61,7 @@ bound_few rules within =
 
 -- ---- modules
 
-pub few_modules : (rules : Rules) → IsTrue (rules_within rules) → length rules.modules ≤ most_modules
+pub few_modules : (rules : Rules) → IsTrue (rules_within rules) → length rules.modules ≤ max_modules
 few_modules rules within = grind (arith, nat_tests)
 
 pub modules_part : (rules : Rules) → IsTrue (rules_within rules) → (modules_count_within (length rules.modules) ≡ true) × (modules_within (length rules.exports) rules.modules ≡ true)

@@ -1,6 +1,6 @@
 -- Approved pages of guest memory, each with its bytes as they were measured. This project's own.
 use Rattle.std.specs.Prelude.{ℕ, zero, suc, ◌+◌, List, [], ◌∷◌, map, ◌==◌, if◌then◌else◌, Option, Some, None}
-use Rattle.processor.specs.Bytes.{page_bytes}
+use Rattle.spec_processor.specs.Bytes.{page_bytes}
 
 -- an approved page, with its bytes
 pub record ApprovedPage : Type 0 where

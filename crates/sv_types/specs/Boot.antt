@@ -1,6 +1,6 @@
 -- What a machine begins with. This project's own.
 use Rattle.std.specs.Prelude.{ℕ, ◌*◌}
-use Rattle.processor.specs.Bytes.{page_size}
+use Rattle.spec_processor.specs.Bytes.{page_size}
 use Rattle.sv_types.specs.declared.event.Counts.{Counts}
 
 abbrev pub no_counts : Counts
@@ -27,9 +27,9 @@ abbrev pub flat_ram_pages : ℕ
 flat_ram_pages = 16
 
 -- where its kernel may be entered beside its begin, from the start of RAM on
-abbrev pub flat_trap_place : ℕ
-flat_trap_place = 0x100
+abbrev pub flat_trap_offset : ℕ
+flat_trap_offset = 0x100
 
 -- the bytes of these pages
-abbrev pub most_flat_bytes : ℕ
-most_flat_bytes = page_size * flat_ram_pages
+abbrev pub max_flat_bytes : ℕ
+max_flat_bytes = page_size * flat_ram_pages

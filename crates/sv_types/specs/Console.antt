@@ -4,12 +4,12 @@ use Rattle.std.specs.Prelude.{ℕ, ◌+◌, ◌%◌, Bool, ◌&&◌, List, [], �
 
 -- ---- the queue
 
-abbrev pub most_queued : ℕ
-most_queued = 256
+abbrev pub max_queued : ℕ
+max_queued = 256
 
 -- there is room for a byte
 abbrev pub has_room : List ℕ → Bool
-has_room queue = nat_lt (length queue) most_queued
+has_room queue = nat_lt (length queue) max_queued
 
 -- a byte of input waits behind the others, or is dropped
 abbrev pub after_key : List ℕ → ℕ → List ℕ

@@ -2,10 +2,10 @@
 -- ELF-64 Object File Format, "ELF Header" and "Program Header Table"; RISC-V ELF psABI, "File Header".
 use Rattle.std.specs.Prelude.{ℕ, ◌+◌, ◌-◌, ◌*◌, ◌%◌, Bool, false, not, ◌&&◌, ◌||◌, List, [], ◌∷◌, ◌++◌, length, replicate, map, filter, flat_map, fold, find, ◌==◌, if◌then◌else◌, nat_le, nat_lt, Option, Some, None}
 use Rattle.std.specs.List.{list_any}
-use Rattle.processor.specs.Bits.{bit}
-use Rattle.processor.specs.Bytes.{word, part, with_padding, overwrite, ram_place, page_size, page_of, is_in_ram}
+use Rattle.spec_processor.specs.Bits.{bit}
+use Rattle.spec_processor.specs.Bytes.{word, part, with_padding, overwrite, ram_offset, page_size, page_of, is_in_ram}
 use Rattle.sv_types.specs.ApprovedPages.{numbers_from}
-use Rattle.processor.specs.Regions.{most_ram_pages}
+use Rattle.spec_processor.specs.Regions.{max_ram_pages}
 use Rattle.sv_types.specs.Elf.{file_header_size, ei_class, ei_data, ei_version, e_type, e_machine, e_version, e_entry, e_phoff, e_flags, e_phentsize, e_phnum, elf_magic, elfclass64, elfdata2lsb, ev_current, et_exec, em_riscv, ef_riscv_tso, program_header_size, p_flags, p_offset, p_vaddr, p_paddr, p_filesz, p_memsz, pt_load, pf_x_bit, pf_w_bit}
 use Rattle.sv_types.specs.declared.image_fault.HeaderFault.{HeaderFault}
 use Rattle.sv_types.specs.declared.image_fault.ImageFault.{ImageFault}
@@ -145,7 +145,7 @@ kernel_segments file = map (loaded_segment file) (loaded_headers file)
 
 -- RAM with a segment's bytes and zeros at its place
 abbrev pub with_segment : List ℕ → LoadedSegment → List ℕ
-with_segment ram s = overwrite ram (ram_place s.gpa) (with_padding s.bytes s.memory)
+with_segment ram s = overwrite ram (ram_offset s.gpa) (with_padding s.bytes s.memory)
 
 -- zeros, with each segment at its place; the later one wins
 unfoldable pub segments_ram : List LoadedSegment → ℕ → List ℕ
@@ -156,11 +156,11 @@ segments_ram ss ram_pages = fold with_segment (replicate (page_size * ram_pages)
 -- a page lies in an executable segment, which begins with a page
 abbrev pub is_text_of : ℕ → LoadedSegment → Bool
 is_text_of page s =
-    s.executable && (nat_le (page_of s.gpa) page && nat_lt (page_size * page) (ram_place s.gpa + s.memory))
+    s.executable && (nat_le (page_of s.gpa) page && nat_lt (page_size * page) (ram_offset s.gpa + s.memory))
 
 -- the pages that lie in executable segments, ascending
 unfoldable pub text_pages : List LoadedSegment → List ℕ
-text_pages ss = filter (λ page. list_any (is_text_of page) ss) (numbers_from 0 most_ram_pages)
+text_pages ss = filter (λ page. list_any (is_text_of page) ss) (numbers_from 0 max_ram_pages)
 
 -- the bytes of a page of a segment's that the file holds
 abbrev pub filled_part : ℕ → LoadedSegment → List ℕ
@@ -176,4 +176,4 @@ text_page ss page = text_page_in page (find (is_text_of page) ss)
 
 -- the pages of text, one behind the other
 unfoldable pub text_of : List LoadedSegment → List ℕ
-text_of ss = flat_map (text_page ss) (numbers_from 0 most_ram_pages)
+text_of ss = flat_map (text_page ss) (numbers_from 0 max_ram_pages)

@@ -3,7 +3,7 @@
 use Rattle.std.specs.Prelude.{ℕ, zero, suc, ◌/◌, List, [], ◌∷◌, length, take, drop}
 use Rattle.std.specs.List.{concat}
 use Rattle.sha2.specs.Sha256.{sha256}
-use Rattle.processor.specs.Bytes.{page_size}
+use Rattle.spec_processor.specs.Bytes.{page_size}
 
 -- the bytes of a digest
 abbrev pub digest_size : ℕ

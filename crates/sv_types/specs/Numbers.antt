@@ -15,12 +15,12 @@ abbrev pub decimal_value : ℕ → List ℕ → ℕ
 decimal_value before [] = before
 decimal_value before (digit ∷ digits) = decimal_value (10 * before + (digit - digit_zero)) digits
 
-abbrev pub most_digits : ℕ
-most_digits = 20
+abbrev pub max_digits : ℕ
+max_digits = 20
 
 -- decimal digits, one at least
 abbrev pub is_number : List ℕ → Bool
-is_number text = nat_le 1 (length text) && nat_le (length text) most_digits && list_all is_ascii_digit text
+is_number text = nat_le 1 (length text) && nat_le (length text) max_digits && list_all is_ascii_digit text
 
 -- a number from low to high, none where the text is no number or another one
 unfoldable pub number_within : ℕ → ℕ → List ℕ → Option ℕ

@@ -2,9 +2,9 @@
 use Rattle.std.specs.Prelude.{ℕ, ◌+◌, ◌-◌, slice_get, ◌*◌, ◌%◌, Bool, true, false, ◌&&◌, ◌||◌, not, ◌==◌, nat_le, nat_lt, List, [], ◌∷◌, ◌++◌, length, map, sum, if◌then◌else◌, Option, Some, None}
 use Rattle.std.specs.List.{list_any}
 use Rattle.std.specs.Str.{bytes_eq}
-use Rattle.processor.specs.Bytes.{page_size, is_ram_address, instruction_size}
-use Rattle.processor.specs.Regions.{most_ram_pages}
-use Rattle.sv_types.specs.Limits.{plain_format, bound_format, most_harts, fewest_ram_pages, most_entries, most_exports, most_modules, most_module_pages, most_module_sites, most_sites, first_export_base}
+use Rattle.spec_processor.specs.Bytes.{page_size, is_ram_address, instruction_size}
+use Rattle.spec_processor.specs.Regions.{max_ram_pages}
+use Rattle.sv_types.specs.Limits.{plain_format, bound_format, max_harts, min_ram_pages, max_entries, max_exports, max_modules, max_module_pages, max_module_sites, max_sites, first_export_base}
 use Rattle.sv_types.specs.declared.module.Span.{Span}
 use Rattle.sv_types.specs.declared.module.Site.{Site}
 use Rattle.sv_types.specs.declared.policy.Export.{Export}
@@ -56,26 +56,26 @@ abbrev pub is_between : ℕ → ℕ → ℕ → Bool
 is_between low high n = nat_le low n && nat_le n high
 
 abbrev pub harts_within : ℕ → Bool
-harts_within = is_between 1 most_harts
+harts_within = is_between 1 max_harts
 
 abbrev pub ram_pages_within : ℕ → Bool
-ram_pages_within = is_between fewest_ram_pages most_ram_pages
+ram_pages_within = is_between min_ram_pages max_ram_pages
 
 abbrev pub entries_count_within : ℕ → Bool
-entries_count_within = is_between 1 most_entries
+entries_count_within = is_between 1 max_entries
 
 abbrev pub exports_count_within : ℕ → Bool
-exports_count_within n = nat_le n most_exports
+exports_count_within n = nat_le n max_exports
 
 abbrev pub modules_count_within : ℕ → Bool
-modules_count_within n = nat_le n most_modules
+modules_count_within n = nat_le n max_modules
 
 abbrev pub module_pages_within : ℕ → Bool
-module_pages_within = is_between 1 most_module_pages
+module_pages_within = is_between 1 max_module_pages
 
 -- the sites of one module, and those of the modules before it
 abbrev pub sites_count_within : ℕ → ℕ → Bool
-sites_count_within before n = nat_le n most_module_sites && nat_le (before + n) most_sites
+sites_count_within before n = nat_le n max_module_sites && nat_le (before + n) max_sites
 
 -- ---- lists, each of whose items is judged beside those before it
 
@@ -178,11 +178,11 @@ abbrev pub sites_end : List Site → ℕ
 sites_end sites = site_end (slice_get sites (length sites - 1))
 
 -- it begins behind the sites before it
-abbrev pub is_behind : List Site → Site → Bool
-is_behind before site = nat_le (sites_end before) site.offset
+abbrev pub is_after : List Site → Site → Bool
+is_after before site = nat_le (sites_end before) site.offset
 
 abbrev pub next_site_within : ℕ → ℕ → List Site → Site → Bool
-next_site_within pages exports before site = site_within pages exports site && is_behind before site
+next_site_within pages exports before site = site_within pages exports site && is_after before site
 
 abbrev pub sites_within : ℕ → ℕ → List Site → Bool
 sites_within pages exports = each_within (next_site_within pages exports) []

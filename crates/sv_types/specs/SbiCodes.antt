@@ -12,7 +12,7 @@ code_number SbiCode.InvalidParameter = negsuc 2
 code_number SbiCode.RefusedByMeasure = negsuc 3
 code_number SbiCode.InvalidAddress = negsuc 4
 code_number SbiCode.Already = negsuc 5
-code_number SbiCode.UnderWay = negsuc 6
+code_number SbiCode.PendingLoad = negsuc 6
 
 -- as a register holds it
 abbrev pub code_word : SbiCode → ℕ

@@ -1,19 +1,19 @@
 -- What a root of the second stage lets a hart see of memory, whatever RAM holds. This project's own, over the second stage of
 -- the RISC-V Privileged manual, H extension, "Two-Stage Address Translation".
 use Rattle.std.specs.Prelude.{◌≡◌, ℕ, ◌+◌, ◌*◌, ◌^◌, ◌<◌, Bool, true, false, ◌&&◌, List, length, ◌==◌, if◌then◌else◌, nat_le, nat_lt, Option, Some, None, option_map, slice_get, Result, Err}
-use Rattle.processor.specs.Bytes.{ram_base, ram_place, page_of, page_size}
-use Rattle.processor.specs.Regions.{Region}
-use Rattle.processor.specs.Translation.{Destination, At, PageFault, Unreadable}
-use Rattle.processor.specs.declared.access.Access.{Access}
-use Rattle.processor.specs.declared.access.Access.TheVariants.{Fetch, Load, Store}
+use Rattle.spec_processor.specs.Bytes.{ram_base, ram_offset, page_of, page_size}
+use Rattle.spec_processor.specs.Regions.{Region}
+use Rattle.spec_processor.specs.Translation.{Destination, At, PageFault, Unreadable}
+use Rattle.spec_processor.specs.declared.access.Access.{Access}
+use Rattle.spec_processor.specs.declared.access.Access.TheVariants.{Fetch, Load, Store}
 use Rattle.sv_types.specs.declared.view.View.{View}
 use Rattle.sv_types.specs.declared.view.View.TheVariants.{Kernel, User, Entry}
 use Rattle.sv_types.specs.declared.protection.Protection.{Protection}
 use Rattle.sv_types.specs.declared.protection.Protection.TheVariants.{Free, Held, Approved}
-use Rattle.processor.specs.declared.translation.Place.{Place}
-use Rattle.processor.specs.declared.translation.Fault.{Fault}
-use Rattle.processor.specs.SecondStage.{walk_guest, place_through, ReadsTablesAlone, guest_address_bits}
-use Rattle.processor.specs.Roots.{guest_root, root_pages, root_page_bits}
+use Rattle.spec_processor.specs.declared.translation.Place.{Place}
+use Rattle.spec_processor.specs.declared.translation.Fault.{Fault}
+use Rattle.spec_processor.specs.GStage.{walk_guest, place_through, ReadsTablesAlone, guest_address_bits}
+use Rattle.spec_processor.specs.Roots.{guest_root, root_pages, root_page_bits}
 
 -- ---- views
 
@@ -47,7 +47,7 @@ page_in_ram ram_pages gpa = nat_le ram_base gpa && nat_lt (page_of gpa) ram_page
 unfoldable pub view_answer : ℕ → ℕ → Sight → (ℕ → Protection) → ℕ → Access → Option ℕ
 view_answer table_bytes ram_pages sight protections gpa access =
     if page_in_ram ram_pages gpa && view_permits sight (page_of gpa) (protections (page_of gpa)) access
-    then Some (table_bytes + ram_place gpa) else None
+    then Some (table_bytes + ram_offset gpa) else None
 
 abbrev pub with_ram : List ℕ → List ℕ → Region
 with_ram tables ram = record { tables = tables; ram = ram }

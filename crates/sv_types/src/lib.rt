@@ -37,22 +37,22 @@ pub use failed::Failed;
 pub use image_fault::{HeaderFault, ImageFault};
 pub use kernel::ProgramHeader;
 pub use limits::{
-    BEAT_BYTES, BOUND_FORMAT, DATA_BASE, FIRST_EXPORT_BASE, FLAT_PAGES, FLAT_TRAP_PLACE,
-    MOST_DISK_BYTES, MOST_ENTRIES, MOST_EVENTS, MOST_HARTS, MOST_NOTES, MOST_PRINTED, MOST_QUEUED,
+    BEAT_BYTES, BOUND_FORMAT, DATA_BASE, FIRST_EXPORT_BASE, FLAT_PAGES, FLAT_TRAP_OFFSET,
+    MAX_DISK_BYTES, MAX_ENTRIES, MAX_EVENTS, MAX_HARTS, MAX_NOTES, MAX_PRINTED, MAX_QUEUED,
     NO_BASE, PLAIN_FORMAT, SECTOR_BYTES, TEXT_BASE,
 };
 pub use module::{Bases, Site, Span};
-pub use name::{MOST_NAME_BYTES, Name};
+pub use name::{MAX_NAME_BYTES, Name};
 pub use places::{CONSOLE_BASE, DISK_BASE, DISK_END};
 pub use policy::{Export, ModulePolicy, Policy};
 pub use port::PortState;
 pub use protection::Protection;
 pub use relocation_kind::{LOW_VALUES, RelocationKind};
-pub use saved::SavedModule;
+pub use saved::ModulePlacement;
 pub use sbi::{IMPLEMENTATION, SbiCode};
 pub use status::Status;
 pub use view::View;
 pub use virtio::{
-    MOST_VIRTIO_PARTS, VirtioDescriptor, VirtioMove, VirtioPart, VirtioRegister, VirtioRequest,
+    MAX_VIRTIO_PARTS, VirtioDescriptor, VirtioMove, VirtioPart, VirtioRegister, VirtioRequest,
     VirtioResult, VirtioState,
 };

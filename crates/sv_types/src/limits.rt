@@ -7,22 +7,22 @@ pub const SECTOR_BYTES: u64 = 512;
 pub const BEAT_BYTES: u64 = 64;
 
 /// The most bytes of a disk.
-pub const MOST_DISK_BYTES: u64 = 64 << 20;
+pub const MAX_DISK_BYTES: u64 = 64 << 20;
 
 /// The most bytes of input that wait at the console.
-pub const MOST_QUEUED: usize = 256;
+pub const MAX_QUEUED: usize = 256;
 
 /// The most bytes of the console that a journal has room for, until they are handed on.
-pub const MOST_PRINTED: usize = 4096;
+pub const MAX_PRINTED: usize = 4096;
 
 /// The most notes that a journal keeps.
-pub const MOST_NOTES: usize = 4096;
+pub const MAX_NOTES: usize = 4096;
 
 /// The pages of RAM of a machine that is made from plain pages.
 pub const FLAT_PAGES: usize = 16;
 
 /// Where the kernel of such a machine may be entered beside its begin, from the start of RAM on.
-pub const FLAT_TRAP_PLACE: u64 = 0x100;
+pub const FLAT_TRAP_OFFSET: u64 = 0x100;
 
 /// The format of a policy that lists entries alone.
 pub const PLAIN_FORMAT: u8 = 1;
@@ -31,13 +31,13 @@ pub const PLAIN_FORMAT: u8 = 1;
 pub const BOUND_FORMAT: u8 = 2;
 
 /// The most permitted entries.
-pub const MOST_ENTRIES: usize = 64;
+pub const MAX_ENTRIES: usize = 64;
 
 /// The most harts of a machine.
-pub const MOST_HARTS: u8 = 4;
+pub const MAX_HARTS: u8 = 4;
 
 /// The most events of a run.
-pub const MOST_EVENTS: u64 = 1 << 32;
+pub const MAX_EVENTS: u64 = 1 << 32;
 
 /// The base of a field that is relocated by its module's text.
 pub const TEXT_BASE: u16 = 0;

@@ -2,7 +2,7 @@
 
 /// A loaded module, by the arguments of its load.
 #[derive(Clone, Copy, Drop)]
-pub struct SavedModule {
+pub struct ModulePlacement {
     /// The module's place in the policy.
     pub id: u64,
     /// Where its text lies in RAM.

@@ -24,7 +24,7 @@ pub enum SbiCode {
     /// The hart is started, the module loaded, or the init text free already.
     Already,
     /// A load is under way.
-    UnderWay,
+    PendingLoad,
 }
 
 impl SbiCode {
@@ -40,7 +40,7 @@ impl SbiCode {
             SbiCode::RefusedByMeasure => -4,
             SbiCode::InvalidAddress => -5,
             SbiCode::Already => -6,
-            SbiCode::UnderWay => -7,
+            SbiCode::PendingLoad => -7,
         }
     }
 

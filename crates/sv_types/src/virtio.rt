@@ -4,7 +4,7 @@ ghost use Rattle.std.specs.Prelude.{◌≡◌};
 ghost use Rattle.sv_types.specs.VirtioResults.{result_number, is_done};
 
 /// The most descriptors of a chain: the header, 32 of data, and the result.
-pub const MOST_VIRTIO_PARTS: usize = 34;
+pub const MAX_VIRTIO_PARTS: usize = 34;
 
 /// What one descriptor of a chain says: so many bytes at a guest-physical address, and whether the device writes them.
 #[derive(Clone, Copy, Default, Drop)]
@@ -70,7 +70,7 @@ pub struct VirtioRequest {
     /// The number of descriptors in the chain.
     pub count: u8,
     /// What they say: the header, the data, the result. Places from the count on are 0.
-    pub parts: [VirtioPart; MOST_VIRTIO_PARTS],
+    pub parts: [VirtioPart; MAX_VIRTIO_PARTS],
     /// The place reached: a descriptor, and the bytes of it that are moved.
     pub part: u8,
     pub offset: u32,

@@ -3,9 +3,9 @@ use Rattle.std.proofs.Common.{◌≡◌, ℕ, ◌+◌, ◌-◌, ◌*◌, ◌<◌
 use Rattle.std.specs.List.{list_all}
 use Rattle.std.proofs.lemmas.List.{take-append-le, drop-append-le, get_or_append_left}
 use Rattle.std.proofs.lemmas.List.Folds.{list_all_at}
-use Rattle.reference.specs.VirtioChain.{no_part, between, most_parts, data_of, result_of}
-use Rattle.reference.specs.VirtioRequests.{bytes_in, data_moves, moves_by, last_moves}
-use Rattle.saved_machine.specs.VirtioStates.{behind, moves_left}
+use Rattle.spec_reference.specs.VirtioChain.{no_part, between, max_parts, data_of, result_of}
+use Rattle.spec_reference.specs.VirtioRequests.{bytes_in, data_moves, moves_by, last_moves}
+use Rattle.spec_saved_machine.specs.VirtioStates.{behind, moves_left}
 use Rattle.virtio_blk.specs.Held.{padded_parts, new_of}
 use Rattle.sv_types.specs.declared.virtio.VirtioMove.{VirtioMove}
 use Rattle.sv_types.specs.declared.virtio.VirtioPart.{VirtioPart}
@@ -17,13 +17,13 @@ use Rattle.sv_types.specs.declared.virtio.VirtioResult.{VirtioResult}
 
 pub between_padded : (parts : List VirtioPart) (from to : ℕ) → from ≤ to → to ≤ length parts → between (padded_parts parts) from to ≡ between parts from to
 between_padded parts from to order inside =
-    let zeros = replicate (most_parts - length parts) no_part in
+    let zeros = replicate (max_parts - length parts) no_part in
     let size = length-drop from parts in
     ap (take (to - from)) (drop-append-le from parts zeros (omega (arith, order, inside)))
     ∙ take-append-le (to - from) (drop from parts) zeros (omega (arith, order, inside, size))
 
 pub part_padded : (parts : List VirtioPart) (k : ℕ) → k < length parts → get_or (padded_parts parts) k no_part ≡ get_or parts k no_part
-part_padded parts k inside = get_or_append_left parts (replicate (most_parts - length parts) no_part) no_part k inside
+part_padded parts k inside = get_or_append_left parts (replicate (max_parts - length parts) no_part) no_part k inside
 
 -- ---- its moves
 

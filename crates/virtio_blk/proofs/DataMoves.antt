@@ -1,11 +1,11 @@
 -- How the moves of a request's data go on.
 use Rattle.std.proofs.Common.{◌≡◌, ℕ, zero, suc, ◌+◌, ◌-◌, ◌%◌, ◌<◌, ◌≤◌, Bool, true, false, List, [], ◌∷◌, ◌++◌, length, take, drop, get_or, filter, refl, ◌∙◌, sym, ap, append_assoc, length-drop, arith}
-use Rattle.processor.specs.Bytes.{page_size}
+use Rattle.spec_processor.specs.Bytes.{page_size}
 use Rattle.std.proofs.lemmas.List.{drop_more, take_more, get_or-drop}
-use Rattle.reference.specs.VirtioChain.{no_part, between}
-use Rattle.reference.specs.VirtioRequests.{bytes_in, piece_size, piece, pieces, data_moves}
-use Rattle.reference.specs.VirtioBeats.{is_last}
-use Rattle.saved_machine.specs.VirtioStates.{behind}
+use Rattle.spec_reference.specs.VirtioChain.{no_part, between}
+use Rattle.spec_reference.specs.VirtioRequests.{bytes_in, piece_size, piece, pieces, data_moves}
+use Rattle.spec_reference.specs.VirtioBeats.{is_last}
+use Rattle.spec_saved_machine.specs.VirtioStates.{behind}
 use Rattle.sv_types.specs.declared.virtio.VirtioMove.{VirtioMove}
 use Rattle.sv_types.specs.declared.virtio.VirtioPart.{VirtioPart}
 
@@ -96,9 +96,9 @@ behind_none (part ∷ parts) =
     let b : part.len - 0 ≡ part.len = omega arith in
     rw (a, b) refl
 
-pub behind_more : (a b : ℕ) (parts : List VirtioPart) → behind b (behind a parts) ≡ behind (a + b) parts
-behind_more a b [] = refl
-behind_more a b (part ∷ parts) =
+pub after_more : (a b : ℕ) (parts : List VirtioPart) → behind b (behind a parts) ≡ behind (a + b) parts
+after_more a b [] = refl
+after_more a b (part ∷ parts) =
     let g : part.gpa + a + b ≡ part.gpa + (a + b) = omega arith in
     let l : part.len - a - b ≡ part.len - (a + b) = omega arith in
     rw (g, l) refl

@@ -3,14 +3,14 @@ use Rattle.std.proofs.Common.{◌≡◌, ℕ, ◌+◌, ◌-◌, ◌*◌, ◌%◌
 use Rattle.std.specs.List.{list_all}
 use Rattle.std.proofs.lemmas.Bool.Decides.{nat_tests}
 use Rattle.std.proofs.lemmas.List.{get_or-drop, get_or-take, length-replicate, length-take-le}
-use Rattle.processor.specs.Bytes.{in_ram}
-use Rattle.reference.specs.VirtioChain.{no_part, between, data_of}
-use Rattle.reference.specs.VirtioRequests.{bytes_in, lies_in, fits_type, are_sectors, can_move, result_by}
-use Rattle.saved_machine.specs.VirtioStates.{behind}
+use Rattle.spec_processor.specs.Bytes.{in_ram}
+use Rattle.spec_reference.specs.VirtioChain.{no_part, between, data_of}
+use Rattle.spec_reference.specs.VirtioRequests.{bytes_in, lies_in, fits_type, are_sectors, can_move, result_by}
+use Rattle.spec_saved_machine.specs.VirtioStates.{behind}
 use Rattle.virtio_blk.specs.Held.{padded_parts, new_of, IsPlaced, IsOnDisk}
 use Rattle.sv_types.specs.declared.virtio.VirtioPart.{VirtioPart}
 use Rattle.virtio_blk.proofs.DataMoves.{between_none, behind_none}
-use Rattle.reference.specs.VirtioStores.{is_size}
+use Rattle.spec_reference.specs.VirtioStores.{is_size}
 use Rattle.virtio_blk.proofs.Accepting.{part_padded, between_padded, first_between, done_can, all_at}
 use Rattle.sv_types.specs.VirtioResults.{is_done}
 

@@ -1,13 +1,13 @@
 -- How the place in a chain goes on, as moves are taken.
 use Rattle.std.proofs.Common.{◌≡◌, ℕ, ◌+◌, ◌-◌, ◌%◌, ◌<◌, ◌≤◌, Bool, true, false, List, [], ◌∷◌, ◌++◌, length, drop, filter, Option, Some, None, IfSome, refl, ◌∙◌, sym, ap, subst, arith}
-use Rattle.processor.specs.Bytes.{page_size}
+use Rattle.spec_processor.specs.Bytes.{page_size}
 use Rattle.std.proofs.lemmas.List.{drop-drop}
-use Rattle.reference.specs.VirtioChain.{between}
-use Rattle.reference.specs.VirtioRequests.{bytes_in, piece_size, piece, data_moves, last_moves}
-use Rattle.reference.specs.VirtioBeats.{is_last}
-use Rattle.saved_machine.specs.VirtioStates.{behind, part_at, last_place, data_left, disk_place, last_left, moves_left}
+use Rattle.spec_reference.specs.VirtioChain.{between}
+use Rattle.spec_reference.specs.VirtioRequests.{bytes_in, piece_size, piece, data_moves, last_moves}
+use Rattle.spec_reference.specs.VirtioBeats.{is_last}
+use Rattle.spec_saved_machine.specs.VirtioStates.{behind, part_at, last_place, data_left, disk_offset, last_left, moves_left}
 use Rattle.virtio_blk.specs.Held.{first_move, IsPlaced, IsOnDisk, IsSame, CanBeMade}
-use Rattle.virtio_blk.proofs.DataMoves.{between_first, between_none, bytes_in_more, data_moves_first, data_moves_passed, data_moves_none, data_moves_not_last, behind_none, behind_more}
+use Rattle.virtio_blk.proofs.DataMoves.{between_first, between_none, bytes_in_more, data_moves_first, data_moves_passed, data_moves_none, data_moves_not_last, behind_none, after_more}
 use Rattle.sv_types.specs.declared.virtio.VirtioMove.{VirtioMove}
 use Rattle.sv_types.specs.declared.virtio.VirtioPart.{VirtioPart}
 use Rattle.sv_types.specs.declared.virtio.VirtioRequest.{VirtioRequest}
@@ -32,7 +32,7 @@ place_more q placed before =
 abbrev pub at_next_part : VirtioRequest → VirtioRequest
 at_next_part q = record q { part = q.part + 1; offset = 0 }
 
-passed_place : (q : VirtioRequest) → IsPlaced q → q.part < last_place q → q.offset ≡ (part_at q q.part).len → disk_place (at_next_part q) ≡ disk_place q
+passed_place : (q : VirtioRequest) → IsPlaced q → q.part < last_place q → q.offset ≡ (part_at q q.part).len → disk_offset (at_next_part q) ≡ disk_offset q
 passed_place q placed before all =
     let more = place_more q placed before in
     omega (arith, more, all)
@@ -41,10 +41,10 @@ passed_moves : (accepted : ℕ) (q : VirtioRequest) → IsPlaced q → q.part < 
 unfolding moves_left
 passed_moves accepted q placed before all =
     let place = passed_place q placed before all in
-    let old : data_moves (disk_place q) (data_left q) ≡ data_moves (disk_place q) (rest_of q) =
-    ap (data_moves (disk_place q)) (left_first q.offset q placed.most placed.parts before) ∙ data_moves_passed (disk_place q) q.offset (part_at q q.part) (rest_of q) (sym all) in
-    let new : data_moves (disk_place (at_next_part q)) (data_left (at_next_part q)) ≡ data_moves (disk_place q) (rest_of q) =
-    ap (data_moves (disk_place (at_next_part q))) (behind_none (rest_of q)) ∙ ap (λ (n : ℕ). data_moves n (rest_of q)) place in
+    let old : data_moves (disk_offset q) (data_left q) ≡ data_moves (disk_offset q) (rest_of q) =
+    ap (data_moves (disk_offset q)) (left_first q.offset q placed.most placed.parts before) ∙ data_moves_passed (disk_offset q) q.offset (part_at q q.part) (rest_of q) (sym all) in
+    let new : data_moves (disk_offset (at_next_part q)) (data_left (at_next_part q)) ≡ data_moves (disk_offset q) (rest_of q) =
+    ap (data_moves (disk_offset (at_next_part q))) (behind_none (rest_of q)) ∙ ap (λ (n : ℕ). data_moves n (rest_of q)) place in
     ap (λ (moves : List VirtioMove). moves ++ last_left accepted q) (new ∙ sym old)
 
 passed_disk : (n : ℕ) (q : VirtioRequest) → IsPlaced q → q.part < last_place q → q.offset ≡ (part_at q q.part).len → IsOnDisk n q → IsOnDisk n (at_next_part q)
@@ -85,19 +85,19 @@ passed_same start q same placed before all = record {
 abbrev pub with_offset_raised : VirtioRequest → ℕ → VirtioRequest
 with_offset_raised q size = record q { offset = q.offset + size }
 
-pub moved_moves : (accepted : ℕ) (q : VirtioRequest) (n : ℕ) → IsPlaced q → q.part < last_place q → q.offset < (part_at q q.part).len → n ≡ piece_size ((part_at q q.part).gpa + q.offset) ((part_at q q.part).len - q.offset) → moves_left accepted q ≡ piece (part_at q q.part).write ((part_at q q.part).gpa + q.offset) (disk_place q) n ∷ moves_left accepted (with_offset_raised q n)
+pub moved_moves : (accepted : ℕ) (q : VirtioRequest) (n : ℕ) → IsPlaced q → q.part < last_place q → q.offset < (part_at q q.part).len → n ≡ piece_size ((part_at q q.part).gpa + q.offset) ((part_at q q.part).len - q.offset) → moves_left accepted q ≡ piece (part_at q q.part).write ((part_at q q.part).gpa + q.offset) (disk_offset q) n ∷ moves_left accepted (with_offset_raised q n)
 unfolding moves_left
 moved_moves accepted q n placed before some is =
     let x = part_at q q.part in
     let cut : VirtioPart = record x { gpa = x.gpa + q.offset; len = x.len - q.offset } in
-    let first = data_moves_first (disk_place q) n cut (rest_of q) (omega (arith, some)) is in
+    let first = data_moves_first (disk_offset q) n cut (rest_of q) (omega (arith, some)) is in
     let left : data_left q ≡ cut ∷ rest_of q = left_first q.offset q placed.most placed.parts before in
-    let next : behind n (cut ∷ rest_of q) ≡ data_left (with_offset_raised q n) = behind_more q.offset n (x ∷ rest_of q) ∙ sym (left_first (q.offset + n) q placed.most placed.parts before) in
-    let place : disk_place q + n ≡ disk_place (with_offset_raised q n) = omega arith in
-    let all_data : data_moves (disk_place q) (data_left q) ≡ piece x.write (x.gpa + q.offset) (disk_place q) n ∷ data_moves (disk_place (with_offset_raised q n)) (data_left (with_offset_raised q n)) =
-    ap (data_moves (disk_place q)) left ∙ first
-    ∙ ap (λ (parts : List VirtioPart). piece x.write (x.gpa + q.offset) (disk_place q) n ∷ data_moves (disk_place q + n) parts) next
-    ∙ ap (λ (at : ℕ). piece x.write (x.gpa + q.offset) (disk_place q) n ∷ data_moves at (data_left (with_offset_raised q n))) place in
+    let next : behind n (cut ∷ rest_of q) ≡ data_left (with_offset_raised q n) = after_more q.offset n (x ∷ rest_of q) ∙ sym (left_first (q.offset + n) q placed.most placed.parts before) in
+    let place : disk_offset q + n ≡ disk_offset (with_offset_raised q n) = omega arith in
+    let all_data : data_moves (disk_offset q) (data_left q) ≡ piece x.write (x.gpa + q.offset) (disk_offset q) n ∷ data_moves (disk_offset (with_offset_raised q n)) (data_left (with_offset_raised q n)) =
+    ap (data_moves (disk_offset q)) left ∙ first
+    ∙ ap (λ (parts : List VirtioPart). piece x.write (x.gpa + q.offset) (disk_offset q) n ∷ data_moves (disk_offset q + n) parts) next
+    ∙ ap (λ (at : ℕ). piece x.write (x.gpa + q.offset) (disk_offset q) n ∷ data_moves at (data_left (with_offset_raised q n))) place in
     ap (λ (moves : List VirtioMove). moves ++ last_left accepted q) all_data
 
 moved_bytes : (q : VirtioRequest) (n : ℕ) → IsPlaced q → q.part < last_place q → bytes_in (data_left (with_offset_raised q n)) ≡ (part_at q q.part).len - (q.offset + n) + bytes_in (rest_of q)
@@ -115,7 +115,7 @@ moved_disk disk_size q n placed before most on next =
     omega (arith, new, old, reached, there, most)
 
 -- the piece lies on the disk
-pub piece_on_disk : (disk_size : ℕ) (q : VirtioRequest) (n : ℕ) → IsPlaced q → q.part < last_place q → n ≤ (part_at q q.part).len - q.offset → IsOnDisk disk_size q → disk_place q + n ≤ disk_size
+pub piece_on_disk : (disk_size : ℕ) (q : VirtioRequest) (n : ℕ) → IsPlaced q → q.part < last_place q → n ≤ (part_at q q.part).len - q.offset → IsOnDisk disk_size q → disk_offset q + n ≤ disk_size
 piece_on_disk disk_size q n placed before most on =
     let old = left_bytes q placed before in
     let there = on before in
@@ -128,8 +128,8 @@ unfolding moves_left
 last_moves_left accepted q end =
     let none : between q.parts q.part (last_place q) ≡ [] = ap (λ (k : ℕ). between q.parts k (last_place q)) end ∙ between_none q.parts (last_place q) in
     let left : data_left q ≡ [] = ap (behind q.offset) none in
-    ap (λ (parts : List VirtioPart). data_moves (disk_place q) parts ++ last_left accepted q) left
-    ∙ ap (λ (moves : List VirtioMove). moves ++ last_left accepted q) (data_moves_none (disk_place q))
+    ap (λ (parts : List VirtioPart). data_moves (disk_offset q) parts ++ last_left accepted q) left
+    ∙ ap (λ (moves : List VirtioMove). moves ++ last_left accepted q) (data_moves_none (disk_offset q))
 
 -- ---- data that may not be written is dropped
 
@@ -141,7 +141,7 @@ unfolding moves_left
 without_data_moves accepted q all =
     last_moves_left accepted (without_data q) refl
     ∙ sym all
-    ∙ sym (data_moves_not_last (disk_place q) (data_left q) (last_left accepted q))
+    ∙ sym (data_moves_not_last (disk_offset q) (data_left q) (last_left accepted q))
 
 -- ---- moves stay in a page, and on the disk
 

@@ -1,7 +1,7 @@
 -- The bytes of parts as a sum.
 use Rattle.std.proofs.Common.{◌≡◌, ℕ, ◌+◌, List, [], ◌∷◌, map, sum, refl, ◌∙◌, ap}
 use Rattle.std.proofs.lemmas.List.Sums.{sum_by-cons}
-use Rattle.reference.specs.VirtioRequests.{bytes_in}
+use Rattle.spec_reference.specs.VirtioRequests.{bytes_in}
 use Rattle.sv_types.specs.declared.virtio.VirtioPart.{VirtioPart}
 
 pub sum_of_bytes : (parts : List VirtioPart) → sum (map (λ (part : VirtioPart). part.len) parts) ≡ bytes_in parts

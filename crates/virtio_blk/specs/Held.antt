@@ -1,13 +1,13 @@
 -- The device as the code holds it, and what holds of it at each moment.
 use Rattle.std.specs.Prelude.{◌≡◌, ℕ, ◌+◌, ◌-◌, ◌*◌, ◌%◌, ◌^◌, ◌<◌, ◌≤◌, true, false, if◌then◌else◌, List, [], ◌∷◌, ◌++◌, length, replicate, Option, Some, None, IfSome}
-use Rattle.processor.specs.Bytes.{page_size, ram_base, ram_place}
-use Rattle.reference.specs.BlockDisk.{beat_size}
-use Rattle.reference.specs.VirtioDevice.{VirtioDevice, index_values, most_places}
-use Rattle.reference.specs.VirtioQueue.{ring_header_size, available_entry_size, used_entry_size, used_word_size, ring_index_size}
-use Rattle.reference.specs.VirtioStores.{is_size, descriptors_alignment, available_alignment, used_alignment}
-use Rattle.reference.specs.VirtioChain.{descriptor_size, header_size, no_part, most_parts, header_of, least_parts}
-use Rattle.reference.specs.VirtioRequests.{bytes_in}
-use Rattle.saved_machine.specs.VirtioStates.{last_place, part_at, data_left, disk_place, moves_left, virtio_of}
+use Rattle.spec_processor.specs.Bytes.{page_size, ram_base, ram_offset}
+use Rattle.spec_reference.specs.BlockDisk.{beat_size}
+use Rattle.spec_reference.specs.VirtioDevice.{VirtioDevice, index_values, max_places}
+use Rattle.spec_reference.specs.VirtioQueue.{ring_header_size, available_entry_size, used_entry_size, used_word_size, ring_index_size}
+use Rattle.spec_reference.specs.VirtioStores.{is_size, descriptors_alignment, available_alignment, used_alignment}
+use Rattle.spec_reference.specs.VirtioChain.{descriptor_size, header_size, no_part, max_parts, header_of, least_parts}
+use Rattle.spec_reference.specs.VirtioRequests.{bytes_in}
+use Rattle.spec_saved_machine.specs.VirtioStates.{last_place, part_at, data_left, disk_offset, moves_left, virtio_of}
 use Rattle.sv_types.specs.declared.virtio.VirtioMove.{VirtioMove}
 use Rattle.sv_types.specs.declared.virtio.VirtioPart.{VirtioPart}
 use Rattle.sv_types.specs.declared.virtio.VirtioRequest.{VirtioRequest}
@@ -49,9 +49,9 @@ tail_moves = 4
 
 -- where a request stands in its chain
 pub record IsPlaced (q : VirtioRequest) : Type 0 where
-  pub parts : length q.parts ≡ most_parts
+  pub parts : length q.parts ≡ max_parts
   pub least : least_parts ≤ q.count
-  pub most : q.count ≤ most_parts
+  pub most : q.count ≤ max_parts
   pub begun : 1 ≤ q.part
   pub inside : q.part ≤ last_place q
   pub tail : q.tail ≤ tail_moves
@@ -63,13 +63,13 @@ pub record IsPlaced (q : VirtioRequest) : Type 0 where
   -- the addresses of bytes don't wrap
   pub addresses : (k : ℕ) → q.part ≤ k → k < last_place q → 0 < (part_at q k).len → (part_at q k).gpa + (part_at q k).len < 2 ^ 63
   pub size_some : 1 ≤ q.size
-  pub size_most : q.size ≤ most_places
+  pub size_most : q.size ≤ max_places
   pub aligned : q.used % used_alignment ≡ 0
   pub used : q.used < 2 ^ 63
 
 -- the data that is left lies on the disk
 abbrev pub IsOnDisk : ℕ → VirtioRequest → Type 0
-IsOnDisk disk_size q = q.part < last_place q → disk_place q + bytes_in (data_left q) ≤ disk_size
+IsOnDisk disk_size q = q.part < last_place q → disk_offset q + bytes_in (data_left q) ≤ disk_size
 
 -- the queue in use has a size and its three alignments; a request is in its chain and on the disk
 pub record IsSound (h : Held) : Type 0 where
@@ -106,16 +106,16 @@ CanBeMade disk_size (VirtioMove.PutIndex gpa index) = gpa % page_size + ring_ind
 
 -- the parts of a chain, with empty ones behind them
 abbrev pub padded_parts : List VirtioPart → List VirtioPart
-padded_parts parts = parts ++ replicate (most_parts - length parts) no_part
+padded_parts parts = parts ++ replicate (max_parts - length parts) no_part
 
 -- the three parts of the queue lie in RAM
 pub record HaveRings (d : VirtioDevice) (ram : List ℕ) : Type 0 where
   pub descriptors : ram_base ≤ d.descriptors
-  pub descriptors_end : ram_place d.descriptors + descriptor_size * d.size ≤ length ram
+  pub descriptors_end : ram_offset d.descriptors + descriptor_size * d.size ≤ length ram
   pub available : ram_base ≤ d.available
-  pub available_end : ram_place d.available + (ring_header_size + available_entry_size * d.size) ≤ length ram
+  pub available_end : ram_offset d.available + (ring_header_size + available_entry_size * d.size) ≤ length ram
   pub used : ram_base ≤ d.used
-  pub used_end : ram_place d.used + (ring_header_size + used_entry_size * d.size) ≤ length ram
+  pub used_end : ram_offset d.used + (ring_header_size + used_entry_size * d.size) ≤ length ram
 
 -- a request that is done as far as it was judged begins with its data, any other with its last moves
 abbrev pub first_part : VirtioResult → (last : ℕ) → ℕ
@@ -141,4 +141,4 @@ new_of head sector size used result parts = record {
 pub record HasHeader (ram : List ℕ) (parts : List VirtioPart) : Type 0 where
   pub few : least_parts ≤ length parts
   pub begins : ram_base ≤ (header_of parts).gpa
-  pub ends : ram_place (header_of parts).gpa + header_size ≤ length ram
+  pub ends : ram_offset (header_of parts).gpa + header_size ≤ length ram

@@ -1,34 +1,34 @@
 // The next request: a look into the queue, and the chain that is accepted.
 
 ghost use Rattle.std.specs.Prelude.{◌≡◌, ℕ, ◌++◌, ◌+◌, ◌-◌, ◌*◌, ◌%◌, ◌<◌, ◌≤◌, ◌^◌, IsTrue, true, length, replicate};
-ghost use Rattle.processor.specs.Bytes.{ram_place};
-ghost use Rattle.reference.specs.VirtioStores.{is_size, used_alignment};
-ghost use Rattle.processor.specs.Regions.{Region};
+ghost use Rattle.spec_processor.specs.Bytes.{ram_offset};
+ghost use Rattle.spec_reference.specs.VirtioStores.{is_size, used_alignment};
+ghost use Rattle.spec_processor.specs.Regions.{Region};
 ghost use Rattle.dma_guard.specs.Transfers.{beat_of, after_move};
-ghost use Rattle.reference.specs.VirtioQueue.{rings_in_ram, available_index, next_head};
-ghost use Rattle.reference.specs.VirtioChain.{no_part, data_of, result_of, chain, most_parts};
-ghost use Rattle.reference.specs.VirtioRequests.{type_of, sector_of, result_by, moves_by, last_moves};
-ghost use Rattle.reference.specs.VirtioBeats.{accept_request, accept, look};
-ghost use Rattle.saved_machine.specs.VirtioStates.{request_of};
+ghost use Rattle.spec_reference.specs.VirtioQueue.{rings_in_ram, available_index, next_head};
+ghost use Rattle.spec_reference.specs.VirtioChain.{no_part, data_of, result_of, chain, max_parts};
+ghost use Rattle.spec_reference.specs.VirtioRequests.{type_of, sector_of, result_by, moves_by, last_moves};
+ghost use Rattle.spec_reference.specs.VirtioBeats.{accept_request, accept, look};
+ghost use Rattle.spec_saved_machine.specs.VirtioStates.{request_of};
 ghost use Rattle.virtio_blk.specs.Held.{HaveRings, HasHeader, IsPlaced, IsOnDisk, device_of, padded_parts, new_of};
-ghost use Rattle.reference.specs.VirtioDevice.{index_values};
+ghost use Rattle.spec_reference.specs.VirtioDevice.{index_values};
 
 use crate::Virtio;
 use crate::chain::{DESCRIPTOR_BYTES, read_chain};
 use crate::requests::{is_good, lies_in_ram, result_by};
-use dma_guard::Beaten;
+use dma_guard::DmaStep;
 use host_mem::{HostMem, word_at};
-use processor::ram_place;
-use sv_types::{MOST_VIRTIO_PARTS, VirtioPart, VirtioRequest};
+use spec_processor::ram_offset;
+use sv_types::{MAX_VIRTIO_PARTS, VirtioPart, VirtioRequest};
 
 /// Where a request's header has its sector.
-const SECTOR_PLACE: usize = 8;
+const SECTOR_OFFSET: usize = 8;
 /// An index of a ring, and a head, is a number of 16 bits.
 pub(crate) const INDICES: u64 = 1 << 16;
 /// The flags and the index of a ring. Virtio 1.2, 2.7.6 and 2.7.8.
 pub(crate) const RING_HEADER_BYTES: u64 = 4;
 /// Where the index stands in a ring, behind the flags.
-pub(crate) const RING_INDEX_PLACE: u64 = 2;
+pub(crate) const RING_INDEX_OFFSET: u64 = 2;
 /// The bytes of that index.
 pub(crate) const RING_INDEX_WIDTH: u8 = 2;
 /// A head in the available ring.
@@ -37,19 +37,19 @@ pub(crate) const AVAILABLE_ENTRY_BYTES: u64 = 2;
 pub(crate) const USED_ENTRY_BYTES: u64 = 8;
 
 // So many parts as a chain may have, all of them empty.
-fn empty_parts() -> [VirtioPart; MOST_VIRTIO_PARTS]
-    ensures { result ≡ replicate most_parts no_part }
+fn empty_parts() -> [VirtioPart; MAX_VIRTIO_PARTS]
+    ensures { result ≡ replicate max_parts no_part }
 {
     [VirtioPart {
         gpa: 0,
         len: 0,
         write: false,
-    }; MOST_VIRTIO_PARTS]
+    }; MAX_VIRTIO_PARTS]
 }
 
 // The parts of a chain, with empty ones behind them.
-fn padded_parts(parts: &[VirtioPart]) -> [VirtioPart; MOST_VIRTIO_PARTS]
-    requires { length parts.now ≤ most_parts }
+fn padded_parts(parts: &[VirtioPart]) -> [VirtioPart; MAX_VIRTIO_PARTS]
+    requires { length parts.now ≤ max_parts }
     ensures { result ≡ padded_parts parts.now }
 {
     let mut all = empty_parts();
@@ -67,13 +67,13 @@ fn new_request(
     parts: &[VirtioPart],
 ) -> VirtioRequest
     requires header { HasHeader ram.now parts.now }
-    requires most { length parts.now ≤ most_parts }
+    requires most { length parts.now ≤ max_parts }
     requires head { head < index_values }
     ensures { result ≡ new_of head (sector_of ram.now parts.now) size used (result_by ram.now disk_size (type_of ram.now parts.now) (sector_of ram.now parts.now) (data_of parts.now)) parts.now }
 {
     let last = parts.len() - 1;
-    let header = ram_place(parts[0].gpa) as usize;
-    let sector = word_at(ram, header + SECTOR_PLACE, 8);
+    let header = ram_offset(parts[0].gpa) as usize;
+    let sector = word_at(ram, header + SECTOR_OFFSET, 8);
     let result = result_by(
         ram,
         disk_size,
@@ -106,7 +106,7 @@ fn next_request(
     parts: &[VirtioPart],
 ) -> VirtioRequest
     requires header { HasHeader ram.now parts.now }
-    requires most { length parts.now ≤ most_parts }
+    requires most { length parts.now ≤ max_parts }
     requires head { head < index_values }
     requires size { is_size size ≡ true }
     requires aligned { used % used_alignment ≡ 0 }
@@ -121,7 +121,7 @@ fn next_request(
 
 impl Virtio {
     // Whether the three parts of the queue lie in RAM.
-    #[tactic(auto, unfolding(reference::specs::VirtioQueue::rings_in_ram))]
+    #[tactic(auto, unfolding(spec_reference::specs::VirtioQueue::rings_in_ram))]
     fn rings_in_ram(&self, ram: &[u8]) -> bool
         ensures value { result ≡ rings_in_ram (device_of self.now) ram.now }
         ensures rings { IsTrue result → HaveRings (device_of self.now) ram.now }
@@ -148,7 +148,7 @@ impl Virtio {
     {
         word_at(
             ram,
-            ram_place(self.state.available) as usize + RING_INDEX_PLACE as usize,
+            ram_offset(self.state.available) as usize + RING_INDEX_OFFSET as usize,
             RING_INDEX_WIDTH,
         )
     }
@@ -163,7 +163,7 @@ impl Virtio {
         let place = (self.state.accepted % self.state.size as u64) as usize;
         word_at(
             ram,
-            ram_place(self.state.available) as usize
+            ram_offset(self.state.available) as usize
                 + RING_HEADER_BYTES as usize
                 + AVAILABLE_ENTRY_BYTES as usize * place,
             AVAILABLE_ENTRY_BYTES as u8,
@@ -179,10 +179,10 @@ impl Virtio {
     }
 
     // The device accepts the request that a chain asks for.
-    #[tactic(auto, unfolding(reference::specs::VirtioBeats::accept_request))]
+    #[tactic(auto, unfolding(spec_reference::specs::VirtioBeats::accept_request))]
     fn begin(&mut self, ram: &[u8], head: u64, parts: &[VirtioPart])
         requires header { HasHeader ram.now parts.now }
-        requires most { length parts.now ≤ most_parts }
+        requires most { length parts.now ≤ max_parts }
         requires head { head < index_values }
         requires ready { self.old.state.ready ≡ true }
         requires rings { HaveRings (device_of self.old) ram.now }
@@ -196,33 +196,33 @@ impl Virtio {
     }
 
     // The chain that begins at a head is accepted, where it is a request's; else the device breaks.
-    #[tactic(auto, unfolding(reference::specs::VirtioBeats::accept))]
-    fn accept(&mut self, ram: &[u8], head: u64) -> Beaten
+    #[tactic(auto, unfolding(spec_reference::specs::VirtioBeats::accept))]
+    fn accept(&mut self, ram: &[u8], head: u64) -> DmaStep
         requires head { head < index_values }
         requires ready { self.old.state.ready ≡ true }
         requires rings { HaveRings (device_of self.old) ram.now }
         requires small { length ram.now < 2 ^ 62 }
-        ensures device { device_of self.new ≡ (accept (device_of self.old) ram.now head (chain most_parts ram.now (ram_place self.old.state.descriptors) self.old.state.size head)).device }
-        ensures told { result ≡ beat_of (accept (device_of self.old) ram.now head (chain most_parts ram.now (ram_place self.old.state.descriptors) self.old.state.size head)).move }
-        ensures still { (region : Region) → after_move region (accept (device_of self.old) ram.now head (chain most_parts ram.now (ram_place self.old.state.descriptors) self.old.state.size head)).move ≡ region }
+        ensures device { device_of self.new ≡ (accept (device_of self.old) ram.now head (chain max_parts ram.now (ram_offset self.old.state.descriptors) self.old.state.size head)).device }
+        ensures told { result ≡ beat_of (accept (device_of self.old) ram.now head (chain max_parts ram.now (ram_offset self.old.state.descriptors) self.old.state.size head)).move }
+        ensures still { (region : Region) → after_move region (accept (device_of self.old) ram.now head (chain max_parts ram.now (ram_offset self.old.state.descriptors) self.old.state.size head)).move ≡ region }
     {
-        let table = ram_place(self.state.descriptors) as usize;
+        let table = ram_offset(self.state.descriptors) as usize;
         let Some(parts) = read_chain(ram, table, self.state.size as u64, head) else {
             self.break_down();
-            return Beaten::Range;
+            return DmaStep::Range;
         };
         let parts = parts.as_slice();
         if !is_good(ram, parts) {
             self.break_down();
-            return Beaten::Range;
+            return DmaStep::Range;
         }
         self.begin(ram, head, parts);
-        Beaten::Idle
+        DmaStep::Idle
     }
 
     /// A look for the next request, while none is under way.
-    #[tactic(auto, unfolding(reference::specs::VirtioBeats::look))]
-    pub(crate) fn look(&mut self, mem: &HostMem) -> Beaten
+    #[tactic(auto, unfolding(spec_reference::specs::VirtioBeats::look))]
+    pub(crate) fn look(&mut self, mem: &HostMem) -> DmaStep
         requires ready { self.old.state.ready ≡ true }
         ensures device { device_of self.new ≡ (look (device_of self.old) mem.now.ram).device }
         ensures told { result ≡ beat_of (look (device_of self.old) mem.now.ram).move }
@@ -233,15 +233,15 @@ impl Virtio {
         let ram = mem.ram();
         if !self.rings_in_ram(ram) {
             self.break_down();
-            return Beaten::Range;
+            return DmaStep::Range;
         }
         let index = self.available_index(ram);
         if index == self.state.accepted {
-            return Beaten::Idle;
+            return DmaStep::Idle;
         }
         if self.waiting_count(index) > self.state.size as u64 {
             self.break_down();
-            return Beaten::Range;
+            return DmaStep::Range;
         }
         let head = self.next_head(ram);
         self.accept(ram, head)

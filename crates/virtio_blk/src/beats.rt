@@ -1,27 +1,27 @@
 // Beats: the moves of the request under way.
 
 ghost use Rattle.std.specs.Prelude.{◌≡◌, ℕ, ◌+◌, ◌%◌, ◌^◌, ◌≤◌, false, true, IsTrue, length, Some};
-ghost use Rattle.reference.specs.VirtioQueue.{used_word_size, ring_index_size};
-ghost use Rattle.processor.specs.Bytes.{page_size, overwrite, low_bytes};
-ghost use Rattle.reference.specs.BlockDisk.{beat_size};
-ghost use Rattle.reference.specs.Disk.{is_writable};
-ghost use Rattle.reference.specs.Move.{OutsideRam};
+ghost use Rattle.spec_reference.specs.VirtioQueue.{used_word_size, ring_index_size};
+ghost use Rattle.spec_processor.specs.Bytes.{page_size, overwrite, low_bytes};
+ghost use Rattle.spec_reference.specs.BlockDisk.{beat_size};
+ghost use Rattle.spec_reference.specs.Disk.{is_writable};
+ghost use Rattle.spec_reference.specs.Move.{OutsideRam};
 ghost use Rattle.dma_guard.specs.Transfers.{beat_of, after_move};
-ghost use Rattle.reference.specs.VirtioBeats.{broken_beat, last_moves_alone, with_written, with_request, finish_request, is_last, make, make_first, to_memory, to_disk, put_last, is_live, virtio_beat};
-ghost use Rattle.saved_machine.specs.VirtioStates.{request_of, moves_left};
+ghost use Rattle.spec_reference.specs.VirtioBeats.{broken_beat, last_moves_alone, with_written, with_request, finish_request, is_last, make, make_first, to_memory, to_disk, put_last, is_live, virtio_beat};
+ghost use Rattle.spec_saved_machine.specs.VirtioStates.{request_of, moves_left};
 ghost use Rattle.virtio_blk.specs.Held.{IsPlaced, IsOnDisk, CanBeMade, device_of};
 
 use crate::Virtio;
 use crate::bus::NEEDS_RESET;
 use crate::moves::take_move;
 use crate::requests::lies_in_ram;
-use dma_guard::{Beaten, DmaGuard, DmaRefused};
+use dma_guard::{DmaGuard, DmaRefused, DmaStep};
 use host_mem::{HostMem, put_word};
-use processor::{has_bit, ram_place};
+use spec_processor::{has_bit, ram_offset};
 use sv_types::{VirtioMove, VirtioRequest, VirtioResult};
 
 /// The place of the status bit that says that the driver is ready.
-const DRIVER_OK_PLACE: u8 = 2;
+const DRIVER_OK_BIT: u8 = 2;
 
 /// Interrupts: a request is done, and the device's state has changed.
 const REQUEST_DONE: u32 = 1;
@@ -29,7 +29,7 @@ const REQUEST_DONE: u32 = 1;
 const STATE_CHANGED: u32 = 2;
 
 // The request after a move that wrote so many bytes into memory.
-#[tactic(auto, unfolding(saved_machine::specs::VirtioStates::moves_left))]
+#[tactic(auto, unfolding(spec_saved_machine::specs::VirtioStates::moves_left))]
 fn with_written(request: &VirtioRequest, size: u64) -> VirtioRequest
     requires small { size ≤ beat_size }
     ensures request { (accepted : ℕ) → request_of accepted result ≡ with_written (request_of accepted request.now) size }
@@ -58,7 +58,7 @@ fn without_data(request: &VirtioRequest) -> VirtioRequest
 }
 
 // The low bytes of a value, the lowest first.
-#[tactic(auto, unfolding(processor::specs::Bytes::overwrite))]
+#[tactic(auto, unfolding(spec_processor::specs::Bytes::overwrite))]
 fn low_1(value: u64) -> [u8; 1]
     ensures { result ≡ low_bytes 1 value }
 {
@@ -67,7 +67,7 @@ fn low_1(value: u64) -> [u8; 1]
     bytes
 }
 
-#[tactic(auto, unfolding(processor::specs::Bytes::overwrite))]
+#[tactic(auto, unfolding(spec_processor::specs::Bytes::overwrite))]
 fn low_2(value: u64) -> [u8; 2]
     ensures { result ≡ low_bytes 2 value }
 {
@@ -76,7 +76,7 @@ fn low_2(value: u64) -> [u8; 2]
     bytes
 }
 
-#[tactic(auto, unfolding(processor::specs::Bytes::overwrite))]
+#[tactic(auto, unfolding(spec_processor::specs::Bytes::overwrite))]
 fn low_4(value: u64) -> [u8; 4]
     ensures { result ≡ low_bytes 4 value }
 {
@@ -90,7 +90,7 @@ impl Virtio {
         ensures value { result ≡ is_live (device_of self.now) }
         ensures ready { IsTrue result → self.now.state.ready ≡ true }
     {
-        has_bit(self.state.status as u64, DRIVER_OK_PLACE) && self.state.ready && !self.is_broken()
+        has_bit(self.state.status as u64, DRIVER_OK_BIT) && self.state.ready && !self.is_broken()
     }
 
     // The device is broken until its reset.
@@ -121,7 +121,7 @@ impl Virtio {
 
     // Bytes of the disk go into memory. Seven parameters: the move's three parts are numbers of one variant, and the guard and
     // the memory belong to the bus.
-    #[tactic(auto, unfolding(reference::specs::VirtioBeats::to_memory, dma_guard::specs::Transfers::write_answer, dma_guard::specs::Transfers::after_write))]
+    #[tactic(auto, unfolding(spec_reference::specs::VirtioBeats::to_memory, dma_guard::specs::Transfers::write_answer, dma_guard::specs::Transfers::after_write))]
     fn to_memory(
         &mut self,
         request: &VirtioRequest,
@@ -130,7 +130,7 @@ impl Virtio {
         size: u64,
         guard: &DmaGuard,
         mem: &mut HostMem,
-    ) -> Beaten
+    ) -> DmaStep
         requires small { size ≤ beat_size }
         requires one_page { gpa % page_size + size ≤ page_size }
         requires inside { place + size ≤ length self.old.bytes }
@@ -145,24 +145,24 @@ impl Virtio {
         match guard.write(mem, gpa, &self.bytes[from..from + size as usize]) {
             Ok(()) => {
                 self.keep(with_written(request, size));
-                Beaten::Wrote {
+                DmaStep::Wrote {
                     gpa,
                     len: size as u32,
                 }
             }
             Err(DmaRefused::Protected { page: _ }) => {
                 self.keep(without_data(request));
-                Beaten::Denied { gpa }
+                DmaStep::Denied { gpa }
             }
             Err(DmaRefused::OutOfRam) => {
                 self.break_down();
-                Beaten::Range
+                DmaStep::Range
             }
         }
     }
 
     // One of the last moves writes its bytes, and the request goes on; or it breaks the device.
-    #[tactic(auto, unfolding(reference::specs::VirtioBeats::put_last, dma_guard::specs::Transfers::write_answer, dma_guard::specs::Transfers::after_write))]
+    #[tactic(auto, unfolding(spec_reference::specs::VirtioBeats::put_last, dma_guard::specs::Transfers::write_answer, dma_guard::specs::Transfers::after_write))]
     fn put_last(
         &mut self,
         request: &VirtioRequest,
@@ -170,7 +170,7 @@ impl Virtio {
         bytes: &[u8],
         guard: &DmaGuard,
         mem: &mut HostMem,
-    ) -> Beaten
+    ) -> DmaStep
         requires small { length bytes.now ≤ used_word_size }
         requires one_page { gpa % page_size + length bytes.now ≤ page_size }
         requires placed { IsPlaced request.now }
@@ -182,31 +182,31 @@ impl Virtio {
         match guard.write(mem, gpa, bytes) {
             Ok(()) => {
                 self.keep(*request);
-                Beaten::Wrote {
+                DmaStep::Wrote {
                     gpa,
                     len: bytes.len() as u32,
                 }
             }
             Err(DmaRefused::Protected { page: _ }) => {
                 self.break_down();
-                Beaten::Denied { gpa }
+                DmaStep::Denied { gpa }
             }
             Err(DmaRefused::OutOfRam) => {
                 self.break_down();
-                Beaten::Range
+                DmaStep::Range
             }
         }
     }
 
     // The used ring's index is the last move: the request is done, or the device is broken.
-    #[tactic(auto, unfolding(reference::specs::VirtioBeats::put_last, dma_guard::specs::Transfers::write_answer, dma_guard::specs::Transfers::after_write))]
+    #[tactic(auto, unfolding(spec_reference::specs::VirtioBeats::put_last, dma_guard::specs::Transfers::write_answer, dma_guard::specs::Transfers::after_write))]
     fn put_index(
         &mut self,
         gpa: u64,
         bytes: &[u8; 2],
         guard: &DmaGuard,
         mem: &mut HostMem,
-    ) -> Beaten
+    ) -> DmaStep
         requires one_page { gpa % page_size + ring_index_size ≤ page_size }
         ensures device { device_of self.new ≡ (put_last (device_of self.old) (finish_request (device_of self.old)) gpa bytes.now mem.old.ram (is_writable guard.now)).device }
         ensures told { result ≡ beat_of (put_last (device_of self.old) (finish_request (device_of self.old)) gpa bytes.now mem.old.ram (is_writable guard.now)).move }
@@ -215,18 +215,18 @@ impl Virtio {
         match guard.write(mem, gpa, bytes) {
             Ok(()) => {
                 self.finish();
-                Beaten::Wrote {
+                DmaStep::Wrote {
                     gpa,
                     len: bytes.len() as u32,
                 }
             }
             Err(DmaRefused::Protected { page: _ }) => {
                 self.break_down();
-                Beaten::Denied { gpa }
+                DmaStep::Denied { gpa }
             }
             Err(DmaRefused::OutOfRam) => {
                 self.break_down();
-                Beaten::Range
+                DmaStep::Range
             }
         }
     }
@@ -241,7 +241,7 @@ impl Virtio {
     }
 
     // Bytes of memory go onto the disk. Every page of RAM may be read.
-    #[tactic(auto, unfolding(reference::specs::VirtioBeats::to_disk))]
+    #[tactic(auto, unfolding(spec_reference::specs::VirtioBeats::to_disk))]
     fn to_disk(
         &mut self,
         request: &VirtioRequest,
@@ -249,7 +249,7 @@ impl Virtio {
         place: u64,
         size: u64,
         mem: &HostMem,
-    ) -> Beaten
+    ) -> DmaStep
         requires inside { place + size ≤ length self.old.bytes }
         requires placed { IsPlaced request.now }
         requires on_disk { IsOnDisk (length self.old.bytes) request.now }
@@ -260,23 +260,23 @@ impl Virtio {
         let ram = mem.ram();
         if !lies_in_ram(ram, gpa, size) {
             self.break_down();
-            return Beaten::Range;
+            return DmaStep::Range;
         }
-        let at = ram_place(gpa) as usize;
+        let at = ram_offset(gpa) as usize;
         self.keep_bytes(place as usize, &ram[at..at + size as usize]);
         self.keep(*request);
-        Beaten::Read { gpa }
+        DmaStep::Read { gpa }
     }
 
     // One move of a request, which has the others left.
-    #[tactic(auto, unfolding(reference::specs::VirtioBeats::make))]
+    #[tactic(auto, unfolding(spec_reference::specs::VirtioBeats::make))]
     fn make(
         &mut self,
         request: &VirtioRequest,
         next: VirtioMove,
         guard: &DmaGuard,
         mem: &mut HostMem,
-    ) -> Beaten
+    ) -> DmaStep
         requires placed { IsPlaced request.now }
         requires on_disk { IsOnDisk (length self.old.bytes) request.now }
         requires made { CanBeMade (length self.old.bytes) next }
@@ -308,7 +308,7 @@ impl Virtio {
     }
 
     // The next move of the request under way.
-    fn go_on(&mut self, mut request: VirtioRequest, guard: &DmaGuard, mem: &mut HostMem) -> Beaten
+    fn go_on(&mut self, mut request: VirtioRequest, guard: &DmaGuard, mem: &mut HostMem) -> DmaStep
         requires placed { IsPlaced request }
         requires on_disk { IsOnDisk (length self.old.bytes) request }
         requires fits { IsOnDisk (2 ^ 63) request }
@@ -318,20 +318,20 @@ impl Virtio {
         ensures memory { mem.new ≡ after_move mem.old (make_first (device_of self.old) (request_of self.old.state.accepted request) (moves_left self.old.state.accepted request) mem.old.ram (is_writable guard.now)).move }
     {
         let Some(next) = take_move(&mut request, self.state.accepted) else {
-            return Beaten::Idle;
+            return DmaStep::Idle;
         };
         self.make(&request, next, guard, mem)
     }
 
     /// One beat: a move of the request under way, or a look for the next one. It writes RAM through the guard alone.
-    #[tactic(auto, unfolding(reference::specs::VirtioBeats::virtio_beat))]
-    pub(crate) fn make_beat(&mut self, guard: &DmaGuard, mem: &mut HostMem) -> Beaten
+    #[tactic(auto, unfolding(spec_reference::specs::VirtioBeats::virtio_beat))]
+    pub(crate) fn make_beat(&mut self, guard: &DmaGuard, mem: &mut HostMem) -> DmaStep
         ensures device { device_of self.new ≡ (virtio_beat (device_of self.old) mem.old.ram (is_writable guard.now)).device }
         ensures told { result ≡ beat_of (virtio_beat (device_of self.old) mem.old.ram (is_writable guard.now)).move }
         ensures memory { mem.new ≡ after_move mem.old (virtio_beat (device_of self.old) mem.old.ram (is_writable guard.now)).move }
     {
         if !self.is_live() {
-            return Beaten::Idle;
+            return DmaStep::Idle;
         }
         match self.state.request {
             None => self.look(mem),

@@ -1,14 +1,14 @@
 // What registers read, and what stores into them do.
 
 ghost use Rattle.std.specs.Prelude.{◌≡◌, ◌+◌, ◌-◌, ◌*◌, ◌/◌, ◌%◌, ◌<◌, length};
-ghost use Rattle.reference.specs.BlockDisk.{sector_size};
-ghost use Rattle.reference.specs.VirtioDevice.{is_broken, is_selected};
-ghost use Rattle.reference.specs.VirtioRegisters.{register_value};
-ghost use Rattle.reference.specs.VirtioStores.{reset, with_features, kept_status, with_status, can_set, can_be_used, with_ready, with_size, with_descriptors, with_available, with_used, with_low, with_high, put};
+ghost use Rattle.spec_reference.specs.BlockDisk.{sector_size};
+ghost use Rattle.spec_reference.specs.VirtioDevice.{is_broken, is_selected};
+ghost use Rattle.spec_reference.specs.VirtioRegisters.{register_value};
+ghost use Rattle.spec_reference.specs.VirtioStores.{reset, with_features, kept_status, with_status, can_set, can_be_used, with_ready, with_size, with_descriptors, with_available, with_used, with_low, with_high, put};
 ghost use Rattle.virtio_blk.specs.Held.{device_of, state_at_reset};
 
 use crate::Virtio;
-use processor::has_bit;
+use spec_processor::has_bit;
 use sv_types::{IMPLEMENTATION, SECTOR_BYTES, VirtioRegister, VirtioState};
 
 /// What tells that this is a virtio device: "virt".
@@ -22,9 +22,9 @@ const HIGH_FEATURES: u32 = 1;
 
 const VERSION_1: u32 = 1;
 /// The most places of the queue.
-const MOST_PLACES: u64 = 64;
+const MAX_PLACES: u64 = 64;
 
-const MOST_SIZE: u32 = MOST_PLACES as u32;
+const MAX_SIZE: u32 = MAX_PLACES as u32;
 /// The alignment of the table of descriptors. Virtio 1.2, 2.7.
 const DESCRIPTORS_ALIGN: u64 = 16;
 /// The alignment of the available ring.
@@ -35,9 +35,9 @@ const USED_ALIGN: u64 = 4;
 /// Bits of the status: the features fit, and a reset is needed. The places of two others.
 const FEATURES_OK: u32 = 8;
 
-const NEEDS_RESET_PLACE: u8 = 6;
+const NEEDS_RESET_BIT: u8 = 6;
 
-pub const NEEDS_RESET: u32 = 1 << NEEDS_RESET_PLACE;
+pub const NEEDS_RESET: u32 = 1 << NEEDS_RESET_BIT;
 
 /// A device after a reset.
 #[tactic(auto, unfolding(crate::specs::Held::state_at_reset))]
@@ -64,7 +64,7 @@ fn at_reset() -> VirtioState
 
 impl Virtio {
     /// A device after a reset, with a disk in whole sectors.
-    #[tactic(auto, unfolding(crate::specs::Held::state_at_reset, reference::specs::VirtioStores::reset))]
+    #[tactic(auto, unfolding(crate::specs::Held::state_at_reset, spec_reference::specs::VirtioStores::reset))]
     pub fn new(disk: Vec<u8>) -> Virtio
         requires sectors { length disk.items % sector_size ≡ 0 }
         ensures { device_of result ≡ reset disk.items }
@@ -91,7 +91,7 @@ impl Virtio {
     pub(crate) fn is_broken(&self) -> bool
         ensures { result ≡ is_broken (device_of self.now) }
     {
-        has_bit(self.state.status as u64, NEEDS_RESET_PLACE)
+        has_bit(self.state.status as u64, NEEDS_RESET_BIT)
     }
 
     fn sectors(&self) -> u64
@@ -101,7 +101,7 @@ impl Virtio {
     }
 
     /// What a register reads.
-    #[tactic(auto, unfolding(reference::specs::VirtioRegisters::register_value))]
+    #[tactic(auto, unfolding(spec_reference::specs::VirtioRegisters::register_value))]
     pub(crate) fn read(&self, register: VirtioRegister) -> u64
         ensures { result ≡ register_value (device_of self.now) register }
     {
@@ -117,7 +117,7 @@ impl Virtio {
                     0
                 }
             },
-            VirtioRegister::QueueSizeMax => { if self.is_selected() { MOST_PLACES } else { 0 } }
+            VirtioRegister::QueueSizeMax => { if self.is_selected() { MAX_PLACES } else { 0 } }
             VirtioRegister::QueueReady => u64::from(self.is_selected() && self.state.ready),
             VirtioRegister::InterruptStatus => self.state.interrupt as u64,
             VirtioRegister::Status => self.state.status as u64,
@@ -147,7 +147,7 @@ impl Virtio {
         self.is_selected() && !self.state.ready
     }
 
-    #[tactic(auto, unfolding(reference::specs::VirtioStores::with_features))]
+    #[tactic(auto, unfolding(spec_reference::specs::VirtioStores::with_features))]
     fn put_features(&mut self, value: u32)
         ensures { device_of self.new ≡ with_features (device_of self.old) value }
     {
@@ -159,7 +159,7 @@ impl Virtio {
     }
 
     // What the status keeps of a value other than 0.
-    #[tactic(auto, unfolding(reference::specs::VirtioStores::kept_status))]
+    #[tactic(auto, unfolding(spec_reference::specs::VirtioStores::kept_status))]
     fn kept_status(&self, value: u32) -> u32
         ensures { result ≡ kept_status (device_of self.now) value }
     {
@@ -172,7 +172,7 @@ impl Virtio {
         }
     }
 
-    #[tactic(auto, unfolding(reference::specs::VirtioStores::with_status, reference::specs::VirtioStores::reset, crate::specs::Held::state_at_reset))]
+    #[tactic(auto, unfolding(spec_reference::specs::VirtioStores::with_status, spec_reference::specs::VirtioStores::reset, crate::specs::Held::state_at_reset))]
     fn put_status(&mut self, value: u32)
         ensures { device_of self.new ≡ with_status (device_of self.old) value }
     {
@@ -187,13 +187,13 @@ impl Virtio {
     fn can_be_used(&self) -> bool
         ensures { result ≡ can_be_used (device_of self.now) }
     {
-        matches!(self.state.size, 1 | 2 | 4 | 8 | 16 | 32 | MOST_SIZE)
+        matches!(self.state.size, 1 | 2 | 4 | 8 | 16 | 32 | MAX_SIZE)
             && self.state.descriptors % DESCRIPTORS_ALIGN == 0
             && self.state.available % AVAILABLE_ALIGN == 0
             && self.state.used % USED_ALIGN == 0
     }
 
-    #[tactic(auto, unfolding(reference::specs::VirtioStores::with_ready))]
+    #[tactic(auto, unfolding(spec_reference::specs::VirtioStores::with_ready))]
     fn put_ready(&mut self, value: u32)
         ensures { device_of self.new ≡ with_ready (device_of self.old) value }
     {
@@ -202,7 +202,7 @@ impl Virtio {
         }
     }
 
-    #[tactic(auto, unfolding(reference::specs::VirtioStores::with_size))]
+    #[tactic(auto, unfolding(spec_reference::specs::VirtioStores::with_size))]
     fn put_size(&mut self, value: u32)
         ensures { device_of self.new ≡ with_size (device_of self.old) value }
     {
@@ -211,7 +211,7 @@ impl Virtio {
         }
     }
 
-    #[tactic(auto, unfolding(reference::specs::VirtioStores::with_descriptors))]
+    #[tactic(auto, unfolding(spec_reference::specs::VirtioStores::with_descriptors))]
     fn put_descriptors(&mut self, address: u64)
         ensures { device_of self.new ≡ with_descriptors (device_of self.old) address }
     {
@@ -220,7 +220,7 @@ impl Virtio {
         }
     }
 
-    #[tactic(auto, unfolding(reference::specs::VirtioStores::with_available))]
+    #[tactic(auto, unfolding(spec_reference::specs::VirtioStores::with_available))]
     fn put_available(&mut self, address: u64)
         ensures { device_of self.new ≡ with_available (device_of self.old) address }
     {
@@ -229,7 +229,7 @@ impl Virtio {
         }
     }
 
-    #[tactic(auto, unfolding(reference::specs::VirtioStores::with_used))]
+    #[tactic(auto, unfolding(spec_reference::specs::VirtioStores::with_used))]
     fn put_used(&mut self, address: u64)
         ensures { device_of self.new ≡ with_used (device_of self.old) address }
     {
@@ -239,7 +239,7 @@ impl Virtio {
     }
 
     /// A store into a register.
-    #[tactic(auto, unfolding(reference::specs::VirtioStores::put))]
+    #[tactic(auto, unfolding(spec_reference::specs::VirtioStores::put))]
     pub(crate) fn put(&mut self, register: VirtioRegister, value: u32)
         ensures { device_of self.new ≡ put (device_of self.old) register value }
     {

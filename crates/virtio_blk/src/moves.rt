@@ -1,21 +1,21 @@
 // The moves that are left of a request, taken one by one.
 
 ghost use Rattle.std.specs.Prelude.{◌≡◌, ℕ, ◌+◌, ◌-◌, ◌^◌, ◌<◌, ◌∷◌, ◌%◌, false, true, drop, IfSome, IsSome};
-ghost use Rattle.reference.specs.VirtioQueue.{used_gpa};
-ghost use Rattle.reference.specs.VirtioRequests.{piece_size, piece};
-ghost use Rattle.reference.specs.VirtioBeats.{is_last};
-ghost use Rattle.saved_machine.specs.VirtioStates.{part_at, last_place, disk_place, last_left, moves_left};
+ghost use Rattle.spec_reference.specs.VirtioQueue.{used_gpa};
+ghost use Rattle.spec_reference.specs.VirtioRequests.{piece_size, piece};
+ghost use Rattle.spec_reference.specs.VirtioBeats.{is_last};
+ghost use Rattle.spec_saved_machine.specs.VirtioStates.{part_at, last_place, disk_offset, last_left, moves_left};
 ghost use Rattle.virtio_blk.specs.Held.{IsPlaced, IsOnDisk, IsSame, CanBeMade, first_move, tail_moves};
-ghost use Rattle.reference.specs.VirtioDevice.{index_values};
-ghost use Rattle.reference.specs.VirtioStores.{used_alignment};
+ghost use Rattle.spec_reference.specs.VirtioDevice.{index_values};
+ghost use Rattle.spec_reference.specs.VirtioStores.{used_alignment};
 
-use crate::accept::{INDICES, RING_HEADER_BYTES, RING_INDEX_PLACE, USED_ENTRY_BYTES};
+use crate::accept::{INDICES, RING_HEADER_BYTES, RING_INDEX_OFFSET, USED_ENTRY_BYTES};
 use crate::requests::bytes_in;
-use processor::PAGE_BYTES;
+use spec_processor::PAGE_BYTES;
 use sv_types::{BEAT_BYTES, SECTOR_BYTES, VirtioMove, VirtioRequest};
 
 /// Where the length stands in an entry of the used ring, behind the head.
-const USED_LENGTH_PLACE: u64 = 4;
+const USED_LENGTH_OFFSET: u64 = 4;
 
 // Passes over parts of which nothing is left.
 fn settle(q: &mut VirtioRequest)
@@ -34,10 +34,10 @@ fn settle(q: &mut VirtioRequest)
 }
 
 // Where the next byte of data lies on the disk.
-fn disk_place(q: &VirtioRequest) -> u64
+fn disk_offset(q: &VirtioRequest) -> u64
     requires placed { IsPlaced q.now }
-    requires fits { disk_place q.now < 2 ^ 64 }
-    ensures { result ≡ disk_place q.now }
+    requires fits { disk_offset q.now < 2 ^ 64 }
+    ensures { result ≡ disk_offset q.now }
 {
     SECTOR_BYTES * q.sector + (bytes_in(&q.parts[1..q.part as usize]) + q.offset as u64)
 }
@@ -75,7 +75,7 @@ fn take_data(q: &mut VirtioRequest) -> VirtioMove
 {
     let part = q.parts[q.part as usize];
     let gpa = part.gpa + q.offset as u64;
-    let place = disk_place(q);
+    let place = disk_offset(q);
     let size = piece_size(gpa, (part.len - q.offset) as u64);
     q.offset += size as u32;
     piece(part.write, gpa, place, size)
@@ -114,10 +114,10 @@ fn last_move(q: &VirtioRequest, accepted: u64) -> Option<VirtioMove>
             head: q.head,
         }),
         2 => Some(VirtioMove::PutLength {
-            gpa: entry + USED_LENGTH_PLACE,
+            gpa: entry + USED_LENGTH_OFFSET,
         }),
         3 => Some(VirtioMove::PutIndex {
-            gpa: q.used + RING_INDEX_PLACE,
+            gpa: q.used + RING_INDEX_OFFSET,
             index: accepted as u16,
         }),
         _ => None,

@@ -1,12 +1,12 @@
 // The registers, by their offsets.
 
 ghost use Rattle.std.specs.Prelude.{◌≡◌};
-ghost use Rattle.reference.specs.VirtioRegisters.{register_named, register_at};
+ghost use Rattle.spec_reference.specs.VirtioRegisters.{register_named, register_at};
 
 use sv_types::VirtioRegister;
 
 /// The register that has this offset and width in bytes, if there is one.
-#[tactic(auto, unfolding(reference::specs::VirtioRegisters::register_at))]
+#[tactic(auto, unfolding(spec_reference::specs::VirtioRegisters::register_at))]
 pub fn register_at(offset: u64, width: u8) -> Option<VirtioRegister>
     ensures { result ≡ register_at offset width }
 {
@@ -18,7 +18,7 @@ pub fn register_at(offset: u64, width: u8) -> Option<VirtioRegister>
 }
 
 // The register at an offset.
-#[tactic(auto, unfolding(reference::specs::VirtioRegisters::register_named))]
+#[tactic(auto, unfolding(spec_reference::specs::VirtioRegisters::register_named))]
 fn register_named(offset: u64) -> Option<VirtioRegister>
     ensures { result ≡ register_named offset }
 {

@@ -2,12 +2,12 @@
 
 ghost use Rattle.std.specs.Prelude.{◌≡◌, ◌+◌, ◌*◌, ◌≤◌, IsTrue, length};
 ghost use Rattle.std.specs.List.{list_all};
-ghost use Rattle.processor.specs.Bytes.{in_ram, ram_base, ram_place};
-ghost use Rattle.reference.specs.VirtioChain.{header_size, is_header, is_good, most_parts};
+ghost use Rattle.spec_processor.specs.Bytes.{in_ram, ram_base, ram_offset};
+ghost use Rattle.spec_reference.specs.VirtioChain.{header_size, is_header, is_good_chain, max_parts};
 ghost use Rattle.virtio_blk.specs.Held.{HasHeader};
-ghost use Rattle.reference.specs.VirtioRequests.{bytes_in, lies_in, fits_type, are_sectors, can_move, result_by};
+ghost use Rattle.spec_reference.specs.VirtioRequests.{bytes_in, lies_in, fits_type, are_sectors, can_move, result_by};
 
-use processor::is_in_ram;
+use spec_processor::is_in_ram;
 use sv_types::{SECTOR_BYTES, VirtioPart, VirtioResult};
 
 /// A header and a result.
@@ -27,7 +27,7 @@ const WRITE_DISK: u64 = 1;
 pub fn lies_in_ram(ram: &[u8], gpa: u64, len: u64) -> bool
     ensures value { result ≡ in_ram ram.now gpa len }
     ensures begins { IsTrue result → ram_base ≤ gpa }
-    ensures ends { IsTrue result → ram_place gpa + len ≤ length ram.now }
+    ensures ends { IsTrue result → ram_offset gpa + len ≤ length ram.now }
 {
     is_in_ram(gpa, len, ram.len() as u64)
 }
@@ -52,7 +52,7 @@ fn fits_type(kind: u64, part: &VirtioPart) -> bool
 
 /// The bytes of parts.
 pub fn bytes_in(parts: &[VirtioPart]) -> u64
-    requires { length parts.now ≤ most_parts }
+    requires { length parts.now ≤ max_parts }
     ensures { result ≡ bytes_in parts.now }
 {
     parts.iter().map(|part| part.len as u64).sum()
@@ -81,9 +81,9 @@ fn all_fit_type(kind: u64, parts: &[VirtioPart]) -> bool
 }
 
 // Whether the data's moves can be made.
-#[tactic(auto, unfolding(reference::specs::VirtioRequests::can_move))]
+#[tactic(auto, unfolding(spec_reference::specs::VirtioRequests::can_move))]
 fn can_move(ram: &[u8], disk_size: usize, kind: u64, sector: u64, parts: &[VirtioPart]) -> bool
-    requires { length parts.now ≤ most_parts }
+    requires { length parts.now ≤ max_parts }
     ensures { result ≡ can_move ram.now disk_size kind sector parts.now }
 {
     are_sectors(disk_size, sector, bytes_in(parts))
@@ -92,7 +92,7 @@ fn can_move(ram: &[u8], disk_size: usize, kind: u64, sector: u64, parts: &[Virti
 }
 
 /// The result that a request has as it is accepted.
-#[tactic(auto, unfolding(reference::specs::VirtioRequests::result_by))]
+#[tactic(auto, unfolding(spec_reference::specs::VirtioRequests::result_by))]
 pub fn result_by(
     ram: &[u8],
     disk_size: usize,
@@ -100,7 +100,7 @@ pub fn result_by(
     sector: u64,
     parts: &[VirtioPart],
 ) -> VirtioResult
-    requires { length parts.now ≤ most_parts }
+    requires { length parts.now ≤ max_parts }
     ensures { result ≡ result_by ram.now disk_size kind sector parts.now }
 {
     if kind != READ_DISK && kind != WRITE_DISK {
@@ -116,15 +116,15 @@ pub fn result_by(
 fn is_header(ram: &[u8], part: &VirtioPart) -> bool
     ensures value { result ≡ is_header ram.now part.now }
     ensures begins { IsTrue result → ram_base ≤ part.now.gpa }
-    ensures ends { IsTrue result → ram_place part.now.gpa + header_size ≤ length ram.now }
+    ensures ends { IsTrue result → ram_offset part.now.gpa + header_size ≤ length ram.now }
 {
     part.len == HEADER_BYTES && !part.write && lies_in_ram(ram, part.gpa, HEADER_BYTES as u64)
 }
 
 /// Whether a chain is one of a request: a header, data, and a byte for the result.
-#[tactic(auto, unfolding(reference::specs::VirtioChain::is_good))]
-pub fn is_good(ram: &[u8], parts: &[VirtioPart]) -> bool
-    ensures value { result ≡ is_good ram.now parts.now }
+#[tactic(auto, unfolding(spec_reference::specs::VirtioChain::is_good_chain))]
+pub fn is_good_chain(ram: &[u8], parts: &[VirtioPart]) -> bool
+    ensures value { result ≡ is_good_chain ram.now parts.now }
     ensures header { IsTrue result → HasHeader ram.now parts.now }
 {
     if parts.len() < LEAST_PARTS {

@@ -1,5 +1,5 @@
 use Rattle.std.proofs.Common.{◌≡◌, ℕ, ◌+◌, ◌-◌, ◌*◌, ◌++◌, List, [], ◌∷◌, take, drop, add-one, sym, ◌∙◌, ap, arith}
-use Rattle.processor.specs.Bytes.{page_size}
+use Rattle.spec_processor.specs.Bytes.{page_size}
 use Rattle.sv_types.specs.Measure.{page_digest, page_digests}
 use Rattle.page_measure.proofs.PageDigests.{one_page_more}
 use Rattle.page_measure.proofs.digest_pages.Goals as goal

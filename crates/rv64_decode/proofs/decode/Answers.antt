@@ -1,8 +1,8 @@
 use Rattle.std.proofs.Common.{sym, subst, IsTrue}
 use Rattle.std.specs.Prelude.{IfSome, Option}
-use Rattle.processor.specs.declared.instruction.Instr.{Instr}
-use Rattle.processor.specs.Encoding.{fits}
-use Rattle.processor_laws.proofs.Fitting.{instruction-fits}
+use Rattle.spec_processor.specs.declared.instruction.Instr.{Instr}
+use Rattle.spec_processor.specs.Encoding.{fits}
+use Rattle.laws_processor.proofs.Fitting.{instruction-fits}
 use Rattle.rv64_decode.proofs.decode.Goals as goal
 
 pub returns : goal.returns

@@ -1,8 +1,8 @@
 use Rattle.std.proofs.Common.{refl}
 use Rattle.std.specs.Prelude.{map, string_bytes}
-use Rattle.outside.specs.Held.{real_state}
-use Rattle.top_call.specs.Choice.{top_call_of}
-use Rattle.top_call.proofs.Permits.{may_answer}
+use Rattle.host_io.specs.Held.{real_state}
+use Rattle.cli_dispatch.specs.Choice.{top_call_of}
+use Rattle.cli_dispatch.proofs.Permits.{may_answer}
 use Rattle.secvisor.proofs.main.Goals as goal
 
 pub answer-status-requires-clause-permitted : goal.answer-status-requires-clause-permitted

@@ -1,7 +1,7 @@
 -- The registers keep only bits that may stand: the status by its lemma, the pc since it is a multiple of 4.
 use Rattle.std.proofs.Common.{arith}
-use Rattle.processor_laws.proofs.RegisterBits.{trap_is_legal}
-use Rattle.processor.specs.HypervisorRegisters.{registers_at_trap}
+use Rattle.laws_processor.proofs.RegisterBits.{trap_is_legal}
+use Rattle.spec_processor.specs.HypervisorRegisters.{registers_at_trap}
 use Rattle.csr_file.specs.View.{registers_of}
 use Rattle.csr_file.proofs.entry.into_guest.Goals as goal
 

@@ -1,6 +1,6 @@
 -- The status keeps only bits that may stand.
-use Rattle.processor_laws.proofs.RegisterBits.{return_is_legal}
-use Rattle.processor.specs.HypervisorRegisters.{registers_at_return}
+use Rattle.laws_processor.proofs.RegisterBits.{return_is_legal}
+use Rattle.spec_processor.specs.HypervisorRegisters.{registers_at_return}
 use Rattle.csr_file.specs.View.{registers_of}
 use Rattle.csr_file.proofs.entry.return_to_guest.Goals as goal
 

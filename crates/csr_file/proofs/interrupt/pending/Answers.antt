@@ -1,5 +1,5 @@
 use Rattle.std.proofs.Common.{◌≡◌, ℕ, ◌∙◌, sym, ap, bit_and}
-use Rattle.processor.specs.HypervisorRegisters.{HypervisorRegisters}
+use Rattle.spec_processor.specs.HypervisorRegisters.{HypervisorRegisters}
 use Rattle.csr_file.proofs.Quiet.{none_pending}
 use Rattle.csr_file.proofs.interrupt.pending.Goals as goal
 

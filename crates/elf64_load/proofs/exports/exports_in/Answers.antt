@@ -15,16 +15,16 @@ use Rattle.elf64_load.proofs.exports.exports_in.Goals as goal
 
 module _ (tables : Tables) (exports : List Export) (names : List (List ℕ)) (i : ℕ) (look : List ℕ → Option ℕ) where
   -- what is found behind the next export
-  abbrev behind_next : Export → Judged (List Export)
-  behind_next export = each (export_of tables) (exports ++ export ∷ []) (drop (i + 1) names)
+  abbrev after_next : Export → Judged (List Export)
+  after_next export = each (export_of tables) (exports ++ export ∷ []) (drop (i + 1) names)
 
   at_next : (name : List ℕ) (next : Judged Export) → i < length names → name ≡ get_or names i name → ((wanted : List ℕ) → look wanted ≡ address_of tables wanted)
-      → next ≡ export_at name (look name) → each (export_of tables) exports (drop i names) ≡ (next >>= behind_next)
+      → next ≡ export_at name (look name) → each (export_of tables) exports (drop i names) ≡ (next >>= after_next)
   at_next name next within item known is =
       at_drop_more (each (export_of tables) exports) names i name within
-      ∙ ap (λ (n : List ℕ). export_of tables n >>= behind_next) (sym item)
-      ∙ ap (λ (o : Option ℕ). export_at name o >>= behind_next) (sym (known name))
-      ∙ ap (λ (r : Judged Export). r >>= behind_next) (sym is)
+      ∙ ap (λ (n : List ℕ). export_of tables n >>= after_next) (sym item)
+      ∙ ap (λ (o : Option ℕ). export_at name o >>= after_next) (sym (known name))
+      ∙ ap (λ (r : Judged Export). r >>= after_next) (sym is)
 
   -- one export more
   export_more : (after : List Export) (export : Export) (name : List ℕ) → i < length names → name ≡ get_or names i name

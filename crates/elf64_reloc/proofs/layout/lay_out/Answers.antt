@@ -12,10 +12,10 @@ sections-preserved c =
     let ss = c.args.sections.now in
     let within = c.sections-test.true in
     record {
-      placed = placed_more l.placed.items c.push.new.self.items l.ends c.ends_behind-ends.result c.placed_behind.result ss l.section-index _ within
-          c.in_ok-push.ensures.items c.placed_behind.ensures c.ends_behind-ends.ensures
+      placed = placed_more l.placed.items c.push.new.self.items l.ends c.ends_after-ends.result c.placed_after.result ss l.section-index _ within
+          c.in_ok-push.ensures.items c.placed_after.ensures c.ends_after-ends.ensures
           ∙ l.invariant.placed;
-      ends = ends_more l.ends c.ends_behind-ends.result ss l.section-index _ within c.ends_behind-ends.ensures ∙ l.invariant.ends;
+      ends = ends_more l.ends c.ends_after-ends.result ss l.section-index _ within c.ends_after-ends.ensures ∙ l.invariant.ends;
     }
 
 pub returns-clause-sections : goal.returns-clause-sections

@@ -1,5 +1,5 @@
 use Rattle.std.proofs.Common.{ℕ, ◌≤◌, subst, sym}
-use Rattle.processor.specs.Bytes.{page_size}
+use Rattle.spec_processor.specs.Bytes.{page_size}
 use Rattle.elf64_reloc.proofs.Lists.{padding_small}
 use Rattle.elf64_reloc.proofs.text.push_section.Goals as goal
 

@@ -1,5 +1,5 @@
 use Rattle.std.proofs.Common.{◌≡◌, ℕ, ◌+◌, ◌*◌, ◌<◌, length}
-use Rattle.processor.specs.Bytes.{word}
+use Rattle.spec_processor.specs.Bytes.{word}
 use Rattle.sv_types.specs.Views.{all_free}
 use Rattle.gstage_tables.specs.Layout.{tree_count, leaf_tables, leaf_table, table_pages, sight_in, leaf_word, upper_words}
 use Rattle.gstage_tables.proofs.Trees.fill_leaves.Given as goal

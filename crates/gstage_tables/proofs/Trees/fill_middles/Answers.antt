@@ -1,5 +1,5 @@
 use Rattle.std.proofs.Common.{◌≡◌, ℕ, ◌+◌, ◌*◌, ◌/◌, ◌%◌, ◌<◌, ◌∙◌, Bool, length, refl, ap, subst, arith, rules}
-use Rattle.processor.specs.Regions.{Region}
+use Rattle.spec_processor.specs.Regions.{Region}
 use Rattle.gstage_tables.specs.Layout.{leaf_tables, tree_count, table_pages, sight_in, middle_word}
 use Rattle.gstage_tables.proofs.Writes.{wrote_next, wrote_all, row_inside, row_apart}
 use Rattle.gstage_tables.proofs.Trees.fill_middles.Goals as goal

@@ -1,5 +1,5 @@
 use Rattle.std.proofs.Common.{ℕ, ◌+◌, ◌*◌, ◌∙◌, length, ap, arith}
-use Rattle.processor.specs.Bytes.{word}
+use Rattle.spec_processor.specs.Bytes.{word}
 use Rattle.sv_types.specs.Views.{OfKernel}
 use Rattle.gstage_tables.specs.Layout.{tree_count, table_pages}
 use Rattle.gstage_tables.proofs.Counts.{free_told}

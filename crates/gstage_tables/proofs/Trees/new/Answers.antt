@@ -1,8 +1,8 @@
 use Rattle.std.proofs.Common.{◌≡◌, ℕ, ◌*◌, ◌/◌, ◌%◌, ◌≤◌, ◌∙◌, List, length, sym, ap, subst, arith}
-use Rattle.processor.specs.Bytes.{page_size}
+use Rattle.spec_processor.specs.Bytes.{page_size}
 use Rattle.sv_types.specs.Views.{all_free}
 use Rattle.gstage_tables.specs.Blocks.{CountsTaken}
-use Rattle.gstage_tables.specs.Layout.{leaf_tables, tree_count, table_pages, table_size, sight_in, most_bound, root_word}
+use Rattle.gstage_tables.specs.Layout.{leaf_tables, tree_count, table_pages, table_size, sight_in, max_bound, root_word}
 use Rattle.gstage_tables.specs.Written.{Wrote}
 use Rattle.gstage_tables.proofs.Counts.{counts_first}
 use Rattle.gstage_tables.proofs.MapsBlocks.{maps_blocks}
@@ -38,7 +38,7 @@ returns-clause-drawn c =
         size = c.fill_leaves.ensures.size ∙ c.fill_middles.ensures.words.size ∙ roots.size ∙ c.requires.size ∙ ap (λ (n : ℕ). table_size n (length c.args.bound.now)) whole
             ∙ ap (λ (list : List ℕ). table_size pages (length list)) (sym c.of_pages-trees.ensures.bound);
         most = omega (arith, c.of_pages-trees.ensures.pages, c.ram_pages.ensures.value, c.ram_pages.ensures.region.most);
-        few = subst (λ (list : List ℕ). length list ≤ most_bound) (sym c.of_pages-trees.ensures.bound) c.requires.few;
+        few = subst (λ (list : List ℕ). length list ≤ max_bound) (sym c.of_pages-trees.ensures.bound) c.requires.few;
         roots = roots_filled pages (leaf_tables pages) (table_pages pages (length bound)) (tree_count (length bound)) (sight_in bound) a b d c.fill_leaves.new.mem.tables roots c.fill_middles.ensures.words c.fill_leaves.ensures.below;
         middles = middles_filled pages (leaf_tables pages) (table_pages pages (length bound)) (tree_count (length bound)) (sight_in bound) a b d c.fill_leaves.new.mem.tables roots c.fill_middles.ensures.words c.fill_leaves.ensures.below;
         leaves = c.fill_leaves.ensures.leaves;

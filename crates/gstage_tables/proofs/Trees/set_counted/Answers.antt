@@ -1,6 +1,6 @@
 use Rattle.std.proofs.Common.{◌≡◌, ℕ, ◌+◌, ◌*◌, ◌/◌, ◌<◌, ◌∙◌, Bool, List, length, sym, ap, subst, rules}
 use Rattle.std.specs.Prelude.{◌==◌, ◌&&◌, slice_set, slice_index_or}
-use Rattle.processor.specs.Regions.{Region}
+use Rattle.spec_processor.specs.Regions.{Region}
 use Rattle.sv_types.specs.Views.{protect}
 use Rattle.sv_types.specs.declared.protection.Protection.{Protection}
 use Rattle.sv_types.specs.Protections.{is_free}

@@ -1,5 +1,5 @@
 use Rattle.std.proofs.Common.{◌≡◌, ℕ, ◌+◌, ◌*◌, ◌<◌, ◌∙◌, length, refl, ap, subst, arith, rules}
-use Rattle.processor.specs.Regions.{Region}
+use Rattle.spec_processor.specs.Regions.{Region}
 use Rattle.gstage_tables.specs.Layout.{leaf_tables, tree_count, leaf_table}
 use Rattle.gstage_tables.proofs.Writes.{wrote_next, wrote_all, leaf_inside, trees_apart, below_covered}
 use Rattle.gstage_tables.proofs.Trees.set_leaves.Goals as goal

@@ -1,6 +1,6 @@
 use Rattle.std.proofs.Common.{◌≡◌, ◌≢◌, ℕ, ◌+◌, ◌*◌, ◌/◌, ◌<◌, ◌≤◌, ◌∙◌, length, refl, ap, subst, arith, rules}
-use Rattle.processor.specs.Bytes.{page_size}
-use Rattle.processor.specs.Regions.{Region}
+use Rattle.spec_processor.specs.Bytes.{page_size}
+use Rattle.spec_processor.specs.Regions.{Region}
 use Rattle.gstage_tables.specs.Layout.{leaf_tables, tree_count}
 use Rattle.gstage_tables.proofs.Writes.{wrote_next, wrote_all}
 use Rattle.gstage_tables.proofs.Trees.set_middles.Goals as goal

@@ -1,7 +1,7 @@
 use Rattle.std.proofs.Common.{◌≡◌, ◌*◌, ◌∙◌, true, length, refl, arith}
 use Rattle.std.specs.Prelude.{nat_lt}
 use borrow.Author.Tests.{lt-ltb}
-use Rattle.processor.specs.Regions.{host_word}
+use Rattle.spec_processor.specs.Regions.{host_word}
 use Rattle.gstage_tables.proofs.fill.entry_at.Goals as goal
 
 pub returns : goal.returns

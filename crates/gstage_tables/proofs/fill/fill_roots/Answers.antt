@@ -1,5 +1,5 @@
 use Rattle.std.proofs.Common.{◌+◌, ◌*◌, ◌/◌, ◌%◌, ◌<◌, ◌≤◌, ◌∙◌, length, refl, ap, arith, rules}
-use Rattle.processor.specs.Regions.{Region}
+use Rattle.spec_processor.specs.Regions.{Region}
 use Rattle.gstage_tables.specs.Layout.{root_word}
 use Rattle.gstage_tables.proofs.Writes.{wrote_none, wrote_more}
 use Rattle.gstage_tables.proofs.fill.fill_roots.Goals as goal

@@ -1,5 +1,5 @@
 use Rattle.std.proofs.Common.{◌*◌, ◌∙◌, arith}
-use Rattle.processor_laws.proofs.RegionLemmas.{write_in_tables}
+use Rattle.laws_processor.proofs.RegionLemmas.{write_in_tables}
 use Rattle.gstage_tables.proofs.fill.put.Goals as goal
 
 pub returns : goal.returns

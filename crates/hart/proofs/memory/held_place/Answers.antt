@@ -2,7 +2,7 @@ use Rattle.std.proofs.Common.{refl, rules}
 use Rattle.hart.specs.Cores.{core_of}
 use Rattle.hart.proofs.Places.{walk_places, bare_place, some_further}
 use Rattle.hart.proofs.memory.held_place.Goals as goal
-use Rattle.processor_laws.proofs.Walks.{apart_inside}
+use Rattle.laws_processor.proofs.Walks.{apart_inside}
 
 pub returns-then-core-eq-BARE-clause-value : goal.returns-then-core-eq-BARE-clause-value
 returns-then-core-eq-BARE-clause-value c =

@@ -1,9 +1,9 @@
 use Rattle.std.proofs.Common.{◌∙◌, sym, arith}
-use Rattle.processor.specs.SecondStage.{WalksApart}
+use Rattle.spec_processor.specs.GStage.{WalksApart}
 use Rattle.sv39_walk.specs.Regimes.{settings_of}
-use Rattle.hart.proofs.Places.{stages_place, stages_behind}
+use Rattle.hart.proofs.Places.{stages_place, stages_after}
 use Rattle.hart.proofs.memory.walked_translation.Goals as goal
-use Rattle.processor_laws.proofs.Walks.{apart_inside}
+use Rattle.laws_processor.proofs.Walks.{apart_inside}
 
 pub returns-in-Ok-clause-place : goal.returns-in-Ok-clause-place
 returns-in-Ok-clause-place c =
@@ -15,5 +15,5 @@ returns-in-Ok-clause-place c =
 pub returns-in-Ok-clause-ram : goal.returns-in-Ok-clause-ram
 returns-in-Ok-clause-ram c =
     let apart : WalksApart c.args.mem.now c.regime.result.hgatp = rw c.regime.ensures.hgatp c.requires.ready.apart in
-    stages_behind c.args.mem.now c.regime.result.hgatp c.args.request.address (settings_of c.regime.result) c.regime.result.mode
+    stages_after c.args.mem.now c.regime.result.hgatp c.args.request.address (settings_of c.regime.result) c.regime.result.mode
     c.args.request.access c.in-Ok.place apart (sym c.translate_through.ensures.value ∙ c.in-Ok.is)

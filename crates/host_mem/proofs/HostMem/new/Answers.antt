@@ -1,6 +1,6 @@
 use Rattle.std.proofs.Common.{◌≡◌, ◌*◌, ◌∙◌, ap, rules, ℕ, replicate}
-use Rattle.processor.specs.Bytes.{page_size}
-use Rattle.processor.specs.Regions.{region_of}
+use Rattle.spec_processor.specs.Bytes.{page_size}
+use Rattle.spec_processor.specs.Regions.{region_of}
 use Rattle.host_mem.proofs.ViewFacts.{zeros_seen}
 use Rattle.host_mem.proofs.HostMem.new.Goals as goal
 

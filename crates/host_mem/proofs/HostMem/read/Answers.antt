@@ -1,5 +1,5 @@
 use Rattle.std.proofs.Common.{◌∙◌, ap, arith, List, ℕ}
-use Rattle.processor.specs.Bytes.{word}
+use Rattle.spec_processor.specs.Bytes.{word}
 use Rattle.host_mem.proofs.ViewFacts.{Seen, word_seen}
 use Rattle.host_mem.proofs.HostMem.read.Goals as goal
 

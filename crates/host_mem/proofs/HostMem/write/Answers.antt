@@ -1,6 +1,6 @@
 use Rattle.std.proofs.Common.{◌≡◌, ◌∙◌, ap, arith, rules, List, ℕ, length}
-use Rattle.processor.specs.Bytes.{write_word}
-use Rattle.processor.specs.Regions.{region_of}
+use Rattle.spec_processor.specs.Bytes.{write_word}
+use Rattle.spec_processor.specs.Regions.{region_of}
 use Rattle.host_mem.proofs.ViewFacts.{Seen, write_seen}
 use Rattle.host_mem.proofs.HostMem.write.Goals as goal
 

@@ -1,6 +1,6 @@
 use Rattle.std.proofs.Common.{ℕ, List, take, ◌∙◌, ap, refl, rules, get_or}
 use Rattle.host_mem.proofs.WordFacts.{word_put, byte_put}
-use Rattle.processor_laws.proofs.LibraryBytes.{low_bytes_8}
+use Rattle.laws_processor.proofs.LibraryBytes.{low_bytes_8}
 use Rattle.host_mem.proofs.words.put_word.Goals as goal
 
 pub returns-in-1 : goal.returns-in-1

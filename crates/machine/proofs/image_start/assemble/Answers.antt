@@ -1,8 +1,8 @@
 use Rattle.std.proofs.Common.{◌≡◌}
 use Rattle.std.proofs.lemmas.Result.{IfOk-weaker}
-use Rattle.standing_laws.specs.Starts.{machine_at_boot, image_machine}
+use Rattle.laws_standing.specs.Starts.{machine_at_boot, image_machine}
 use Rattle.elf64_load.specs.Images.{segments_of}
-use Rattle.devices.specs.Ports.{port_disk}
+use Rattle.hw_devices.specs.Ports.{port_disk}
 use Rattle.sv_types.specs.Policies.{rules_of}
 use Rattle.sv_types.proofs.PolicyLimits.{bound_along, bound_few, few_harts, some_hart}
 use Rattle.machine.proofs.ImageStarting.{image_made}

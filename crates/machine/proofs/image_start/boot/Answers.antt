@@ -1,4 +1,4 @@
-use Rattle.devices.specs.Ports.{port_disk}
+use Rattle.hw_devices.specs.Ports.{port_disk}
 use Rattle.sv_types.specs.Policies.{rules_of}
 use Rattle.machine.proofs.ImageStarting.{image_new}
 use Rattle.machine.proofs.image_start.boot.Goals as goal

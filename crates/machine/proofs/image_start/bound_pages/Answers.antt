@@ -1,5 +1,5 @@
 use Rattle.std.proofs.Common.{◌∙◌, ◌<◌, ◌^◌, ℕ, arith, sym, ap, subst}
-use Rattle.processor.specs.Bytes.{page_of}
+use Rattle.spec_processor.specs.Bytes.{page_of}
 use Rattle.sv_types.specs.Policies.{rules_of}
 use Rattle.machine.proofs.BoundPages.{page_fits}
 use Rattle.machine.proofs.image_start.bound_pages.Goals as goal

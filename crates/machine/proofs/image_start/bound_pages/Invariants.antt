@@ -1,5 +1,5 @@
 use Rattle.std.proofs.Common.{◌≡◌, ◌++◌, drop, map}
-use Rattle.processor.specs.Bytes.{page_of}
+use Rattle.spec_processor.specs.Bytes.{page_of}
 use Rattle.machine.proofs.image_start.bound_pages.Given as goal
 
 -- the pages so far, and those that are left

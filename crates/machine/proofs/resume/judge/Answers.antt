@@ -1,5 +1,5 @@
-use Rattle.snapshot_form.specs.Snapshots.{contents}
-use Rattle.resume_laws.proofs.FormParts.{parts_of}
+use Rattle.snapshot_format.specs.Snapshots.{contents}
+use Rattle.laws_resume.proofs.FormParts.{parts_of}
 use Rattle.machine.proofs.resume.judge.Goals as goal
 
 pub resume_refusal-requires-clause-ram : goal.resume_refusal-requires-clause-ram

@@ -2,7 +2,7 @@ use Rattle.std.proofs.Common.{◌+◌, ◌∙◌, ℕ, ap, arith, sym}
 use Rattle.sv_types.proofs.PolicyLimits.{few_harts}
 use Rattle.sv_types.specs.Policies.{rules_of}
 use Rattle.page_guard.specs.Permitted.{Permitted}
-use Rattle.snapshot_form.specs.Snapshots.{contents}
+use Rattle.snapshot_format.specs.Snapshots.{contents}
 use Rattle.machine.proofs.Resuming.{parts_resumed}
 use Rattle.machine.proofs.Starting.{empty_usable, length_empty}
 use Rattle.machine.proofs.resume.resume.Goals as goal
@@ -18,7 +18,7 @@ invariant_of-result c =
       places = k.bound;
       few = omega (arith, number, most);
       caches = length_empty c.args.policy.harts c.in_ok-caches.field-0.caches.items c.in_ok-caches.ensures.caches ∙ sym k.number;
-      theirs = k.theirs;
+      tables_match = k.tables_match;
       usable = empty_usable c.in_ok-mem.field-0.mem.tables c.args.policy.harts c.in_ok-caches.field-0.caches.items c.in_ok-caches.ensures.caches;
       pages = k.pages;
       modules = k.joined;

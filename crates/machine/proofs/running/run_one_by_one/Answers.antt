@@ -1,13 +1,13 @@
 use Rattle.std.proofs.Common.{◌≡◌, ◌≢◌, ◌<◌, ◌-◌, ◌+◌, ◌++◌, replicate, ap, refl, sym, length, arith}
-use Rattle.sv_types.specs.Limits.{most_events}
+use Rattle.sv_types.specs.Limits.{max_events}
 use Rattle.sv_types.specs.declared.event.Verdict.TheVariants.{Running}
 use Rattle.sv_types.specs.Schedule.{first_events}
-use Rattle.outside.proofs.SinkLemmas.{on_err}
+use Rattle.hw_io.proofs.SinkLemmas.{on_err}
 use Rattle.script.proofs.FirstEvents.{begun_none}
 use Rattle.machine.proofs.Repeated.{counts_within}
-use Rattle.machine.specs.Console.{is_due, RunBrokeFromStart}
+use Rattle.machine.specs.Console.{flush_is_due, RunBrokeFromStart}
 use Rattle.machine.proofs.ConsoleLemmas.{runs_none, runs_more, runs_broke, ran_ended, ran_all, taken_none, taken_more, state_after, flushed_counts, room_again}
-use Rattle.machine.proofs.DrawnRows.{none_left, one_drawn}
+use Rattle.machine.proofs.DrawnBatches.{none_left, one_drawn}
 use Rattle.machine.proofs.running.run_one_by_one.Goals as goal
 
 pub events-init : goal.events-init
@@ -16,9 +16,9 @@ events-init g c = record {
   has = c.requires.state;
   taken = taken_none _;
   few = omega arith;
-  counts = counts_within most_events _ c.args.machine.now.journal.counts (omega arith) c.requires.counts;
+  counts = counts_within max_events _ c.args.machine.now.journal.counts (omega arith) c.requires.counts;
   room = omega (arith, ap length c.requires.console);
-  rest = ap is_due c.requires.console;
+  rest = ap flush_is_due c.requires.console;
 }
 
 pub returns-then-ne-clause-all : goal.returns-then-ne-clause-all
@@ -78,9 +78,9 @@ events-preserved g c =
       has = state_after c.repeat.result c.events.machine c.repeat.new.self c.flush_due.new.machine c.in-Some.one.event _ _ c.events.invariant.has c.repeat.ensures.chain flushed;
       taken = taken_more _ c.repeat.new.self c.flush_due.new.machine _ _ c.events.invariant.taken flushed;
       few = omega (arith, few);
-      counts = flushed_counts (most_events + (c.args.events - (c.events.left - 1))) c.repeat.new.self c.flush_due.new.machine _ _
-          (counts_within (most_events + (c.args.events - c.events.left) + c.repeat.result) (most_events + (c.args.events - (c.events.left - 1))) c.repeat.new.self.journal.counts
-          (omega (arith, once, few, some)) (c.repeat.ensures.counts (most_events + (c.args.events - c.events.left)) c.events.invariant.counts)) flushed;
+      counts = flushed_counts (max_events + (c.args.events - (c.events.left - 1))) c.repeat.new.self c.flush_due.new.machine _ _
+          (counts_within (max_events + (c.args.events - c.events.left) + c.repeat.result) (max_events + (c.args.events - (c.events.left - 1))) c.repeat.new.self.journal.counts
+          (omega (arith, once, few, some)) (c.repeat.ensures.counts (max_events + (c.args.events - c.events.left)) c.events.invariant.counts)) flushed;
       room = c.in_ok-flush_due.ensures.room;
       rest = c.in_ok-flush_due.ensures.rest;
     }

@@ -1,11 +1,11 @@
 use Rattle.std.proofs.Common.{◌<◌, ◌≤◌, ◌+◌, ◌-◌, length, IsFalse}
-use Rattle.sv_types.specs.Limits.{most_events, most_printed}
+use Rattle.sv_types.specs.Limits.{max_events, max_printed}
 use Rattle.sv_types.specs.Schedule.{first_events}
-use Rattle.reference.specs.Counting.{CountsAtMost}
-use Rattle.reference.specs.States.{State}
-use Rattle.machine_model.specs.Reaches.{IsNew}
+use Rattle.spec_reference.specs.Counting.{CountsAtMost}
+use Rattle.spec_reference.specs.States.{State}
+use Rattle.spec_hardware.specs.Reaches.{IsNew}
 use Rattle.machine.specs.Standing.{HasState}
-use Rattle.machine.specs.Console.{is_due, HasTaken}
+use Rattle.machine.specs.Console.{flush_is_due, HasTaken}
 use Rattle.machine.proofs.ConsoleLemmas.{RunsOn}
 use Rattle.machine.proofs.running.run_one_by_one.Given as goal
 
@@ -16,9 +16,9 @@ invariant-events g l = record {
   has : HasState l.machine;
   taken : HasTaken (g.O.Sink.state l.initial.out) (g.O.Sink.state l.out);
   few : l.left ≤ l.events;
-  counts : CountsAtMost (most_events + (l.events - l.left)) l.machine.journal.counts;
-  room : length l.machine.journal.printed < most_printed;
-  rest : IsFalse (is_due l.machine.journal.printed);
+  counts : CountsAtMost (max_events + (l.events - l.left)) l.machine.journal.counts;
+  room : length l.machine.journal.printed < max_printed;
+  rest : IsFalse (flush_is_due l.machine.journal.printed);
 }
 
 abbrev pub decreases-events : goal.decreases-events

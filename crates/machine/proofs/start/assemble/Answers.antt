@@ -1,6 +1,6 @@
 use Rattle.std.proofs.Common.{◌∙◌, sym, ap, arith, length}
 use Rattle.sv_types.specs.Policies.{Rules}
-use Rattle.machine_model.specs.StandsFor.{bound_pages}
+use Rattle.spec_hardware.specs.StandsFor.{bound_pages}
 use Rattle.machine.proofs.start.assemble.Goals as goal
 
 pub at_boot-requires-clause-places : goal.at_boot-requires-clause-places

@@ -1,7 +1,7 @@
 use Rattle.std.proofs.Common.{◌∙◌, ap, List, ◌∷◌, [], ◌++◌, replicate}
 use Rattle.std.proofs.lemmas.List.{replicate_more}
-use Rattle.reach.specs.Usable.{nothing_kept}
-use Rattle.reach.specs.declared.caches.HartCaches.{HartCaches}
+use Rattle.hw_tlb.specs.Usable.{nothing_kept}
+use Rattle.hw_tlb.specs.declared.caches.HartCaches.{HartCaches}
 use Rattle.machine.proofs.start.empty_caches.Goals as goal
 
 pub made-preserved : goal.made-preserved

@@ -1,5 +1,5 @@
 use Rattle.std.proofs.Common.{◌≡◌, replicate}
-use Rattle.reach.specs.Usable.{nothing_kept}
+use Rattle.hw_tlb.specs.Usable.{nothing_kept}
 use Rattle.machine.proofs.start.empty_caches.Given as goal
 
 -- the caches so far

@@ -1,7 +1,7 @@
 use Rattle.std.proofs.Common.{rules, ◌≡◌, ◌∙◌, true, false, not}
 use Rattle.std.proofs.lemmas.Bool.{and_parts}
 use Rattle.sv_types.specs.Policies.{rules_of}
-use Rattle.reference.specs.Protections.{protection_at}
+use Rattle.spec_reference.specs.Protections.{protection_at}
 use Rattle.sv_types.specs.Protections.{is_approved}
 use Rattle.module_gate.specs.Retiring.{is_modules, is_kernels}
 use Rattle.module_gate.proofs.Retired.{one_approved, one_freed, freed_where, kept_where}

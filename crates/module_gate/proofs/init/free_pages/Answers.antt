@@ -1,7 +1,7 @@
 use Rattle.std.proofs.Common.{◌≡◌, ◌+◌, ◌∙◌, ap, refl, arith, ℕ, List}
 use Rattle.sv_types.specs.Policies.{rules_of}
 use Rattle.sv_types.specs.declared.protection.Protection.{Protection}
-use Rattle.reference.specs.Protections.{freed_one, freed_by}
+use Rattle.spec_reference.specs.Protections.{freed_one, freed_by}
 use Rattle.module_gate.specs.Retiring.{is_kernels}
 use Rattle.page_guard.proofs.Stays.{stays_same, stays_further}
 use Rattle.module_gate.proofs.Retired.{freed_more, freed_each}
@@ -9,7 +9,7 @@ use Rattle.module_gate.proofs.init.free_pages.Goals as goal
 
 pub pages-init : goal.pages-init
 unfolding freed_by
-pages-init c = (refl, stays_same c.args.mem.now c.args.guard.now c.requires.theirs)
+pages-init c = (refl, stays_same c.args.mem.now c.args.guard.now c.requires.tables_match)
 
 pub pages-preserved : goal.pages-preserved
 pages-preserved c =
@@ -18,7 +18,7 @@ pages-preserved c =
     let picks = is_kernels (rules_of c.args.policy.now) c.args.loaded.now in
     let before = c.pages.invariant in (
       c.free_page.ensures.guard ∙ ap (λ (g : List Protection). freed_one picks g page) before.0 ∙ freed_more picks guard c.args.span.first c.pages.i,
-      stays_further c.args.mem.now c.pages.mem c.free_page.new.mem c.args.guard.now c.pages.guard c.free_page.new.guard before.1 c.free_page.ensures.theirs,
+      stays_further c.args.mem.now c.pages.mem c.free_page.new.mem c.args.guard.now c.pages.guard c.free_page.new.guard before.1 c.free_page.ensures.tables_match,
     )
 
 pub returns-clause-guard : goal.returns-clause-guard

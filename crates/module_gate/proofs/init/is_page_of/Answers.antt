@@ -1,9 +1,9 @@
 use Rattle.std.proofs.Common.{rules, ◌≡◌, ◌∙◌, sym, ◌-◌, ◌&&◌, slice_get}
 use Rattle.std.specs.Prelude.{nat_le, nat_lt}
-use Rattle.processor.specs.Bytes.{page_of}
+use Rattle.spec_processor.specs.Bytes.{page_of}
 use Rattle.sv_types.specs.Policies.{rules_of}
-use Rattle.reference.specs.States.{pages_in_rule}
-use Rattle.reference.proofs.PageSpans.{in_numbers}
+use Rattle.spec_reference.specs.States.{pages_in_rule}
+use Rattle.spec_reference.proofs.PageSpans.{in_numbers}
 use Rattle.module_gate.proofs.init.is_page_of.Goals as goal
 
 pub returns : goal.returns

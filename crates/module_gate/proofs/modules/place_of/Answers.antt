@@ -1,7 +1,7 @@
 use Rattle.std.proofs.Common.{rules, ◌≡◌, ◌∙◌, sym, ℕ, ap, subst, ◌≤◌, length}
 use Rattle.std.specs.Prelude.{unwrap_or, position, nat_lt}
 use Rattle.std.specs.List.{insert}
-use Rattle.sv_types.specs.declared.saved.SavedModule.{SavedModule}
+use Rattle.sv_types.specs.declared.saved.ModulePlacement.{ModulePlacement}
 use Rattle.module_gate.proofs.Lists.{place_is, place_inside, inserted_is}
 use Rattle.module_gate.proofs.modules.place_of.Goals as goal
 
@@ -9,7 +9,7 @@ pub returns : goal.returns
 returns c =
     let about = c.args.about.now in
     let modules = c.args.modules.now in
-    let test = λ (m : SavedModule). nat_lt about.id m.id in
+    let test = λ (m : ModulePlacement). nat_lt about.id m.id in
     let there : c.unwrap_or.result ≡ unwrap_or (position test modules) (length modules) = search rules in
     let place = there ∙ place_is test modules in record {
       inside = subst (λ (n : ℕ). n ≤ length modules) (sym place) (place_inside test modules);

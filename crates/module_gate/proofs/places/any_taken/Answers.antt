@@ -1,7 +1,7 @@
 use Rattle.std.proofs.Common.{rules, ◌≡◌, ◌+◌, ◌-◌, ◌∙◌, sym, ap, arith, ℕ, true, false}
 use Rattle.std.specs.List.{list_any}
 use Rattle.sv_types.specs.ApprovedPages.{numbers_from}
-use Rattle.reference.specs.Protections.{is_taken}
+use Rattle.spec_reference.specs.Protections.{is_taken}
 use Rattle.module_gate.proofs.GoodPlaces.{one_more, picked_stays}
 use Rattle.module_gate.proofs.places.any_taken.Goals as goal
 

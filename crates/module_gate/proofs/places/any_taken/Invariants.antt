@@ -1,7 +1,7 @@
 use Rattle.std.proofs.Common.{◌≡◌, false}
 use Rattle.std.specs.List.{list_any}
 use Rattle.sv_types.specs.ApprovedPages.{numbers_from}
-use Rattle.reference.specs.Protections.{is_taken}
+use Rattle.spec_reference.specs.Protections.{is_taken}
 use Rattle.module_gate.proofs.places.any_taken.Given as goal
 
 -- no page so far is taken

@@ -2,7 +2,7 @@ use Rattle.std.proofs.Common.{◌≡◌, ℕ, ◌+◌, ◌≤◌, List, [], ◌�
 use Rattle.std.proofs.lemmas.List.{at_drop_all, map-append}
 use Rattle.toml.specs.View.{view, items_view}
 use Rattle.toml.specs.declared.value.Value.{Value}
-use Rattle.sv_types.specs.Limits.{most_sites}
+use Rattle.sv_types.specs.Limits.{max_sites}
 use Rattle.sv_types.specs.Policies.{ModuleRule, module_rule, sites_of}
 use Rattle.sv_types.specs.declared.policy.ModulePolicy.{ModulePolicy}
 use Rattle.policy.specs.Text.{module_of, each_module}
@@ -44,5 +44,5 @@ loop-item-preserved c =
           ∙ sym (sites_of_more before (module_rule m))
           ∙ ap (λ (ms : List ModuleRule). sites_of ms) (sym more)
           ∙ ap (λ (ms : List ModulePolicy). sites_of (map module_rule ms)) (sym items);
-      few = subst (λ (n : ℕ). l.sites + n ≤ most_sites) (sym size) c.in_ok-module.ensures.few;
+      few = subst (λ (n : ℕ). l.sites + n ≤ max_sites) (sym size) c.in_ok-module.ensures.few;
     }

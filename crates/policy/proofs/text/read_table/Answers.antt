@@ -4,7 +4,7 @@ use Rattle.toml.specs.View.{table_view}
 use Rattle.sv_types.specs.Policies.{Rules, rules_of}
 use Rattle.sv_types.specs.Steps.{◌>>=◌}
 use Rattle.policy.specs.Refusals.{Judged, Refuses}
-use Rattle.policy.specs.Text.{format_of, known_keys, key_harts, key_ram_pages, key_entries, rules_behind, rules_of_members}
+use Rattle.policy.specs.Text.{format_of, known_keys, key_harts, key_ram_pages, key_entries, rules_after, rules_of_members}
 use Rattle.policy.proofs.Judging.{then_ok, then_err, refuses_fault, refuses_on}
 use Rattle.policy.proofs.text.read_table.Goals as goal
 use Rattle.policy_limits.specs.declared.policy_fault.PolicyFault.{PolicyFault}
@@ -31,11 +31,11 @@ module _ (ms : Members) where
 
   -- behind the pages of RAM
   by_entries : (format : ℕ) (known : Members) (harts ram_pages : ℕ) (judged : Judged (List ℕ × List ℕ)) → format_of ms ≡ Ok format → known_keys ms ≡ Ok known → key_harts known ≡ Ok harts
-      → key_ram_pages known ≡ Ok ram_pages → key_entries format ram_pages known ≡ judged → rules_of_members ms ≡ (judged >>= λ entries. rules_behind format harts ram_pages entries known)
+      → key_ram_pages known ≡ Ok ram_pages → key_entries format ram_pages known ≡ judged → rules_of_members ms ≡ (judged >>= λ entries. rules_after format harts ram_pages entries known)
   unfolding rules_of_members
   by_entries format known harts ram_pages judged formed listed run paged is =
       then_ok (format_of ms) _ format _ formed (then_ok (known_keys ms) _ known _ listed (then_ok (key_harts known) _ harts _ run (then_ok (key_ram_pages known) _ ram_pages _ paged
-      (ap (λ (j : Judged (List ℕ × List ℕ)). j >>= λ entries. rules_behind format harts ram_pages entries known) is))))
+      (ap (λ (j : Judged (List ℕ × List ℕ)). j >>= λ entries. rules_after format harts ram_pages entries known) is))))
 
 pub returns-in_err-format-clause-refused : goal.returns-in_err-format-clause-refused
 returns-in_err-format-clause-refused c =
@@ -72,18 +72,18 @@ returns-in_err-entries-clause-refused c =
 
 pub returns-clause-ok : goal.returns-clause-ok
 returns-clause-ok c =
-    let P : Judged Rules → Type 0 = λ j. IfOk c.read_behind.result (λ policy. j ≡ Ok (rules_of policy)) in
+    let P : Judged Rules → Type 0 = λ j. IfOk c.read_after.result (λ policy. j ≡ Ok (rules_of policy)) in
     subst P
     (sym (by_entries (table_view c.args.table.now) c.in_ok-format.format (table_view c.in_ok-table.table.now) c.in_ok-harts.harts c.in_ok-ram_pages.ram_pages
     (Ok (c.in_ok-entries.entries.list.items, c.in_ok-entries.entries.bound.items))
     (sym c.in_ok-format.ensures) (sym c.in_ok-table.ensures) (sym c.in_ok-harts.ensures) (sym c.in_ok-ram_pages.ensures) c.in_ok-entries.ensures.ok))
-    c.read_behind.ensures.ok
+    c.read_after.ensures.ok
 
 pub returns-clause-refused : goal.returns-clause-refused
 returns-clause-refused c =
-    let P : Judged Rules → Type 0 = λ j. IfErr c.read_behind.result (Refuses j) in
+    let P : Judged Rules → Type 0 = λ j. IfErr c.read_after.result (Refuses j) in
     subst P
     (sym (by_entries (table_view c.args.table.now) c.in_ok-format.format (table_view c.in_ok-table.table.now) c.in_ok-harts.harts c.in_ok-ram_pages.ram_pages
     (Ok (c.in_ok-entries.entries.list.items, c.in_ok-entries.entries.bound.items))
     (sym c.in_ok-format.ensures) (sym c.in_ok-table.ensures) (sym c.in_ok-harts.ensures) (sym c.in_ok-ram_pages.ensures) c.in_ok-entries.ensures.ok))
-    c.read_behind.ensures.refused
+    c.read_after.ensures.refused

@@ -20,10 +20,10 @@ module _ (exports : List Export) (before : List ModulePolicy) (objects : List Ob
   behind made files = each (module_made exports) (map module_rule made) (map file_of files)
 
   -- what is made behind the next one
-  abbrev behind_next : ModuleRule → Judged (List ModuleRule)
-  behind_next rule = each (module_made exports) (map module_rule before ++ rule ∷ []) (map file_of (drop (i + 1) objects))
+  abbrev after_next : ModuleRule → Judged (List ModuleRule)
+  after_next rule = each (module_made exports) (map module_rule before ++ rule ∷ []) (map file_of (drop (i + 1) objects))
 
-  at_next : (object : ObjectFile) → i < length objects → object ≡ get_or objects i object → behind before (drop i objects) ≡ (module_made exports (file_of object) >>= behind_next)
+  at_next : (object : ObjectFile) → i < length objects → object ≡ get_or objects i object → behind before (drop i objects) ≡ (module_made exports (file_of object) >>= after_next)
   at_next object within is =
       at_drop_more (behind before) objects i object within ∙ ap (λ (o : ObjectFile). behind before (o ∷ drop (i + 1) objects)) (sym is)
 
@@ -33,7 +33,7 @@ module _ (exports : List Export) (before : List ModulePolicy) (objects : List Ob
       → behind after (drop (i + 1) objects) ≡ modules_made exports (map file_of objects)
   made_more after one object within is made more so_far =
       ap (λ (rules : List ModuleRule). each (module_made exports) rules (map file_of (drop (i + 1) objects))) (ap (map module_rule) more ∙ map-append module_rule before (one ∷ []))
-      ∙ ap (λ (r : Judged ModuleRule). r >>= behind_next) (sym made)
+      ∙ ap (λ (r : Judged ModuleRule). r >>= after_next) (sym made)
       ∙ sym (at_next object within is)
       ∙ so_far
 
@@ -46,7 +46,7 @@ module _ (exports : List Export) (before : List ModulePolicy) (objects : List Ob
       → behind before (drop i objects) ≡ modules_made exports (map file_of objects) → Refuses (modules_made exports (map file_of objects)) refusal
   refused_next object refusal within is why so_far not_memory =
       ap (λ (judged : Judged (List ModuleRule)). as_answer judged) (sym so_far ∙ at_next object within is)
-      ∙ refused_on (module_made exports (file_of object)) behind_next refusal (why not_memory)
+      ∙ refused_on (module_made exports (file_of object)) after_next refusal (why not_memory)
 
 pub objects-preserved : goal.objects-preserved
 objects-preserved g c =

@@ -1,6 +1,6 @@
 use Rattle.std.proofs.Common.{◌≡◌, ℕ, List, IfOk, ◌∙◌, ap, subst}
 use Rattle.sv_types.specs.Measure.{measure}
-use Rattle.reference.specs.Relocations.{masked_text}
+use Rattle.spec_reference.specs.Relocations.{masked_text}
 use Rattle.policy_making.proofs.modules.masked_digest.Goals as goal
 
 pub returns : goal.returns

@@ -1,5 +1,5 @@
 use Rattle.std.proofs.Common.{◌≡◌, ◌++◌, string_bytes, take}
-use Rattle.reference.specs.Report.{note_lines}
+use Rattle.spec_reference.specs.Report.{note_lines}
 use Rattle.report.proofs.notes.push_notes.Given as goal
 
 abbrev pub invariant-loop-note : goal.invariant-loop-note

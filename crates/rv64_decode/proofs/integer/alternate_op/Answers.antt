@@ -1,10 +1,10 @@
 use Rattle.std.proofs.Common.{sym, ◌∙◌, refl, arith, [], ◌∷◌}
-use Rattle.processor.specs.Instructions as table
-use Rattle.processor.specs.Instructions.{rows}
-use Rattle.processor_laws.proofs.Decoding.{missing, mask_opcode_funct7}
+use Rattle.spec_processor.specs.Instructions as table
+use Rattle.spec_processor.specs.Instructions.{rows}
+use Rattle.laws_processor.proofs.Decoding.{missing, mask_opcode_funct7}
 use Rattle.rv64_decode.proofs.FoundRows.{row_funct7}
 use Rattle.std.specs.Prelude.{◌+◌, ◌*◌, ◌^◌}
-use Rattle.processor.specs.declared.instruction.OpOp.TheVariants as Op
+use Rattle.spec_processor.specs.declared.instruction.OpOp.TheVariants as Op
 use Rattle.rv64_decode.proofs.integer.alternate_op.Goals as goal
 
 pub returns-in-0 : goal.returns-in-0

@@ -1,8 +1,8 @@
 use Rattle.std.proofs.Common.{sym, ◌∙◌, refl, arith, [], ◌∷◌}
-use Rattle.processor.specs.Instructions as table
-use Rattle.processor.specs.Instructions.{rows}
-use Rattle.processor_laws.proofs.Decoding.{missing, mask_opcode}
-use Rattle.processor.specs.declared.instruction.BranchOp.TheVariants as Branch
+use Rattle.spec_processor.specs.Instructions as table
+use Rattle.spec_processor.specs.Instructions.{rows}
+use Rattle.laws_processor.proofs.Decoding.{missing, mask_opcode}
+use Rattle.spec_processor.specs.declared.instruction.BranchOp.TheVariants as Branch
 use Rattle.rv64_decode.proofs.FoundRows.{row_funct3}
 use Rattle.rv64_decode.proofs.integer.branch.Goals as goal
 use Rattle.rv64_decode.proofs.integer.branch.Goals.{in-0, in-1, in-4, in-5, in-6, in-7}

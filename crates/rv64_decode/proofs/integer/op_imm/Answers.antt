@@ -1,7 +1,7 @@
 use Rattle.std.proofs.Common.{sym, ◌∙◌, refl, arith}
-use Rattle.processor.specs.Instructions as table
-use Rattle.processor.specs.Instructions.{rows}
-use Rattle.processor.specs.declared.instruction.OpImmOp.TheVariants as OpImm
+use Rattle.spec_processor.specs.Instructions as table
+use Rattle.spec_processor.specs.Instructions.{rows}
+use Rattle.spec_processor.specs.declared.instruction.OpImmOp.TheVariants as OpImm
 use Rattle.rv64_decode.proofs.FoundRows.{row_funct3}
 use Rattle.rv64_decode.proofs.integer.op_imm.Goals as goal
 use Rattle.rv64_decode.proofs.integer.op_imm.Goals.{in-0, in-2, in-3, in-4, in-6, in_default}

@@ -1,9 +1,9 @@
 use Rattle.std.proofs.Common.{sym, ◌∙◌, refl, arith, [], ◌∷◌}
-use Rattle.processor.specs.Instructions as table
-use Rattle.processor.specs.Instructions.{rows}
-use Rattle.processor_laws.proofs.Decoding.{missing, mask_opcode}
+use Rattle.spec_processor.specs.Instructions as table
+use Rattle.spec_processor.specs.Instructions.{rows}
+use Rattle.laws_processor.proofs.Decoding.{missing, mask_opcode}
 use Rattle.rv64_decode.proofs.FoundRows.{row_funct3}
-use Rattle.processor.specs.declared.instruction.OpImm32Op.TheVariants as OpImm32
+use Rattle.spec_processor.specs.declared.instruction.OpImm32Op.TheVariants as OpImm32
 use Rattle.rv64_decode.proofs.integer.op_imm_32.Goals as goal
 
 pub returns-in-0 : goal.returns-in-0

@@ -1,9 +1,9 @@
 use Rattle.std.proofs.Common.{sym, ◌∙◌, refl, arith, [], ◌∷◌}
-use Rattle.processor.specs.Instructions as table
-use Rattle.processor.specs.Instructions.{rows}
-use Rattle.processor_laws.proofs.Decoding.{missing, mask_funct3}
+use Rattle.spec_processor.specs.Instructions as table
+use Rattle.spec_processor.specs.Instructions.{rows}
+use Rattle.laws_processor.proofs.Decoding.{missing, mask_funct3}
 use Rattle.rv64_decode.proofs.FoundRows.{row_funct6}
-use Rattle.processor.specs.declared.instruction.OpImmOp.TheVariants as OpImm
+use Rattle.spec_processor.specs.declared.instruction.OpImmOp.TheVariants as OpImm
 use Rattle.std.specs.Prelude.{◌+◌, ◌*◌, ◌^◌}
 use Rattle.rv64_decode.proofs.integer.shift_left.Goals as goal
 

@@ -1,6 +1,6 @@
 use Rattle.std.proofs.Common.{sym, refl, arith, [], ◌∷◌}
-use Rattle.processor.specs.Instructions.{rows}
-use Rattle.processor_laws.proofs.Decoding.{missing, mask_opcode}
+use Rattle.spec_processor.specs.Instructions.{rows}
+use Rattle.laws_processor.proofs.Decoding.{missing, mask_opcode}
 use Rattle.rv64_decode.proofs.memory.atomic.Goals as goal
 
 pub returns-in_default : goal.returns-in_default

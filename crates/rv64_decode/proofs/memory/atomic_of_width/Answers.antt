@@ -1,9 +1,9 @@
 use Rattle.std.proofs.Common.{sym, ◌∙◌, refl, arith, [], ◌∷◌}
-use Rattle.processor.specs.Instructions as table
-use Rattle.processor.specs.Instructions.{rows}
-use Rattle.processor_laws.proofs.Decoding.{missing, mask_opcode}
+use Rattle.spec_processor.specs.Instructions as table
+use Rattle.spec_processor.specs.Instructions.{rows}
+use Rattle.laws_processor.proofs.Decoding.{missing, mask_opcode}
 use Rattle.rv64_decode.proofs.FoundRows.{row_atomic, row_conditional}
-use Rattle.processor.specs.declared.instruction.AmoOp.TheVariants as Amo
+use Rattle.spec_processor.specs.declared.instruction.AmoOp.TheVariants as Amo
 use Rattle.rv64_decode.proofs.memory.atomic_of_width.Goals as goal
 use Rattle.rv64_decode.proofs.memory.atomic_of_width.Goals.{in-0, in-1, in-4, in-8, in-12, in-16, in-20, in-24, in-28}
 

@@ -1,6 +1,6 @@
 use Rattle.std.proofs.Common.{sym, ◌∙◌, refl, arith, [], ◌∷◌}
-use Rattle.processor.specs.Instructions.{rows}
-use Rattle.processor_laws.proofs.Decoding.{missing, mask_opcode_funct5}
+use Rattle.spec_processor.specs.Instructions.{rows}
+use Rattle.laws_processor.proofs.Decoding.{missing, mask_opcode_funct5}
 use Rattle.rv64_decode.proofs.FoundRows.{row_reserved}
 use Rattle.std.specs.Prelude.{◌+◌, ◌*◌, ◌^◌}
 use Rattle.rv64_decode.proofs.memory.load_reserved.Goals as goal

@@ -1,9 +1,9 @@
 use Rattle.std.proofs.Common.{sym, ◌∙◌, refl, arith, [], ◌∷◌}
-use Rattle.processor.specs.Instructions.{rows}
-use Rattle.processor_laws.proofs.Decoding.{missing, mask_funct3, mask_funct7}
+use Rattle.spec_processor.specs.Instructions.{rows}
+use Rattle.laws_processor.proofs.Decoding.{missing, mask_funct3, mask_funct7}
 use Rattle.rv64_decode.proofs.FoundRows.{row_no_rd}
 use Rattle.std.specs.Prelude.{◌+◌, ◌*◌, ◌^◌}
-use Rattle.processor.specs.declared.instruction.HyperOp.TheVariants as Hyper
+use Rattle.spec_processor.specs.declared.instruction.HyperOp.TheVariants as Hyper
 use Rattle.rv64_decode.proofs.system.hyper.Goals as goal
 
 pub returns-in-49 : goal.returns-in-49

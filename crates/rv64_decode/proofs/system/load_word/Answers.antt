@@ -1,10 +1,10 @@
 use Rattle.std.proofs.Common.{sym, ◌∙◌, refl, arith, [], ◌∷◌}
-use Rattle.processor.specs.Instructions as table
-use Rattle.processor.specs.Instructions.{rows}
-use Rattle.processor_laws.proofs.Decoding.{missing, mask_funct7}
+use Rattle.spec_processor.specs.Instructions as table
+use Rattle.spec_processor.specs.Instructions.{rows}
+use Rattle.laws_processor.proofs.Decoding.{missing, mask_funct7}
 use Rattle.rv64_decode.proofs.FoundRows.{row_funct7_rs2}
 use Rattle.std.specs.Prelude.{◌+◌, ◌*◌, ◌^◌}
-use Rattle.processor.specs.declared.instruction.HyperOp.TheVariants as Hyper
+use Rattle.spec_processor.specs.declared.instruction.HyperOp.TheVariants as Hyper
 use Rattle.rv64_decode.proofs.system.load_word.Goals as goal
 use Rattle.rv64_decode.proofs.system.load_word.Goals.{in-0, in-1, in-3}
 

@@ -1,8 +1,8 @@
 use Rattle.std.proofs.Common.{refl, arith}
-use Rattle.processor.specs.Instructions as table
-use Rattle.processor.specs.Instructions.{rows}
+use Rattle.spec_processor.specs.Instructions as table
+use Rattle.spec_processor.specs.Instructions.{rows}
 use Rattle.rv64_decode.proofs.FoundRows.{row_whole}
-use Rattle.processor.specs.declared.instruction.Instr.TheVariants as Instr
+use Rattle.spec_processor.specs.declared.instruction.Instr.TheVariants as Instr
 use Rattle.rv64_decode.proofs.system.privileged.Goals as goal
 
 pub returns-in-115 : goal.returns-in-115

@@ -1,10 +1,10 @@
 use Rattle.std.proofs.Common.{ℕ, sym, ◌∙◌, refl, arith, [], ◌∷◌}
-use Rattle.processor.specs.Instructions as table
-use Rattle.processor.specs.Instructions.{rows}
-use Rattle.processor_laws.proofs.Decoding.{missing, missing_either, mask_funct3}
+use Rattle.spec_processor.specs.Instructions as table
+use Rattle.spec_processor.specs.Instructions.{rows}
+use Rattle.laws_processor.proofs.Decoding.{missing, missing_either, mask_funct3}
 use Rattle.rv64_decode.proofs.FoundRows.{row_funct7_no_rd}
 use Rattle.std.specs.Prelude.{◌+◌, ◌*◌, ◌^◌}
-use Rattle.processor.specs.declared.instruction.HyperOp.TheVariants as Hyper
+use Rattle.spec_processor.specs.declared.instruction.HyperOp.TheVariants as Hyper
 use Rattle.rv64_decode.proofs.system.translation_fence.Goals as goal
 
 pub returns-then-rd-ne0 : goal.returns-then-rd-ne0

@@ -1,9 +1,9 @@
 -- The field of 12 bits of a computation with an immediate: one of immediate and count is 0.
 use Rattle.std.proofs.Common.{◌≡◌, subst, true, rules, FitsSigned, w64}
 use Rattle.std.proofs.lemmas.Int.{to_z-of_z}
-use Rattle.processor.specs.declared.instruction.Instr.{Instr}
-use Rattle.processor.specs.Encoding.{fits}
-use Rattle.processor_laws.proofs.WordDecodes.{field-below, field_32-below}
+use Rattle.spec_processor.specs.declared.instruction.Instr.{Instr}
+use Rattle.spec_processor.specs.Encoding.{fits}
+use Rattle.laws_processor.proofs.WordDecodes.{field-below, field_32-below}
 use Rattle.rv64_encode.proofs.words.word.Goals as goal
 
 pub i_word-requires-in-OpImm-clause-field : goal.i_word-requires-in-OpImm-clause-field

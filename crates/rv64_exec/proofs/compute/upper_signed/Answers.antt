@@ -1,5 +1,5 @@
 use Rattle.std.proofs.Common.{ap, ℕ, ◌/◌, ◌^◌, rules, FitsSigned, w64}
-use Rattle.processor.specs.Effects as table
+use Rattle.spec_processor.specs.Effects as table
 use Rattle.rv64_exec.proofs.WordLemmas.{wide_product}
 use Rattle.rv64_exec.proofs.compute.upper_signed.Goals as goal
 

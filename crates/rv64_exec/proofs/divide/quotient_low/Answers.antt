@@ -1,7 +1,7 @@
 use Rattle.std.proofs.Common.{◌≡◌, ap, ◌∙◌, rules, FitsSigned, w32, false}
 use Rattle.std.specs.Prelude.{◌==◌}
 use Rattle.std.proofs.lemmas.Bool.{ne_eqb}
-use Rattle.processor.specs.Effects as table
+use Rattle.spec_processor.specs.Effects as table
 use Rattle.rv64_exec.proofs.WordLemmas.{low_quotient}
 use Rattle.rv64_exec.proofs.divide.quotient_low.Goals as goal
 

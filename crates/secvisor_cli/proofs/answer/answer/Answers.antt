@@ -1,5 +1,5 @@
 use Rattle.std.proofs.Common.{arith}
-use Rattle.command_plans.proofs.PlanLemmas.{follows_keeps}
+use Rattle.cli_plans.proofs.PlanLemmas.{follows_keeps}
 use Rattle.secvisor_cli.proofs.TopLemmas.{performs, may_carry_out, ready_answers, refused_answers, wanting_answers}
 use Rattle.secvisor_cli.proofs.answer.answer.Goals as goal
 

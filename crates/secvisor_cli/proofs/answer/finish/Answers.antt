@@ -5,9 +5,9 @@ use Rattle.sv_types.specs.declared.event.Verdict.{Verdict}
 use Rattle.sv_types.specs.declared.status.Status.{Status}
 use Rattle.secvisor_cli.specs.Answers.{is_answer}
 use Rattle.secvisor_cli.proofs.EndLemmas.{run_is_answer}
-use Rattle.reference.specs.Report.{report}
+use Rattle.spec_reference.specs.Report.{report}
 use Rattle.report.specs.Journals.{journal_with}
-use Rattle.outside.proofs.SinkLemmas.{prefix_whole}
+use Rattle.host_io.proofs.SinkLemmas.{prefix_whole}
 use Rattle.secvisor_cli.proofs.EndLemmas.{finish_broke, finish_whole}
 use Rattle.secvisor_cli.proofs.answer.finish.Goals as goal
 

@@ -1,12 +1,12 @@
 use Rattle.std.proofs.Common.{◌∙◌, map, string_bytes}
 use Rattle.secvisor_cli.specs.declared.ready.Stop.TheVariants.{Refused, Memory}
-use Rattle.command_plans.specs.CommandLine.{judgement_of_words}
-use Rattle.command_plans.specs.Words.{command_of}
-use Rattle.command_plans.specs.Plans.{plan_of}
+use Rattle.cli_plans.specs.CommandLine.{judgement_of_words}
+use Rattle.cli_plans.specs.Words.{command_of}
+use Rattle.cli_plans.specs.Plans.{plan_of}
 use Rattle.secvisor_cli.specs.Ready.{Prepares}
 use Rattle.secvisor_cli.proofs.ReadyLemmas.{err_by}
 use Rattle.secvisor_cli.proofs.StageLemmas.{words_refused, words_want, words_may, words_ready}
-use Rattle.command_plans.proofs.WordLemmas.{has_command, has_module_names, judged_by_name}
+use Rattle.cli_plans.proofs.WordLemmas.{has_command, has_module_names, judged_by_name}
 use Rattle.secvisor_cli.proofs.answer.prepare.Goals as goal
 
 pub returns-in_err-judge : goal.returns-in_err-judge

@@ -1,8 +1,8 @@
 use Rattle.std.proofs.Common.{subst, sym}
-use Rattle.command_plans.specs.declared.words.Command.{Command as Asked}
-use Rattle.command_plans.specs.Words.{command_of}
-use Rattle.command_plans.specs.Plans.{command_plan, gen_plan, gen_due}
-use Rattle.command_plans.specs.Reading.{MayFollow}
+use Rattle.cli_plans.specs.declared.words.Command.{Command as Asked}
+use Rattle.cli_plans.specs.Words.{command_of}
+use Rattle.cli_plans.specs.Plans.{command_plan, gen_plan, gen_due}
+use Rattle.cli_plans.specs.Reading.{MayFollow}
 use Rattle.secvisor_cli.specs.Ready.{Prepares}
 use Rattle.secvisor_cli.proofs.ReadyLemmas.{judge_end}
 use Rattle.secvisor_cli.proofs.answer.prepare_command.Goals as goal

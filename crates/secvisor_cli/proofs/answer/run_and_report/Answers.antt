@@ -1,6 +1,6 @@
 use Rattle.std.proofs.Common.{rules, Result, Ok, Err, OnOk}
 use Rattle.sv_types.specs.declared.status.Status.{Status}
-use Rattle.outside.specs.declared.trouble.Trouble.{Trouble}
+use Rattle.host_io.specs.declared.trouble.Trouble.{Trouble}
 use Rattle.machine.proofs.Standing.{stands_disk}
 use Rattle.secvisor_cli.proofs.EndLemmas.{broke_prefix, broke_reaches, ran_writes, ran_reaches}
 use Rattle.secvisor_cli.proofs.answer.run_and_report.Goals as goal

@@ -1,8 +1,8 @@
 use Rattle.std.proofs.Common.{ℕ, List, sym, subst}
 use Rattle.std.specs.Option.{option_copied}
 use Rattle.sv_types.specs.Schedule.{first_events}
-use Rattle.command_plans.specs.Plans.{saving_of_bytes}
-use Rattle.command_plans.specs.Reading.{MaySave}
+use Rattle.cli_plans.specs.Plans.{saving_of_bytes}
+use Rattle.cli_plans.specs.Reading.{MaySave}
 use Rattle.secvisor_cli.specs.Answers.{RunsAndSaves}
 use Rattle.secvisor_cli.proofs.ReadyLemmas.{err_by}
 use Rattle.secvisor_cli.proofs.SaveLemmas.{run_not_saved, run_saved, run_broke}

@@ -1,5 +1,5 @@
 use Rattle.std.proofs.Common.{◌∙◌, sym, map, string_bytes}
-use Rattle.command_plans.specs.CommandLine.{judgement_of_words}
+use Rattle.cli_plans.specs.CommandLine.{judgement_of_words}
 use Rattle.secvisor_cli.proofs.TopLemmas.{effect, headline, headline_writes, performs_fault, unread}
 use Rattle.secvisor_cli.proofs.answer.secvisor.Goals as goal
 

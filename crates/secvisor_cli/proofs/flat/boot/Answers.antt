@@ -1,7 +1,7 @@
 use Rattle.std.proofs.Common.{◌≡◌, Ok, None, refl, ap}
 use Rattle.sv_types.specs.Schedule.{Schedule, first_events}
 use Rattle.secvisor_cli.specs.declared.ready.Ready.TheVariants.{Run}
-use Rattle.command_plans.specs.Plans.{flat_events, measure_judged}
+use Rattle.cli_plans.specs.Plans.{flat_events, measure_judged}
 use Rattle.secvisor_cli.specs.Ready.{IsReady, IsFresh, stop_of}
 use Rattle.secvisor_cli.proofs.ReadyLemmas.{err_by, booted_ready, stopped_boot, fresh_flat}
 use Rattle.secvisor_cli.proofs.flat.boot.Goals as goal

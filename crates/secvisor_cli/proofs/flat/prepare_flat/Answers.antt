@@ -1,5 +1,5 @@
 use Rattle.std.proofs.Common.{◌≡◌, ℕ, subst, sym, ◌∙◌, List, true, false}
-use Rattle.command_plans.specs.Plans.{flat_plan, flat_events, is_whole_pages, measure_judged}
+use Rattle.cli_plans.specs.Plans.{flat_plan, flat_events, is_whole_pages, measure_judged}
 use Rattle.secvisor_cli.specs.Ready.{IsReady, Prepares}
 use Rattle.secvisor_cli.proofs.ReadyLemmas.{err_by, stopped_ready, read_ready, judge_end, pages_ready, part_of_pages}
 use Rattle.secvisor_cli.proofs.flat.prepare_flat.Goals as goal

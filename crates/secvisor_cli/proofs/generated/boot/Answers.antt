@@ -1,7 +1,7 @@
 use Rattle.std.proofs.Common.{◌∙◌, ◌%◌, ℕ, List, length, ap, subst}
 use Rattle.sv_types.specs.Policies.{rules_of}
-use Rattle.reference.specs.Start.{boot_start}
-use Rattle.machine_model.specs.Reaches.{IsNew}
+use Rattle.spec_reference.specs.Start.{boot_start}
+use Rattle.spec_hardware.specs.Reaches.{IsNew}
 use Rattle.secvisor_cli.proofs.ReadyLemmas.{disk_sectors}
 use Rattle.secvisor_cli.proofs.generated.boot.Goals as goal
 

@@ -1,5 +1,5 @@
 use Rattle.std.proofs.Common.{◌≡◌, ◌-◌, ◌++◌}
-use Rattle.command_plans.specs.Plans.{gen_disk}
+use Rattle.cli_plans.specs.Plans.{gen_disk}
 use Rattle.secvisor_cli.proofs.ReadyLemmas.{bytes_from}
 use Rattle.secvisor_cli.proofs.generated.disk.Given as goal
 

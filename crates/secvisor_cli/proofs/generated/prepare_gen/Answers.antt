@@ -3,9 +3,9 @@ use Rattle.sv_types.specs.Policies.{Rules, rules_of}
 use Rattle.guest_gen.specs.Booting.{IsBootable}
 use Rattle.guest_gen.specs.Generated.{generated_policy, generated_image}
 use Rattle.guest_gen.proofs.Boots.{bootable}
-use Rattle.reference.specs.Start.{boot_start}
-use Rattle.machine_model.specs.Reaches.{IsNew}
-use Rattle.command_plans.specs.Plans.{gen_due, gen_disk}
+use Rattle.spec_reference.specs.Start.{boot_start}
+use Rattle.spec_hardware.specs.Reaches.{IsNew}
+use Rattle.cli_plans.specs.Plans.{gen_due, gen_disk}
 use Rattle.secvisor_cli.specs.Ready.{IsReady}
 use Rattle.secvisor_cli.specs.declared.ready.Stop.TheVariants.{Memory}
 use Rattle.secvisor_cli.proofs.ReadyLemmas.{err_by, gen_ready, gen_wants}

@@ -2,9 +2,9 @@ use Rattle.std.proofs.Common.{refl, sym, ◌∙◌, ap, Ok}
 use Rattle.sv_types.specs.Policies.{Rules, rules_of}
 use Rattle.sv_types.specs.Schedule.{Schedule, first_events}
 use Rattle.secvisor_cli.specs.declared.ready.Ready.TheVariants.{Run}
-use Rattle.command_plans.specs.Plans.{kernel_part, boot_plan}
+use Rattle.cli_plans.specs.Plans.{kernel_part, boot_plan}
 use Rattle.secvisor_cli.specs.Ready.{Prepares, IsFresh, stop_of}
-use Rattle.command_plans.specs.Words.{run_value}
+use Rattle.cli_plans.specs.Words.{run_value}
 use Rattle.secvisor_cli.proofs.ReadyLemmas.{err_by, boot_rules, fresh_with}
 use Rattle.secvisor_cli.proofs.StageLemmas.{kernel_stopped, disk_may, script_may, disk_stopped, script_stopped, script_ready, image_booted, boot_stopped}
 use Rattle.secvisor_cli.proofs.image_run.boot_file.Goals as goal

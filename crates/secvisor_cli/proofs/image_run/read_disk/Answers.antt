@@ -1,11 +1,11 @@
 use Rattle.std.proofs.Common.{◌≡◌, ◌==◌, ◌%◌, List, ℕ, length, true, false, Option, Some, Err, Vec, Global, subst, sym, ◌∙◌}
 use Rattle.std.specs.Borrow.{Bor}
 use Rattle.std.specs.Option.{option_copied}
-use Rattle.command_plans.specs.declared.file_fault.FileFault.{FileFault}
-use Rattle.command_plans.specs.declared.refusal.Refusal.TheVariants.{File}
+use Rattle.cli_plans.specs.declared.file_fault.FileFault.{FileFault}
+use Rattle.cli_plans.specs.declared.refusal.Refusal.TheVariants.{File}
 use Rattle.secvisor_cli.specs.declared.ready.Stop.TheVariants.{Refused}
-use Rattle.command_plans.specs.Plans.{disk_part}
-use Rattle.command_plans.specs.Reading.{MayFollow}
+use Rattle.cli_plans.specs.Plans.{disk_part}
+use Rattle.cli_plans.specs.Reading.{MayFollow}
 use Rattle.secvisor_cli.specs.Ready.{Passes, Prepares, Staged}
 use Rattle.secvisor_cli.proofs.ReadyLemmas.{err_by}
 use Rattle.secvisor_cli.proofs.StageLemmas.{no_disk, disk_read, disk_refused, disk_unread, disk_asked}

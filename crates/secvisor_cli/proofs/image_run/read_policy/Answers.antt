@@ -2,7 +2,7 @@ use Rattle.std.proofs.Common.{List, ℕ, subst}
 use Rattle.sv_types.specs.declared.policy.Policy.{Policy}
 use Rattle.sv_types.specs.Policies.{rules_of}
 use Rattle.policy.specs.Text.{rules_of_text}
-use Rattle.command_plans.specs.Plans.{policy_part}
+use Rattle.cli_plans.specs.Plans.{policy_part}
 use Rattle.secvisor_cli.specs.Ready.{Staged, IsPolicy}
 use Rattle.secvisor_cli.proofs.ReadyLemmas.{err_by}
 use Rattle.secvisor_cli.proofs.StageLemmas.{policy_unread, policy_staged}

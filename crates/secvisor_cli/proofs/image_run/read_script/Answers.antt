@@ -1,9 +1,9 @@
 use Rattle.std.proofs.Common.{subst, sym}
 use Rattle.sv_types.specs.Schedule.{Schedule}
-use Rattle.command_plans.specs.declared.words.Source.{Source as Named}
-use Rattle.command_plans.specs.Plans.{script_part}
+use Rattle.cli_plans.specs.declared.words.Source.{Source as Named}
+use Rattle.cli_plans.specs.Plans.{script_part}
 use Rattle.secvisor_cli.specs.Ready.{Passes, Staged, MayStage}
-use Rattle.command_plans.specs.Words.{source_value}
+use Rattle.cli_plans.specs.Words.{source_value}
 use Rattle.secvisor_cli.proofs.StageLemmas.{rounds_pass, auto_pass, bursts_pass, text_may, text_source}
 use Rattle.secvisor_cli.proofs.image_run.read_script.Goals as goal
 

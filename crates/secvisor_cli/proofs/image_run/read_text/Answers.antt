@@ -1,6 +1,6 @@
 use Rattle.std.proofs.Common.{List, ℕ, subst}
 use Rattle.sv_types.specs.Schedule.{Schedule}
-use Rattle.command_plans.specs.Plans.{text_part}
+use Rattle.cli_plans.specs.Plans.{text_part}
 use Rattle.secvisor_cli.specs.Ready.{Staged, IsScript}
 use Rattle.secvisor_cli.proofs.ReadyLemmas.{err_by}
 use Rattle.secvisor_cli.proofs.StageLemmas.{text_unread, text_staged}

@@ -6,11 +6,11 @@ use Rattle.policy_making.specs.Refusals.{Judged, Refuses}
 use Rattle.policy_making.specs.WordRanges.{are_module_names}
 use Rattle.policy_making.specs.declared.object_file.ObjectFile.{ObjectFile}
 use Rattle.secvisor_cli.specs.declared.ready.Stop.TheVariants.{Memory}
-use Rattle.command_plans.specs.Plans.{making_plan}
+use Rattle.cli_plans.specs.Plans.{making_plan}
 use Rattle.secvisor_cli.specs.Ready.{Prepares, stop_of_making, kernel_value, modules_value}
-use Rattle.command_plans.specs.Words.{policy_value}
+use Rattle.cli_plans.specs.Words.{policy_value}
 use Rattle.secvisor_cli.proofs.ReadyLemmas.{err_by}
-use Rattle.secvisor_cli.proofs.MakingLemmas.{making_stops, making_wants, making_ready, behind_same}
+use Rattle.secvisor_cli.proofs.MakingLemmas.{making_stops, making_wants, making_ready, after_same}
 use Rattle.secvisor_cli.proofs.making.make_ready.Goals as goal
 
 pub returns-in_err-settings : goal.returns-in_err-settings
@@ -25,7 +25,7 @@ returns-in_err-policy g c = λ files.
     c.from_residual-in_err-policy.ensures.1
     (making_stops (policy_value c.args.asked.now) (kernel_value c.args.kernel.now) (modules_value c.args.modules.now) files c.in_err-policy.field-0.0
     (subst (λ (j : Judged Rules). Refuses j c.in_err-policy.field-0.0)
-    (behind_same _ _ _ _ _ _ _ _ _ c.in_ok-settings.ensures c.deref.ensures.value c.deref-2.ensures.value c.deref-3.ensures.value) c.in_err-policy.ensures.refused))
+    (after_same _ _ _ _ _ _ _ _ _ c.in_ok-settings.ensures c.deref.ensures.value c.deref-2.ensures.value c.deref-3.ensures.value) c.in_err-policy.ensures.refused))
 
 pub measured_policy-requires : goal.measured_policy-requires
 measured_policy-requires g c = record {
@@ -42,4 +42,4 @@ returns-in_err-made g c = λ files.
 pub returns : goal.returns
 returns g c = λ files.
     making_ready (policy_value c.args.asked.now) (kernel_value c.args.kernel.now) (modules_value c.args.modules.now) files (rules_of c.in_ok-policy.policy) c.in_ok-made.made
-    (sym (behind_same _ _ _ _ _ _ _ _ _ c.in_ok-settings.ensures c.deref.ensures.value c.deref-2.ensures.value c.deref-3.ensures.value) ∙ c.in_ok-policy.ensures.policy) c.in_ok-made.ensures
+    (sym (after_same _ _ _ _ _ _ _ _ _ c.in_ok-settings.ensures c.deref.ensures.value c.deref-2.ensures.value c.deref-3.ensures.value) ∙ c.in_ok-policy.ensures.policy) c.in_ok-made.ensures

@@ -1,8 +1,8 @@
 use Rattle.std.specs.List.{list_all}
 use Rattle.policy_making.specs.WordRanges.{are_module_names}
-use Rattle.command_plans.specs.Plans.{digest_part, modules_part, no_modules, making_plan, measure_plan, Kernel}
+use Rattle.cli_plans.specs.Plans.{digest_part, modules_part, no_modules, making_plan, measure_plan, Kernel}
 use Rattle.secvisor_cli.specs.Ready.{Prepares, Passes, MayStage, kernel_value, modules_value}
-use Rattle.command_plans.specs.Words.{policy_value}
+use Rattle.cli_plans.specs.Words.{policy_value}
 use Rattle.std.proofs.Common.{List, ℕ, IsTrue, map, subst, sym, ap, ◌∙◌, Bor, Err}
 use Rattle.secvisor_cli.proofs.ReadyLemmas.{err_by}
 use Rattle.secvisor_cli.proofs.StageLemmas.{pass_ready}

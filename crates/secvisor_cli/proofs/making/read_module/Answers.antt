@@ -4,7 +4,7 @@ use Rattle.policy_making.specs.Making.{ModuleFile, file_names, file_of, names_wi
 use Rattle.policy_making.specs.Refusals.{Refuses}
 use Rattle.secvisor_cli.specs.declared.ready.Stop.{Stop}
 use Rattle.secvisor_cli.specs.declared.ready.Stop.TheVariants.{Memory}
-use Rattle.command_plans.specs.Plans.{Plan, Modules, module_part}
+use Rattle.cli_plans.specs.Plans.{Plan, Modules, module_part}
 use Rattle.secvisor_cli.specs.Ready.{Prepares, Passes, stop_of_making, modules_value}
 use Rattle.secvisor_cli.proofs.ReadyLemmas.{err_by}
 use Rattle.secvisor_cli.proofs.MakingLemmas.{module_asked, module_passes, module_stops, module_wants, module_unread, files_with}

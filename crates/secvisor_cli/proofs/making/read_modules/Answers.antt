@@ -3,7 +3,7 @@ use Rattle.std.proofs.lemmas.Grind.{common_steps}
 use Rattle.std.proofs.lemmas.List.{append-nil, at_drop_all}
 use Rattle.policy_making.specs.Making.{file_names}
 use Rattle.secvisor_cli.specs.declared.making.WantingModules.{WantingModules}
-use Rattle.command_plans.specs.Plans.{modules_part, no_modules}
+use Rattle.cli_plans.specs.Plans.{modules_part, no_modules}
 use Rattle.secvisor_cli.specs.Ready.{Staged, modules_value}
 use Rattle.secvisor_cli.proofs.ReadyLemmas.{err_by}
 use Rattle.secvisor_cli.proofs.MakingLemmas.{GoesOn, module_ends, module_more}

@@ -1,6 +1,6 @@
 use Rattle.std.proofs.Common.{◌≡◌, ◌++◌, List, ℕ, Bor, drop, map}
 use Rattle.policy_making.specs.Making.{file_names}
-use Rattle.command_plans.specs.Plans.{modules_part, no_modules}
+use Rattle.cli_plans.specs.Plans.{modules_part, no_modules}
 use Rattle.secvisor_cli.specs.Ready.{modules_value}
 use Rattle.secvisor_cli.proofs.MakingLemmas.{GoesOn}
 use Rattle.secvisor_cli.proofs.making.read_modules.Given as goal

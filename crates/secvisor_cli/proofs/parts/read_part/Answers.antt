@@ -1,7 +1,7 @@
 use Rattle.std.proofs.Common.{refl, subst, Err}
-use Rattle.outside.specs.declared.FileRefusal.{FileRefusal}
-use Rattle.outside.specs.Outside.{ReadLeaves, ReadTells}
-use Rattle.command_plans.specs.Plans.{Longer}
+use Rattle.host_io.specs.declared.FileRefusal.{FileRefusal}
+use Rattle.host_io.specs.Outside.{ReadLeaves, ReadTells}
+use Rattle.cli_plans.specs.Plans.{Longer}
 use Rattle.secvisor_cli.proofs.parts.read_part.Goals as goal
 
 pub returns-in-Ok : goal.returns-in-Ok

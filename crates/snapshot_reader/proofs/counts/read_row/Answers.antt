@@ -1,7 +1,7 @@
 use Rattle.std.proofs.Common.{[], take, ◌∙◌}
 use Rattle.std.proofs.lemmas.List.{length-set}
-use Rattle.snapshot_form.specs.Forms.{all_taken}
-use Rattle.snapshot_form.specs.JournalForms.{count}
+use Rattle.snapshot_format.specs.Forms.{all_taken}
+use Rattle.snapshot_format.specs.JournalForms.{count}
 use Rattle.snapshot_reader.proofs.ReadLists.{gives_refusal, ends}
 use Rattle.snapshot_reader.proofs.ReadRows.{row_read, row_done}
 use Rattle.snapshot_reader.proofs.counts.read_row.Goals as goal

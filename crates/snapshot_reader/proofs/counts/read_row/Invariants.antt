@@ -1,6 +1,6 @@
 use Rattle.std.proofs.Common.{◌≡◌, [], length}
-use Rattle.snapshot_form.specs.Forms.{all_taken}
-use Rattle.snapshot_form.specs.JournalForms.{count}
+use Rattle.snapshot_format.specs.Forms.{all_taken}
+use Rattle.snapshot_format.specs.JournalForms.{count}
 use Rattle.snapshot_reader.proofs.ReadRows.{HasRow}
 use Rattle.snapshot_reader.proofs.counts.read_row.Given as goal
 

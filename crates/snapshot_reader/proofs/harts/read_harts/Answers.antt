@@ -1,7 +1,7 @@
 use Rattle.std.proofs.Common.{◌+◌, [], ap, ◌∙◌}
 use Rattle.std.proofs.lemmas.List.{length-append}
-use Rattle.snapshot_form.specs.Forms.{all_taken}
-use Rattle.snapshot_form.specs.HartForms.{hart, harts}
+use Rattle.snapshot_format.specs.Forms.{all_taken}
+use Rattle.snapshot_format.specs.HartForms.{hart, harts}
 use Rattle.snapshot_reader.proofs.ReadLists.{goes_on, ends, is_done, reads_refusal}
 use Rattle.snapshot_reader.proofs.harts.read_harts.Goals as goal
 

@@ -1,6 +1,6 @@
 use Rattle.std.proofs.Common.{◌≡◌, ◌-◌, [], length}
-use Rattle.snapshot_form.specs.Forms.{all_taken}
-use Rattle.snapshot_form.specs.HartForms.{hart}
+use Rattle.snapshot_format.specs.Forms.{all_taken}
+use Rattle.snapshot_format.specs.HartForms.{hart}
 use Rattle.snapshot_reader.proofs.ReadLists.{with_front}
 use Rattle.snapshot_reader.proofs.harts.read_harts.Given as goal
 

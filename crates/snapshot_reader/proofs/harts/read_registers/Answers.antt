@@ -1,7 +1,7 @@
 use Rattle.std.proofs.Common.{◌+◌, [], ◌∙◌, arith}
 use Rattle.std.proofs.lemmas.List.{take-set-le, length-set}
-use Rattle.snapshot_form.specs.Forms.{all_taken, number}
-use Rattle.snapshot_form.specs.HartForms.{registers}
+use Rattle.snapshot_format.specs.Forms.{all_taken, number}
+use Rattle.snapshot_format.specs.HartForms.{registers}
 use Rattle.snapshot_reader.proofs.ReadLists.{gives_refusal, ends}
 use Rattle.snapshot_reader.proofs.ReadRegisters.{registers_up_to, register_read, registers_done}
 use Rattle.snapshot_reader.proofs.harts.read_registers.Goals as goal

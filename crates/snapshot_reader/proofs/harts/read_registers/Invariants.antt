@@ -1,5 +1,5 @@
 use Rattle.std.proofs.Common.{◌≡◌, [], ◌∷◌, length, take}
-use Rattle.snapshot_form.specs.Forms.{all_taken, number}
+use Rattle.snapshot_format.specs.Forms.{all_taken, number}
 use Rattle.snapshot_reader.proofs.ReadRegisters.{HasRead}
 use Rattle.snapshot_reader.proofs.harts.read_registers.Given as goal
 

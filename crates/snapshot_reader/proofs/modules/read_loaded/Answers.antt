@@ -1,6 +1,6 @@
 use Rattle.std.proofs.Common.{[]}
-use Rattle.snapshot_form.specs.Forms.{all_taken}
-use Rattle.snapshot_form.specs.PageForms.{next_module}
+use Rattle.snapshot_format.specs.Forms.{all_taken}
+use Rattle.snapshot_format.specs.PageForms.{next_module}
 use Rattle.snapshot_reader.proofs.ReadLists.{goes_on, ends, is_done, reads_refusal}
 use Rattle.snapshot_reader.proofs.modules.read_loaded.Goals as goal
 

@@ -1,6 +1,6 @@
 use Rattle.std.proofs.Common.{◌≡◌, ◌-◌, []}
-use Rattle.snapshot_form.specs.Forms.{all_taken}
-use Rattle.snapshot_form.specs.PageForms.{next_module}
+use Rattle.snapshot_format.specs.Forms.{all_taken}
+use Rattle.snapshot_format.specs.PageForms.{next_module}
 use Rattle.snapshot_reader.proofs.ReadLists.{with_front}
 use Rattle.snapshot_reader.proofs.modules.read_loaded.Given as goal
 

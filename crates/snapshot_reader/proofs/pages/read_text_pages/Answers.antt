@@ -1,6 +1,6 @@
 use Rattle.std.proofs.Common.{[]}
-use Rattle.snapshot_form.specs.Forms.{all_taken}
-use Rattle.snapshot_form.specs.PageForms.{text_page}
+use Rattle.snapshot_format.specs.Forms.{all_taken}
+use Rattle.snapshot_format.specs.PageForms.{text_page}
 use Rattle.snapshot_reader.proofs.ReadLists.{goes_on, ends, is_done, reads_refusal}
 use Rattle.snapshot_reader.proofs.pages.read_text_pages.Goals as goal
 

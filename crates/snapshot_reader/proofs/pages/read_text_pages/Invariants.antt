@@ -1,6 +1,6 @@
 use Rattle.std.proofs.Common.{◌≡◌, ◌-◌, []}
-use Rattle.snapshot_form.specs.Forms.{all_taken}
-use Rattle.snapshot_form.specs.PageForms.{text_page}
+use Rattle.snapshot_format.specs.Forms.{all_taken}
+use Rattle.snapshot_format.specs.PageForms.{text_page}
 use Rattle.snapshot_reader.proofs.ReadLists.{with_front}
 use Rattle.snapshot_reader.proofs.pages.read_text_pages.Given as goal
 

@@ -1,9 +1,9 @@
 use Rattle.std.proofs.Common.{arith}
-use Rattle.snapshot_reader.proofs.WholeRead.{spelled, has, every}
+use Rattle.snapshot_reader.proofs.WholeRead.{encoded, has, every}
 use Rattle.snapshot_reader.proofs.whole.read.Goals as goal
 
-pub returns-clause-spelled : goal.returns-clause-spelled
-returns-clause-spelled c = spelled c.law_snapshot.ensures c.read_all.result c.args.bytes.now (λ i. omega (arith, c.type_inv.bytes i)) c.read_all.ensures
+pub returns-clause-encoded : goal.returns-clause-encoded
+returns-clause-encoded c = encoded c.law_snapshot.ensures c.read_all.result c.args.bytes.now (λ i. omega (arith, c.type_inv.bytes i)) c.read_all.ensures
 
 pub returns-clause-has : goal.returns-clause-has
 returns-clause-has c = has c.law_snapshot.ensures c.read_all.result c.args.bytes.now (λ i. omega (arith, c.type_inv.bytes i)) c.read_all.ensures

@@ -1,16 +1,16 @@
 use Rattle.std.proofs.Common.{get_or, refl, arith}
-use Rattle.processor.specs.Regions.{most_ram_pages}
-use Rattle.sv_types.specs.Limits.{fewest_ram_pages, most_harts}
+use Rattle.spec_processor.specs.Regions.{max_ram_pages}
+use Rattle.sv_types.specs.Limits.{min_ram_pages, max_harts}
 use Rattle.snapshot_reader.specs.Rows.{header_ranges}
 use Rattle.snapshot_reader.proofs.ReadLists.{gives_refusal}
 use Rattle.snapshot_reader.proofs.ReadRows.{header_by_row, row_within, is_no_more}
 use Rattle.snapshot_reader.proofs.whole.read_header_numbers.Goals as goal
 
 pub overflow_cast-result : goal.overflow_cast-result
-overflow_cast-result c = omega (arith, is_no_more (get_or c.in_ok-events.field-0-0 1 0) 1 most_harts (row_within header_ranges c.args.bytes.now c.in_ok-events.field-0-0 c.in_ok-events.rest.now (rw (c.from.ensures, c.from-2.ensures, c.from-3.ensures) at c.in_ok-events.ensures) 1 (omega arith)))
+overflow_cast-result c = omega (arith, is_no_more (get_or c.in_ok-events.field-0-0 1 0) 1 max_harts (row_within header_ranges c.args.bytes.now c.in_ok-events.field-0-0 c.in_ok-events.rest.now (rw (c.from.ensures, c.from-2.ensures, c.from-3.ensures) at c.in_ok-events.ensures) 1 (omega arith)))
 
 pub overflow_cast-result-2 : goal.overflow_cast-result-2
-overflow_cast-result-2 c = omega (arith, is_no_more (get_or c.in_ok-events.field-0-0 2 0) fewest_ram_pages most_ram_pages (row_within header_ranges c.args.bytes.now c.in_ok-events.field-0-0 c.in_ok-events.rest.now (rw (c.from.ensures, c.from-2.ensures, c.from-3.ensures) at c.in_ok-events.ensures) 2 (omega arith)))
+overflow_cast-result-2 c = omega (arith, is_no_more (get_or c.in_ok-events.field-0-0 2 0) min_ram_pages max_ram_pages (row_within header_ranges c.args.bytes.now c.in_ok-events.field-0-0 c.in_ok-events.rest.now (rw (c.from.ensures, c.from-2.ensures, c.from-3.ensures) at c.in_ok-events.ensures) 2 (omega arith)))
 
 pub returns-in_err-events-clause-numbers : goal.returns-in_err-events-clause-numbers
 returns-in_err-events-clause-numbers c =

@@ -1,11 +1,11 @@
 use Rattle.std.proofs.Common.{◌≡◌, ℕ, ◌++◌, [], take, true}
 use Rattle.std.specs.List.{list_all}
-use Rattle.snapshot_form.specs.Forms.{spell_all}
-use Rattle.snapshot_form.specs.HartForms.{hart}
-use Rattle.snapshot_form.specs.Typed.{is_typed_hart}
+use Rattle.snapshot_format.specs.Forms.{encode_all}
+use Rattle.snapshot_format.specs.HartForms.{hart}
+use Rattle.snapshot_format.specs.Typed.{is_typed_hart}
 use Rattle.snapshot_writer.proofs.harts.write_harts.Given as goal
 
 abbrev pub invariant-harts : goal.invariant-harts
 invariant-harts l =
-    ((ram_pages : ℕ) → l.out.items ≡ l.fn.out.items ++ spell_all (λ before. hart ram_pages) [] (take l.h-index l.saved))
+    ((ram_pages : ℕ) → l.out.items ≡ l.fn.out.items ++ encode_all (λ before. hart ram_pages) [] (take l.h-index l.saved))
     × (list_all is_typed_hart (take l.h-index l.saved) ≡ true)

@@ -1,8 +1,8 @@
 use Rattle.std.proofs.Common.{length, arith}
 use Rattle.std.specs.Prelude.{◌==◌}
 use Rattle.std.proofs.lemmas.Bool.{eq-eqb}
-use Rattle.snapshot_form.specs.Typed.{are_words}
-use Rattle.snapshot_form.proofs.FormLaws.{both_true}
+use Rattle.snapshot_format.specs.Typed.{are_words}
+use Rattle.snapshot_format.proofs.FormLaws.{both_true}
 use Rattle.snapshot_writer.proofs.WrittenLists.{words_in}
 use Rattle.snapshot_writer.proofs.harts.write_registers.Goals as goal
 

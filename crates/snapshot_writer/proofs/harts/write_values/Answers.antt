@@ -1,5 +1,5 @@
-use Rattle.snapshot_form.specs.Forms.{number}
-use Rattle.snapshot_form.specs.HartForms.{registers}
+use Rattle.snapshot_format.specs.Forms.{number}
+use Rattle.snapshot_format.specs.HartForms.{registers}
 use Rattle.snapshot_writer.proofs.WrittenLists.{nothing_yet, one_more, all_written}
 use Rattle.snapshot_writer.proofs.harts.write_values.Goals as goal
 

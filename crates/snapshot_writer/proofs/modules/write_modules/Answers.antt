@@ -1,7 +1,7 @@
 use Rattle.std.proofs.Common.{◌++◌, length, refl}
-use Rattle.snapshot_form.specs.Forms.{spell_number}
-use Rattle.snapshot_form.specs.PageForms.{modules, next_module}
-use Rattle.snapshot_form.specs.Typed.{is_typed_module}
+use Rattle.snapshot_format.specs.Forms.{encode_number}
+use Rattle.snapshot_format.specs.PageForms.{modules, next_module}
+use Rattle.snapshot_format.specs.Typed.{is_typed_module}
 use Rattle.snapshot_writer.proofs.WrittenLists.{nothing_yet, one_more, all_counted, one_more_typed, all_typed}
 use Rattle.snapshot_writer.proofs.modules.write_modules.Goals as goal
 
@@ -10,14 +10,14 @@ modules-init c = (rw (← c.in_ok-write_number.ensures) (nothing_yet next_module
 
 pub modules-preserved : goal.modules-preserved
 modules-preserved c = (
-  one_more _ next_module c.args.loaded.now c.modules.m-index (c.args.out.now.items ++ spell_number (length c.args.loaded.now))
-      c.modules.out.items _ c.modules-test.true c.modules.invariant.0 (c.in_ok-write_module.ensures.spelled _),
+  one_more _ next_module c.args.loaded.now c.modules.m-index (c.args.out.now.items ++ encode_number (length c.args.loaded.now))
+      c.modules.out.items _ c.modules-test.true c.modules.invariant.0 (c.in_ok-write_module.ensures.encoded _),
   one_more_typed _ is_typed_module c.args.loaded.now c.modules.m-index c.modules-test.true c.modules.invariant.1 c.in_ok-write_module.ensures.typed,
 )
 
-pub returns-clause-spelled : goal.returns-clause-spelled
+pub returns-clause-encoded : goal.returns-clause-encoded
 unfolding modules
-returns-clause-spelled c = all_counted next_module c.args.loaded.now c.modules.m-index c.args.out.now.items (spell_number (length c.args.loaded.now)) c.modules.out.items c.modules-test.false c.modules.invariant.0
+returns-clause-encoded c = all_counted next_module c.args.loaded.now c.modules.m-index c.args.out.now.items (encode_number (length c.args.loaded.now)) c.modules.out.items c.modules-test.false c.modules.invariant.0
 
 pub returns-clause-typed : goal.returns-clause-typed
 returns-clause-typed c = all_typed is_typed_module c.args.loaded.now c.modules.m-index c.modules-test.false c.modules.invariant.1

@@ -1,6 +1,6 @@
 use Rattle.std.proofs.Common.{◌≡◌, ◌∙◌, sym, ap, rules, Err}
-use Rattle.processor.specs.Translation.{first_stage}
-use Rattle.processor.specs.SecondStage.{two_stages, entry_through, place_through}
+use Rattle.spec_processor.specs.Translation.{first_stage}
+use Rattle.spec_processor.specs.GStage.{two_stages, entry_through, place_through}
 use Rattle.sv39_walk.specs.Regimes.{settings_of}
 use Rattle.sv39_walk.proofs.Steps.{after_address, after_fault}
 use Rattle.sv39_walk.proofs.first_stage.translate_through.Goals as goal

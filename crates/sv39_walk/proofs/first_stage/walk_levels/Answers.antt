@@ -1,6 +1,6 @@
 use Rattle.std.proofs.Common.{◌≡◌, ◌+◌, ◌-◌, ◌*◌, ◌∙◌, suc, sym, ap, arith, rules}
-use Rattle.processor.specs.Translation.{permits_access}
-use Rattle.processor.specs.SecondStage.{entry_through}
+use Rattle.spec_processor.specs.Translation.{permits_access}
+use Rattle.spec_processor.specs.GStage.{entry_through}
 use Rattle.sv39_walk.specs.Levels.{guest_address}
 use Rattle.sv39_walk.specs.Regimes.{settings_of}
 use Rattle.sv39_walk.proofs.Steps.{first_at, walk_pointer, walk_ends, walk_unreadable, walk_over}

@@ -1,6 +1,6 @@
 use Rattle.std.proofs.Common.{◌≡◌}
-use Rattle.processor.specs.Translation.{walk, permits_access}
-use Rattle.processor.specs.SecondStage.{entry_through}
+use Rattle.spec_processor.specs.Translation.{walk, permits_access}
+use Rattle.spec_processor.specs.GStage.{entry_through}
 use Rattle.sv39_walk.specs.Levels.{indices_of, IsTable}
 use Rattle.sv39_walk.specs.Regimes.{settings_of}
 use Rattle.sv39_walk.specs.Passing.{Passed}
@@ -12,5 +12,5 @@ invariant-levels g l = record {
   table : IsTable l.table;
   same : walk (entry_through l.mem l.regime.hgatp) (permits_access (settings_of l.regime) l.regime.mode l.access) (indices_of 3 l.va) l.root l.va
       ≡ walk (entry_through l.mem l.regime.hgatp) (permits_access (settings_of l.regime) l.regime.mode l.access) (indices_of l.below l.va) l.table l.va;
-  passed : Passed g.S.SecondStage.serves g.S.SecondStage.walked l.mem l.regime.hgatp l.initial.second l.second;
+  passed : Passed g.S.GStage.serves g.S.GStage.walked l.mem l.regime.hgatp l.initial.second l.second;
 }

@@ -1,6 +1,6 @@
 use Rattle.std.proofs.Common.{◌≡◌, ◌-◌, ◌∙◌, ◌++◌, List, length, drop, replicate, ap}
 use Rattle.std.proofs.lemmas.List.{drop-replicate}
-use Rattle.reference.specs.VirtioChain.{no_part}
+use Rattle.spec_reference.specs.VirtioChain.{no_part}
 use Rattle.sv_types.specs.declared.virtio.VirtioPart.{VirtioPart}
 use Rattle.virtio_blk.proofs.accept.padded_parts.Goals as goal
 

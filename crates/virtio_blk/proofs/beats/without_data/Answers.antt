@@ -1,5 +1,5 @@
 use Rattle.std.proofs.Common.{ℕ, List, ap, arith}
-use Rattle.reference.specs.VirtioDevice.{Request}
+use Rattle.spec_reference.specs.VirtioDevice.{Request}
 use Rattle.sv_types.specs.declared.virtio.VirtioMove.{VirtioMove}
 use Rattle.virtio_blk.proofs.Places.{last_all, without_data_moves, without_data_placed}
 use Rattle.virtio_blk.proofs.beats.without_data.Goals as goal

@@ -1,8 +1,8 @@
 -- Each write leaves only bits that may stand.
 use Rattle.csr_file.proofs.csrs.Csrs.set.Goals as goal
-use Rattle.processor_laws.proofs.RegisterBits.{write_is_legal}
-use Rattle.processor.specs.HypervisorRegisters.{write_virtual}
-use Rattle.processor.specs.declared.csr.Csr.TheVariants as Csr
+use Rattle.laws_processor.proofs.RegisterBits.{write_is_legal}
+use Rattle.spec_processor.specs.HypervisorRegisters.{write_virtual}
+use Rattle.spec_processor.specs.declared.csr.Csr.TheVariants as Csr
 use Rattle.csr_file.specs.View.{registers_of}
 
 pub invariant_of-self : goal.invariant_of-self

@@ -1,7 +1,7 @@
 use Rattle.std.proofs.Common.{◌≡◌, ◌∙◌, ◌++◌, List, ℕ, sym, ap, map, arith, flat_map}
 use Rattle.sv_types.specs.Kernel.{text_of, text_page}
 use Rattle.sv_types.specs.ApprovedPages.{numbers_from}
-use Rattle.processor.specs.Regions.{most_ram_pages}
+use Rattle.spec_processor.specs.Regions.{max_ram_pages}
 use Rattle.elf64_load.specs.Images.{segment_of, segments_of}
 use Rattle.elf64_load.specs.declared.image.Segment.{Segment}
 use Rattle.elf64_load.proofs.Pages.{flat_map-more}
@@ -22,5 +22,5 @@ returns c =
     let end = c.pages.auto.page-end in
     let pages = c.in_ok-owners.ensures.pages in
     let same = c.deref-owner-items.ensures.len in
-    let all : c.pages.page ≡ most_ram_pages = omega arith in
+    let all : c.pages.page ≡ max_ram_pages = omega arith in
     c.pages.invariant ∙ ap (λ (n : ℕ). flat_map (text_page (segments_of c.args.self.now)) (numbers_from 0 n)) all

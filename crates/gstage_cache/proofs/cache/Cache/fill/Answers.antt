@@ -1,9 +1,9 @@
 use Rattle.std.proofs.Common.{◌∙◌, sym, ap, rules}
 use Rattle.std.specs.Prelude.{Option}
-use Rattle.processor.specs.CachedWalks.{LineAgrees}
-use Rattle.processor.specs.declared.cached.CacheLine.{CacheLine}
+use Rattle.spec_processor.specs.CachedWalks.{LineAgrees}
+use Rattle.spec_processor.specs.declared.cached.CacheLine.{CacheLine}
 use Rattle.sv39_walk.specs.Mappings.{mapping_answer}
-use Rattle.sv39_walk.specs.declared.second_stage.Mapping.{Mapping}
+use Rattle.sv39_walk.specs.declared.g_stage.Mapping.{Mapping}
 use Rattle.gstage_cache.proofs.Lines.{fill_agrees, kept_agrees, kept_filled, kept_held}
 use Rattle.gstage_cache.proofs.cache.Cache.fill.Goals as goal
 

@@ -1,6 +1,6 @@
 use Rattle.std.proofs.Common.{◌/◌, ◌%◌, ◌∙◌, sym}
-use Rattle.processor.specs.Bytes.{page_size}
-use Rattle.processor.specs.SecondStage.{walk_guest}
+use Rattle.spec_processor.specs.Bytes.{page_size}
+use Rattle.spec_processor.specs.GStage.{walk_guest}
 use Rattle.gstage_cache.proofs.Lines.{found_is, leads_there}
 use Rattle.gstage_cache.proofs.cache.Cache.held_place.Goals as goal
 

@@ -1,5 +1,5 @@
 use Rattle.std.proofs.Common.{◌/◌, ◌%◌, ◌∙◌, sym, refl, rules}
-use Rattle.processor.specs.Bytes.{page_size}
+use Rattle.spec_processor.specs.Bytes.{page_size}
 use Rattle.gstage_cache.specs.Fills.{nothing_filled}
 use Rattle.gstage_cache.proofs.Lines.{found_is}
 use Rattle.gstage_cache.proofs.cache.Cache.walk_counted.Goals as goal

@@ -5,4 +5,4 @@ use Rattle.machine.proofs.drawing.Drawing.count_down.Goals as goal
 pub returns-clause-left : goal.returns-clause-left
 returns-clause-left g c =
     let old = c.args.self.now in
-    in_two c.args.count old.row.count old.row.event (first_events old.undrawn (g.S.EventSource.schedule old.source)) c.requires
+    in_two c.args.count old.batch.count old.batch.event (first_events old.undrawn (g.S.EventSource.schedule old.source)) c.requires

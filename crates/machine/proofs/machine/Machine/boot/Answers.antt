@@ -1,13 +1,13 @@
 use Rattle.std.proofs.Common.{subst}
 use Rattle.std.specs.Prelude.{IfOk}
 use Rattle.sv_types.specs.Policies.{rules_of}
-use Rattle.reference.specs.Start.{image_start, boot_start}
-use Rattle.reference.specs.States.{Disk}
-use Rattle.machine_model.specs.Reaches.{IsNew}
+use Rattle.spec_reference.specs.Start.{image_start, boot_start}
+use Rattle.spec_reference.specs.States.{Disk}
+use Rattle.spec_hardware.specs.Reaches.{IsNew}
 use Rattle.machine.proofs.machine.Machine.boot.Goals as goal
 
 pub returns-clause-new : goal.returns-clause-new
 unfolding boot_start
 returns-clause-new g c = λ file is.
-    subst (λ (disk : Disk). IfOk c.boot_behind.result (λ m. IsNew m (image_start (rules_of c.args.policy) file disk))) c.block.ensures
-    (c.boot_behind.ensures.new file is)
+    subst (λ (disk : Disk). IfOk c.boot_after.result (λ m. IsNew m (image_start (rules_of c.args.policy) file disk))) c.block.ensures
+    (c.boot_after.ensures.new file is)

@@ -1,8 +1,8 @@
 use Rattle.std.proofs.Common.{◌≡◌, ◌<◌, sym, ap, subst, arith}
-use Rattle.machine_model.specs.Machine.{Machine}
-use Rattle.machine_model.specs.StandsFor.{StandsFor}
+use Rattle.spec_hardware.specs.Machine.{Machine}
+use Rattle.spec_hardware.specs.StandsFor.{StandsFor}
 use Rattle.machine.proofs.Stepped.{Bounded, cleared_stands, cleared_bounded}
-use Rattle.machine_parts.specs.Rows.{AreFreeWhere}
+use Rattle.machine_events.specs.Batches.{AreFreeWhere}
 use Rattle.machine.proofs.machine.Machine.clear_printed.Goals as goal
 
 pub clear_printed-requires : goal.clear_printed-requires

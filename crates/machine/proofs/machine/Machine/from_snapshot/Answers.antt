@@ -1,8 +1,8 @@
 use Rattle.std.proofs.Common.{◌∙◌, ap, subst}
 use Rattle.sv_types.specs.Policies.{rules_of}
-use Rattle.reference.specs.Start.{AreWords}
-use Rattle.machine_model.specs.Machine.{Machine}
-use Rattle.snapshot_form.specs.Snapshots.{contents}
+use Rattle.spec_reference.specs.Start.{AreWords}
+use Rattle.spec_hardware.specs.Machine.{Machine}
+use Rattle.snapshot_format.specs.Snapshots.{contents}
 use Rattle.machine.proofs.Resuming.{resumed_fit, resumed_journal}
 use Rattle.machine.proofs.machine.Machine.from_snapshot.Goals as goal
 

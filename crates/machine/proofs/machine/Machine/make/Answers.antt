@@ -1,15 +1,15 @@
 use Rattle.std.proofs.Common.{Bool, subst, sym, arith}
-use Rattle.reference.specs.Counting.{CountsAtMost}
-use Rattle.reference.specs.Run.{step}
-use Rattle.machine_model.specs.Machine.{Machine}
-use Rattle.machine_model.specs.StandsFor.{StandsFor}
-use Rattle.machine_model.specs.Steps.{IsStep}
+use Rattle.spec_reference.specs.Counting.{CountsAtMost}
+use Rattle.spec_reference.specs.Run.{step}
+use Rattle.spec_hardware.specs.Machine.{Machine}
+use Rattle.spec_hardware.specs.StandsFor.{StandsFor}
+use Rattle.spec_hardware.specs.Steps.{IsStep}
 use Rattle.machine.proofs.Addressed.{step_addressed}
 use Rattle.machine.proofs.Ready.{guarded, may_turn}
 use Rattle.machine.proofs.Repeated.{step_counts}
 use Rattle.machine.proofs.Reservations.{step_free}
 use Rattle.machine.proofs.Stepped.{step_bounded, step_happens, step_stands}
-use Rattle.machine_parts.specs.Rows.{AreFreeWhere}
+use Rattle.machine_events.specs.Batches.{AreFreeWhere}
 use Rattle.machine.proofs.machine.Machine.make.Goals as goal
 
 pub step-requires-clause-guarded : goal.step-requires-clause-guarded

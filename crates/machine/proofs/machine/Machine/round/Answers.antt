@@ -1,11 +1,11 @@
 use Rattle.std.proofs.Common.{◌-◌, arith, refl}
-use Rattle.machine.specs.Limits.{most_counts}
+use Rattle.machine.specs.Limits.{max_counts}
 use Rattle.machine.proofs.Repeated.{counts_within}
 use Rattle.machine.proofs.machine.Machine.round.Goals as goal
 
 pub make-requires-clause-counts : goal.make-requires-clause-counts
 make-requires-clause-counts c =
-    counts_within (most_counts - c.args.most) (most_counts - 1) c.args.self.now.journal.counts (omega (arith, c.requires.asked, c.requires.few)) c.requires.counts
+    counts_within (max_counts - c.args.most) (max_counts - 1) c.args.self.now.journal.counts (omega (arith, c.requires.asked, c.requires.few)) c.requires.counts
 
 pub returns : goal.returns
 returns c = record {

@@ -1,5 +1,5 @@
 use Rattle.std.proofs.Common.{◌+◌, ◌-◌, rules, arith}
-use Rattle.machine.specs.Limits.{most_counts}
+use Rattle.machine.specs.Limits.{max_counts}
 use Rattle.machine.proofs.Repeated.{counts_on, counts_within, repeats_on, repeats_stand}
 use Rattle.machine.proofs.machine.Machine.rounds.Goals as goal
 
@@ -8,9 +8,9 @@ round-made-requires c = record {
   asked = omega (arith, c.events-test.true);
   few = omega (arith, c.requires.few);
   room = search rules;
-  counts = counts_within (most_counts - c.args.count + c.events.made) (most_counts - (c.args.count - c.events.made)) c.events.self.journal.counts
+  counts = counts_within (max_counts - c.args.count + c.events.made) (max_counts - (c.args.count - c.events.made)) c.events.self.journal.counts
       (omega (arith, c.events-test.true, c.requires.few))
-      (c.events.invariant.counts (most_counts - c.args.count) c.requires.counts);
+      (c.events.invariant.counts (max_counts - c.args.count) c.requires.counts);
 }
 
 pub returns-then-printed-clause-stands : goal.returns-then-printed-clause-stands

@@ -1,6 +1,6 @@
 use Rattle.std.proofs.Common.{◌≡◌, ◌≤◌, ◌+◌, ◌-◌, ℕ, length}
 use Rattle.sv_types.specs.declared.event.Verdict.TheVariants.{Running}
-use Rattle.reference.specs.Counting.{CountsAtMost}
+use Rattle.spec_reference.specs.Counting.{CountsAtMost}
 use Rattle.machine.specs.Repeats.{Repeats}
 use Rattle.machine.proofs.machine.Machine.rounds.Given as goal
 

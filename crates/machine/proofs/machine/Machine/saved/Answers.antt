@@ -1,6 +1,6 @@
 use Rattle.std.proofs.Common.{subst}
 use Rattle.std.specs.Prelude.{IfOk}
-use Rattle.machine_model.specs.Machine.{Machine}
+use Rattle.spec_hardware.specs.Machine.{Machine}
 use Rattle.machine.proofs.Kept.{kept_states, machine_keepable}
 use Rattle.machine.specs.Keeping.{IsKept}
 use Rattle.machine.proofs.machine.Machine.saved.Goals as goal

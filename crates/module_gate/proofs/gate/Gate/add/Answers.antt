@@ -1,6 +1,6 @@
 use Rattle.std.proofs.Common.{rules, ◌≡◌, ◌≤◌, sym, subst, length, arith}
 use Rattle.std.specs.Prelude.{None, vec_len, vec_capacity}
-use Rattle.reference.specs.States.{find_module, with_module}
+use Rattle.spec_reference.specs.States.{find_module, with_module}
 use Rattle.module_gate.specs.Ascending.{AscendsFrom}
 use Rattle.module_gate.proofs.Lists.{ascends_with, few_modules, length_with}
 use Rattle.module_gate.proofs.gate.Gate.add.Goals as goal

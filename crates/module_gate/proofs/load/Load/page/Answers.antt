@@ -1,13 +1,13 @@
 use Rattle.std.proofs.Common.{rules, ◌≡◌, ◌&&◌, ◌+◌, ◌-◌, ◌*◌, ◌∙◌, sym, ap, subst, length, slice_get, arith, [], ◌∷◌, ◌++◌}
-use Rattle.processor.specs.Bytes.{page_size}
+use Rattle.spec_processor.specs.Bytes.{page_size}
 use Rattle.std.specs.Prelude.{All, Some}
 use Rattle.sv_types.specs.Measure.{page_digest}
 use Rattle.sv_types.specs.Policies.{rules_of, module_rule}
-use Rattle.reference.specs.Loads.{module_bases}
-use Rattle.reference.specs.Relocations.{masked_text, fields_right}
-use Rattle.reference.specs.States.{pages_in_rule}
-use Rattle.relocated_fields.specs.Pieces.{piece_sites, IsAligned}
-use Rattle.module_gate.specs.Gates.{PageTurns, host_load, next_counted}
+use Rattle.spec_reference.specs.Loads.{module_bases}
+use Rattle.spec_reference.specs.Relocations.{masked_text, fields_right}
+use Rattle.spec_reference.specs.States.{pages_in_rule}
+use Rattle.monitor_fields.specs.Pieces.{piece_sites, IsAligned}
+use Rattle.module_gate.specs.Gates.{PageTurns, hw_load, next_counted}
 use Rattle.module_gate.specs.InsideLoad.{turns_of}
 use Rattle.module_gate.proofs.ModuleRules.{aligned_sites}
 use Rattle.module_gate.proofs.PagesCounted.{counted_where}
@@ -30,7 +30,7 @@ returns-clause-counted c = λ hart.
     let law = rules_of c.args.policy.now in
     let rule = module_rule c.in-Some.rule.now in
     let inside = turns_of c.self.inside in
-    let load = host_load hart inside in
+    let load = hw_load hart inside in
     let bytes = c.args.bytes.now in
     let n = length c.self.inside.digests.items in
     let there : slice_get law.modules c.args.self.now.about.id ≡ Some rule = search rules in
@@ -41,7 +41,7 @@ returns-clause-counted c = λ hart.
     let digested : c.masked_digest-digest.result ≡ page_digest (masked_text bytes (piece_sites (page_size * n) page_size rule.sites)) = search rules in
     let judged : c.fields_right-right.result ≡ fields_right law.exports (module_bases c.self.inside.about) (piece_sites (page_size * n) (length bytes) rule.sites) bytes = search rules in
     let pushed : c.push_reserved.new.self.items ≡ c.self.inside.digests.items ++ c.masked_digest-digest.result ∷ [] = search rules in
-    subst (λ (t : PageTurns). host_load hart (record inside { left = c.self.inside.left - 1; digests = c.push_reserved.new.self.items; right = c.self.inside.right && c.fields_right-right.result }) ≡ next_counted law bytes (host_load hart t) (slice_get law.modules t.about.id))
+    subst (λ (t : PageTurns). hw_load hart (record inside { left = c.self.inside.left - 1; digests = c.push_reserved.new.self.items; right = c.self.inside.right && c.fields_right-right.result }) ≡ next_counted law bytes (hw_load hart t) (slice_get law.modules t.about.id))
     c.self.view_is
     (counted_where law rule load (slice_get law.modules c.self.inside.about.id) bytes n (length bytes) c.masked_digest-digest.result c.fields_right-right.result c.push_reserved.new.self.items
     there_inside number c.requires.page digested judged pushed)

@@ -4,7 +4,7 @@ use Rattle.sv_types.specs.ApprovedPages.{numbers_from}
 use Rattle.sv_types.specs.Protections.{is_free}
 use Rattle.page_guard.specs.Guarded.{first_taken}
 use Rattle.page_guard.proofs.Spans.{taken_by, found_at, none_more}
-use Rattle.reference.specs.Protections.{is_taken}
+use Rattle.spec_reference.specs.Protections.{is_taken}
 use Rattle.page_guard.proofs.guard.Guard.all_free.Goals as goal
 
 pub returns-then-not-is_free-clause-taken : goal.returns-then-not-is_free-clause-taken

@@ -1,7 +1,7 @@
 use Rattle.std.proofs.Common.{◌≡◌, not}
 use Rattle.std.specs.Prelude.{find, None}
 use Rattle.sv_types.specs.ApprovedPages.{numbers_from}
-use Rattle.reference.specs.Protections.{protection_at}
+use Rattle.spec_reference.specs.Protections.{protection_at}
 use Rattle.sv_types.specs.Protections.{is_free}
 use Rattle.page_guard.proofs.guard.Guard.all_free.Given as goal
 

@@ -1,5 +1,0 @@
-use Rattle.attempt_laws.proofs.Views.{two_stages_under_view}
-use Rattle.attempt_laws.proofs.translation.law_two_stages.Goals as goal
-
-pub returns : goal.returns
-returns c = two_stages_under_view

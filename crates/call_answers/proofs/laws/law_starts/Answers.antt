@@ -1,8 +1,0 @@
-use Rattle.call_answers.proofs.Starting.{module_starts, decision_starts}
-use Rattle.call_answers.proofs.laws.law_starts.Goals as goal
-
-pub returns-clause-calls : goal.returns-clause-calls
-returns-clause-calls c = module_starts
-
-pub returns-clause-loads : goal.returns-clause-loads
-returns-clause-loads c = decision_starts

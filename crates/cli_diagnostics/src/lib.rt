@@ -1,0 +1,15 @@
+//! What is known of a refused file beyond the line that refuses it, for a person: which file, which key of a policy, which
+//! relocation of a module, and the fault in words. It is worked out anew from the words of the command and its files, so
+//! that nothing that is proved of the program has to carry it; no clause speaks of it.
+#![tactic(auto)]
+
+mod command;
+mod converting;
+mod faults;
+mod files;
+mod making;
+mod resuming;
+mod running;
+
+pub use command::remark;
+pub use files::{MostBytes, Reread};

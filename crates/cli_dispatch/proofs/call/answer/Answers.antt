@@ -1,0 +1,38 @@
+use Rattle.std.proofs.Common.{refl, sym, ◌∙◌}
+use Rattle.cli_dispatch.specs.declared.choice.TopCall.TheVariants.{Live, Resume, Others}
+use Rattle.cli_dispatch.proofs.Owing.{owed_of}
+use Rattle.cli_dispatch.proofs.call.answer.Goals as goal
+
+pub returns-in-Live-clause-owed : goal.returns-in-Live-clause-owed
+returns-in-Live-clause-owed g c = owed_of Live _ _ _ _ _ (sym c.in-Live.is ∙ c.top_call_of.ensures)
+    (record {
+      headline = c.secvisor_live.ensures.headline;
+      replay = c.secvisor_live.ensures.replay;
+      read_fault = c.secvisor_live.ensures.read_fault;
+      unread = c.secvisor_live.ensures.unread;
+      unasked = c.secvisor_live.ensures.unasked;
+      held = c.secvisor_live.ensures.held;
+      unsaved = c.secvisor_live.ensures.unsaved;
+    })
+
+pub returns-in-Resume-clause-owed : goal.returns-in-Resume-clause-owed
+returns-in-Resume-clause-owed g c = owed_of Resume _ _ _ _ _ (sym c.in-Resume.is ∙ c.top_call_of.ensures)
+    (record {
+      headline = c.secvisor_resume.ensures.headline;
+      read_fault = c.secvisor_resume.ensures.read_fault;
+      unread = c.secvisor_resume.ensures.unread;
+      held = c.secvisor_resume.ensures.held;
+      unsaved = c.secvisor_resume.ensures.unsaved;
+      keys = refl;
+    })
+
+pub returns-in-Others-clause-owed : goal.returns-in-Others-clause-owed
+returns-in-Others-clause-owed g c = owed_of Others _ _ _ _ _ (sym c.in-Others.is ∙ c.top_call_of.ensures)
+    (record {
+      headline = c.secvisor.ensures.headline;
+      read_fault = c.secvisor.ensures.read_fault;
+      unread = c.secvisor.ensures.unread;
+      held = c.secvisor.ensures.held;
+      unsaved = c.secvisor.ensures.unsaved;
+      keys = refl;
+    })

@@ -1,0 +1,95 @@
+-- What may be asked of the outside and what is owed, by the call that the words ask for: what the command's own call asks and
+-- ensures. This project's own.
+use Rattle.std.specs.Prelude.{◌≡◌, ◌<◌, ◌⊎◌, ℕ, List, Bool, true, false, Option, Some, None, IsTrue}
+use Rattle.std.specs.Result.{is_ok}
+use Rattle.sv_types.specs.declared.status.Status.{Status}
+use Rattle.host_io.specs.Outside.{FilesState, MaySaveUnder}
+use Rattle.cli_plans.specs.CommandLine.{judgement_of_words}
+use Rattle.cli_plans.specs.Plans.{Plan, plan_of}
+use Rattle.cli_plans.specs.Reading.{MayFollow, IsNamed, SavesUnder}
+use Rattle.secvisor_cli.specs.Answers.{Outside, outside, Headline}
+use Rattle.cli_live.specs.LiveWords.{live_judged, live_plan}
+use Rattle.cli_live.specs.LiveReady.{out_of as script_name}
+use Rattle.cli_live.specs.LiveAnswers.{LiveOutside, LiveHeadline, is_refusal}
+use Rattle.cli_live.specs.Replays.{LiveLine, live_line, HasEnded, Replays}
+use Rattle.cli_snap.specs.SnapWords.{snap_judged, snap_plan, out_of as snapshot_name}
+use Rattle.cli_snap.specs.SnapAnswers.{SnapHeadline}
+use Rattle.cli_resume.specs.ResumeWords.{resume_judged}
+use Rattle.cli_resume.specs.ResumePlans.{resume_plan}
+use Rattle.cli_show.specs.Showing.{name_in, held_shown}
+use Rattle.cli_show.specs.Answers.{MayAsk, Headline as ShowHeadline, Answers as Shows}
+use Rattle.cli_dispatch.specs.declared.choice.TopCall.{TopCall}
+use Rattle.cli_dispatch.specs.declared.choice.TopCall.TheVariants.{Live, Snap, Resume, Show, Others}
+
+-- ---- what may be asked of the files
+
+abbrev pub MayAnswer : TopCall → List (List ℕ) → FilesState → Type 0
+MayAnswer Live words files = MayFollow (live_plan (live_judged words)) files × MaySaveUnder (script_name (live_judged words)) files
+MayAnswer Snap words files = MayFollow (snap_plan (snap_judged words)) files × MaySaveUnder (snapshot_name (snap_judged words)) files
+MayAnswer Resume words files = MayFollow (resume_plan (resume_judged words)) files
+MayAnswer Show words files = MayAsk (name_in words) files
+MayAnswer Others words files = MayFollow (plan_of (judgement_of_words words)) files
+
+-- ---- what each call owes
+
+-- what stands outside but for the keys
+abbrev pub without_keys : LiveOutside → Outside
+without_keys all = outside all.files all.sink all.bench
+
+-- a name of the plan isn't held, as the files tell, or a read failed
+abbrev pub FailsToRead : Plan → (old new : FilesState) → Type 0
+FailsToRead plan old new =
+    (IsTrue old.tells × ((name : List ℕ) × IsNamed plan name × (old.held name ≡ None))) ⊎ (old.read_faults < new.read_faults)
+
+-- nothing is saved, and no save fails
+abbrev pub SavesNothing : (old new : FilesState) → Type 0
+SavesNothing old new = (new.held ≡ old.held) × (new.save_faults ≡ old.save_faults)
+
+-- `live`
+pub record LiveOwed (words : List (List ℕ)) (old new : LiveOutside) (answer : Status) : Type 0 where
+  pub headline : LiveHeadline (live_judged words) old new answer
+  -- `run` over what was saved is due the same
+  pub replay : (line : LiveLine) → words ≡ live_line line → HasEnded answer old.keys new.keys → Replays line old new answer
+  pub read_fault : answer ≡ Status.ReadFault →
+      FailsToRead (live_plan (live_judged words)) old.files new.files ⊎ (old.keys.faults < new.keys.faults)
+  pub unread : is_ok (live_judged words) ≡ false → new.files ≡ old.files
+  pub unasked : is_refusal answer ≡ true → new.keys ≡ old.keys
+  pub held : (name : List ℕ) → (name ≡ script_name (live_judged words) → ⊥) → new.files.held name ≡ old.files.held name
+  pub unsaved : (is_refusal answer ≡ true) ⊎ (answer ≡ Status.Memory) → SavesNothing old.files new.files
+
+-- `snap`
+pub record SnapOwed (words : List (List ℕ)) (old new : LiveOutside) (answer : Status) : Type 0 where
+  pub headline : SnapHeadline (snap_judged words) (without_keys old) (without_keys new) answer
+  pub read_fault : answer ≡ Status.ReadFault → FailsToRead (snap_plan (snap_judged words)) old.files new.files
+  pub unread : is_ok (snap_judged words) ≡ false → new.files ≡ old.files
+  pub held : (name : List ℕ) → (name ≡ snapshot_name (snap_judged words) → ⊥) → new.files.held name ≡ old.files.held name
+  pub keys : new.keys ≡ old.keys
+
+-- a command of a plan, `resume` and those of the top call
+pub record PlanOwed (plan : Plan) (is_good : Bool) (old new : LiveOutside) (answer : Status) : Type 0 where
+  pub headline : Headline plan (without_keys old) (without_keys new) answer
+  pub read_fault : answer ≡ Status.ReadFault → FailsToRead plan old.files new.files
+  pub unread : is_good ≡ false → new.files ≡ old.files
+  pub held : (name : List ℕ) → (SavesUnder plan name → ⊥) → new.files.held name ≡ old.files.held name
+  pub unsaved : ((name : List ℕ) → SavesUnder plan name → ⊥) → SavesNothing old.files new.files
+  pub keys : new.keys ≡ old.keys
+
+-- `show`
+pub record ShowOwed (words : List (List ℕ)) (old new : LiveOutside) (answer : Status) : Type 0 where
+  pub headline : ShowHeadline (name_in words) old.files new.files old.sink new.sink answer
+  -- in files that tell what they hold, what is shown is that
+  pub told : (name : List ℕ) → name_in words ≡ Some name → IsTrue old.files.tells → new.files.read_faults ≡ old.files.read_faults →
+      Shows (held_shown (old.files.held name)) old.sink new.sink answer
+  pub unsaved : SavesNothing old.files new.files
+  pub keys : new.keys ≡ old.keys
+  pub bench : new.bench ≡ old.bench
+
+-- ---- by the call
+
+abbrev pub Owed : TopCall → List (List ℕ) → (old new : LiveOutside) → Status → Type 0
+Owed Live words old new answer = LiveOwed words old new answer
+Owed Snap words old new answer = SnapOwed words old new answer
+Owed Resume words old new answer = PlanOwed (resume_plan (resume_judged words)) (is_ok (resume_judged words)) old new answer
+Owed Show words old new answer = ShowOwed words old new answer
+Owed Others words old new answer =
+    PlanOwed (plan_of (judgement_of_words words)) (is_ok (judgement_of_words words)) old new answer

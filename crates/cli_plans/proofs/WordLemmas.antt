@@ -1,0 +1,233 @@
+-- The words of the command line.
+use Rattle.std.proofs.Common.{◌≡◌, ◌≢◌, ◌<◌, ℕ, List, [], ◌∷◌, Bool, true, false, ◌&&◌, IsTrue, length, refl, ap, subst, arith, cond, Option, Some, None, Result, Ok, Err}
+use Rattle.std.specs.Prelude.{if◌then◌else◌, nat_le, option_map, codes}
+use Rattle.std.specs.Str.{bytes_eq}
+use Rattle.std.specs.Option.{is_some}
+use Rattle.std.specs.Result.{is_ok}
+use Rattle.sv_types.specs.Numbers.{is_number, decimal_value, number_within, digest_of}
+use Rattle.sv_types.specs.Policies.{harts_within, ram_pages_within, entries_count_within, entries_within, init_within, is_between}
+use Rattle.spec_processor.specs.Regions.{max_ram_pages}
+use Rattle.sv_types.specs.declared.module.Span.{Span}
+use Rattle.sv_types.specs.declared.status.Status.{Status}
+use Rattle.sv_types.specs.Limits.{max_events}
+use Rattle.guest_gen.specs.GuestCode.{max_calls}
+use Rattle.policy_making.specs.Making.{Terms}
+use Rattle.policy_making.specs.Ranges.{terms_within}
+use Rattle.policy_making.specs.WordRanges.{are_entries, entries_of, are_module_names, span_of}
+use Rattle.policy_making.proofs.WordsWithin.{entries_count, entries_good, span_of_within}
+use Rattle.cli_words.specs.declared.command.DiskKind.{DiskKind}
+use Rattle.cli_words.specs.Commands.{Split, RunSplit, MeasureSplit, flat_split, gen_split, run_split, measure_split, convert_split, split_words}
+use Rattle.cli_plans.specs.declared.refusal.Refusal.{Refusal}
+use Rattle.cli_plans.specs.declared.refusal.Refusal.TheVariants.{OutOfRange, NoCommand}
+use Rattle.cli_plans.specs.declared.refusal.Word.{Word}
+use Rattle.cli_plans.specs.Refusals.{refusal_status}
+use Rattle.cli_plans.specs.CommandLine.{Command, Source, flat_words, gen_words, source_of, run_words, entries_judged, init_of, terms_with, terms_words, terms_judged, making_words, command_judged, split_judged, judgement_of_words}
+use Rattle.cli_plans.specs.Words.{HasModuleNames}
+
+-- ---- so many words are of no command
+
+pub not_flat : (words : List (List ℕ)) → length words ≢ 3 → flat_split words ≡ None
+not_flat [] other = refl
+not_flat (a ∷ []) other = refl
+not_flat (a ∷ b ∷ []) other = refl
+not_flat (a ∷ b ∷ c ∷ []) other = absurd (other refl)
+not_flat (a ∷ b ∷ c ∷ d ∷ rest) other = refl
+
+pub not_gen : (words : List (List ℕ)) → length words ≢ 1 → gen_split words ≡ None
+not_gen [] other = refl
+not_gen (a ∷ []) other = absurd (other refl)
+not_gen (a ∷ b ∷ rest) other = refl
+
+pub not_run : (kind : DiskKind) (words : List (List ℕ)) → length words ≢ 6 → run_split kind words ≡ None
+not_run kind [] other = refl
+not_run kind (a ∷ []) other = refl
+not_run kind (a ∷ b ∷ []) other = refl
+not_run kind (a ∷ b ∷ c ∷ []) other = refl
+not_run kind (a ∷ b ∷ c ∷ d ∷ []) other = refl
+not_run kind (a ∷ b ∷ c ∷ d ∷ e ∷ []) other = refl
+not_run kind (a ∷ b ∷ c ∷ d ∷ e ∷ f ∷ []) other = absurd (other refl)
+not_run kind (a ∷ b ∷ c ∷ d ∷ e ∷ f ∷ g ∷ rest) other = refl
+
+pub not_measure : (words : List (List ℕ)) → length words < 6 → measure_split words ≡ None
+not_measure [] few = refl
+not_measure (a ∷ []) few = refl
+not_measure (a ∷ b ∷ []) few = refl
+not_measure (a ∷ b ∷ c ∷ []) few = refl
+not_measure (a ∷ b ∷ c ∷ d ∷ []) few = refl
+not_measure (a ∷ b ∷ c ∷ d ∷ e ∷ []) few = refl
+not_measure (a ∷ b ∷ c ∷ d ∷ e ∷ f ∷ rest) few = absurd (omega arith)
+
+pub not_convert : (words : List (List ℕ)) → length words ≢ 3 → convert_split words ≡ None
+not_convert [] other = refl
+not_convert (a ∷ []) other = refl
+not_convert (a ∷ b ∷ []) other = refl
+not_convert (a ∷ b ∷ c ∷ []) other = absurd (other refl)
+not_convert (a ∷ b ∷ c ∷ d ∷ rest) other = refl
+
+-- ---- words that were judged good
+
+-- a command has them
+split_is_some : (split : Option Split) → IsTrue (is_ok (split_judged split)) → IsTrue (is_some split)
+split_is_some None good = good
+split_is_some (Some split) good = refl
+
+pub has_command : (words : List (List ℕ)) → IsTrue (is_ok (judgement_of_words words)) → IsTrue (is_some (split_words words))
+unfolding judgement_of_words
+has_command words good = split_is_some (split_words words) good
+
+names_of_making : (words : MeasureSplit) (terms : Result Terms Refusal) → IsTrue (is_ok (making_words words terms)) → IsTrue (are_module_names words.modules)
+unfolding making_words
+names_of_making words (Err refusal) good = absurd (cc good)
+names_of_making words (Ok terms) good = go (are_module_names words.modules) _ _ good
+  where
+    go : (b : Bool) (some : Command) (none : Refusal) → IsTrue (is_ok (cond b (Ok some) (Err none))) → IsTrue b
+    go true some none good = refl
+    go false some none good = good
+
+command_names : (split : Split) → IsTrue (is_ok (command_judged split)) → HasModuleNames split
+command_names (Split.Flat w) good = tt
+command_names (Split.Gen calls) good = tt
+command_names (Split.Run w) good = tt
+command_names (Split.Measure w) good = names_of_making w (terms_judged w.ram w.harts w.entries w.init) good
+command_names (Split.Convert w) good = tt
+
+-- the names of modules are in range
+pub has_module_names : (words : List (List ℕ)) (split : Split) → split_words words ≡ Some split → IsTrue (is_ok (judgement_of_words words)) → HasModuleNames split
+unfolding judgement_of_words
+has_module_names words split is good = command_names split (subst (λ (o : Option Split). IsTrue (is_ok (split_judged o))) is good)
+
+-- what they ask for is what is asked by their names
+pub judged_by_name : (words : List (List ℕ)) (split : Split) → split_words words ≡ Some split → judgement_of_words words ≡ command_judged split
+unfolding judgement_of_words
+judged_by_name words split is = ap split_judged is
+
+-- ---- what a policy says beside its files is within its limits
+
+number_by : (low high value n : ℕ) (good above below : Bool) → nat_le low value ≡ above → nat_le value high ≡ below → (if good && above && below then Some value else None) ≡ Some n
+    → is_between low high n ≡ true
+number_by low high value n true true true above below is =
+    let same : value ≡ n = cc is in subst (λ (k : ℕ). is_between low high k ≡ true) same (rw (above, below) refl)
+number_by low high value n true true false above below is = absurd (cc is)
+number_by low high value n true false fits above below is = absurd (cc is)
+number_by low high value n false fits most above below is = absurd (cc is)
+
+number_between : (low high : ℕ) (text : List ℕ) (n : ℕ) → number_within low high text ≡ Some n → is_between low high n ≡ true
+unfolding number_within
+number_between low high text n is =
+    number_by low high (decimal_value 0 text) n (is_number text) (nat_le low (decimal_value 0 text)) (nat_le (decimal_value 0 text) high) refl refl is
+
+some_init : (ram_pages : ℕ) (word : List ℕ) (o : Option Span) (init : Option Span) → span_of ram_pages word ≡ o → option_map Some o ≡ Some init → init_within ram_pages init ≡ true
+some_init ram_pages word None init span is = absurd (cc is)
+some_init ram_pages word (Some s) init span is =
+    let same : Some s ≡ init = cc is in subst (λ (i : Option Span). init_within ram_pages i ≡ true) same (span_of_within ram_pages word s span)
+
+init_by : (ram_pages : ℕ) (word : List ℕ) (none : Bool) (init : Option Span) → (if none then Some None else option_map Some (span_of ram_pages word)) ≡ Some init → init_within ram_pages init ≡ true
+init_by ram_pages word true init is =
+    let same : None ≡ init = cc is in subst (λ (i : Option Span). init_within ram_pages i ≡ true) same refl
+init_by ram_pages word false init is = some_init ram_pages word (span_of ram_pages word) init refl is
+
+init_good : (ram_pages : ℕ) (word : List ℕ) (init : Option Span) → init_of ram_pages word ≡ Some init → init_within ram_pages init ≡ true
+unfolding init_of
+init_good ram_pages word init is = init_by ram_pages word (bytes_eq word (codes "none")) init is
+
+record AreEntries (entries : List ℕ) : Type 0 where
+  count : entries_count_within (length entries) ≡ true
+  each : entries_within entries ≡ true
+
+entries_by : (word entries : List ℕ) (good : Bool) → are_entries word ≡ good → (if good then Some (entries_of word) else None) ≡ Some entries → AreEntries entries
+entries_by word entries true good is =
+    let same : entries_of word ≡ entries = cc is in subst AreEntries same (record { count = entries_count word good; each = entries_good word good })
+entries_by word entries false good is = absurd (cc is)
+
+all_terms : (t : Terms) → harts_within t.harts ≡ true → ram_pages_within t.ram_pages ≡ true → AreEntries t.entries → init_within t.ram_pages t.init ≡ true → terms_within t ≡ true
+all_terms t harts ram entries init = rw (harts, ram, entries.count, entries.each, init) refl
+
+with_init : (ram_pages harts : ℕ) (entries word : List ℕ) (init : Option (Option Span)) (terms : Terms) → init_of ram_pages word ≡ init → terms_with ram_pages harts entries init ≡ Ok terms
+    → harts_within harts ≡ true → ram_pages_within ram_pages ≡ true → AreEntries entries → terms_within terms ≡ true
+unfolding terms_with
+with_init ram_pages harts entries word None terms is e of_harts of_ram of_entries = absurd (cc e)
+with_init ram_pages harts entries word (Some init) terms is e of_harts of_ram of_entries =
+    let made : Terms = record { harts = harts; ram_pages = ram_pages; entries = entries; init = init } in
+    let same : made ≡ terms = cc e in
+    subst (λ (t : Terms). terms_within t ≡ true) same (all_terms made of_harts of_ram of_entries (init_good ram_pages word init is))
+
+with_words : (ram harts entries init : List ℕ) (ram_pages count : Option ℕ) (addresses : Option (List ℕ)) (terms : Terms) → number_within 16 max_ram_pages ram ≡ ram_pages
+    → number_within 1 4 harts ≡ count → entries_judged entries ≡ addresses → terms_words init ram_pages count addresses ≡ Ok terms → terms_within terms ≡ true
+unfolding terms_words
+with_words ram harts entries init None count addresses terms of_ram of_harts of_entries e = absurd (cc e)
+with_words ram harts entries init (Some ram_pages) None addresses terms of_ram of_harts of_entries e = absurd (cc e)
+with_words ram harts entries init (Some ram_pages) (Some count) None terms of_ram of_harts of_entries e = absurd (cc e)
+with_words ram harts entries init (Some ram_pages) (Some count) (Some addresses) terms of_ram of_harts of_entries e =
+    with_init ram_pages count addresses init (init_of ram_pages init) terms refl e (number_between 1 4 harts count of_harts) (number_between 16 max_ram_pages ram ram_pages of_ram)
+    (entries_by entries addresses (are_entries entries) refl of_entries)
+
+pub terms_in_range : (ram harts entries init : List ℕ) (terms : Terms) → terms_judged ram harts entries init ≡ Ok terms → terms_within terms ≡ true
+terms_in_range ram harts entries init terms e =
+    with_words ram harts entries init (number_within 16 max_ram_pages ram) (number_within 1 4 harts) (entries_judged entries) terms refl refl refl e
+
+-- ---- what refuses the words is no read fault
+
+abbrev pub NoReadFault : {A : Type 0} → Result A Refusal → Type 0
+NoReadFault (Ok value) = Unit {0}
+NoReadFault (Err refusal) = refusal_status refusal ≢ Status.ReadFault
+
+-- words that are of no command, where they are refused or aren't named so
+pub judged_unless : {A : Type 0} (refused : Bool) (words : Result A Refusal) → NoReadFault words → NoReadFault (if refused then Err NoCommand else words)
+judged_unless true words never = λ e. cc e
+judged_unless false words never = never
+
+pub judged_if : {A : Type 0} (named : Bool) (words : Result A Refusal) → NoReadFault words → NoReadFault (if named then words else Err NoCommand)
+judged_if true words never = never
+judged_if false words never = λ e. cc e
+
+flat_no_read_fault : (file : List ℕ) (wanted : Option (List ℕ)) (events : Option ℕ) → NoReadFault (flat_words file wanted events)
+unfolding flat_words
+flat_no_read_fault file None events = λ e. cc e
+flat_no_read_fault file (Some wanted) None = λ e. cc e
+flat_no_read_fault file (Some wanted) (Some events) = tt
+
+gen_no_read_fault : (calls : Option ℕ) → NoReadFault (gen_words calls)
+unfolding gen_words
+gen_no_read_fault None = λ e. cc e
+gen_no_read_fault (Some calls) = tt
+
+run_no_read_fault : (words : RunSplit) (script : Option Source) (events : Option ℕ) → NoReadFault (run_words words script events)
+unfolding run_words
+run_no_read_fault words None events = λ e. cc e
+run_no_read_fault words (Some script) None = λ e. cc e
+run_no_read_fault words (Some script) (Some events) = tt
+
+with_no_read_fault : (ram_pages harts : ℕ) (entries : List ℕ) (init : Option (Option Span)) → NoReadFault (terms_with ram_pages harts entries init)
+unfolding terms_with
+with_no_read_fault ram_pages harts entries None = λ e. cc e
+with_no_read_fault ram_pages harts entries (Some init) = tt
+
+terms_no_read_fault : (init : List ℕ) (ram_pages harts : Option ℕ) (entries : Option (List ℕ)) → NoReadFault (terms_words init ram_pages harts entries)
+unfolding terms_words
+terms_no_read_fault init None harts entries = λ e. cc e
+terms_no_read_fault init (Some ram_pages) None entries = λ e. cc e
+terms_no_read_fault init (Some ram_pages) (Some harts) None = λ e. cc e
+terms_no_read_fault init (Some ram_pages) (Some harts) (Some entries) = with_no_read_fault ram_pages harts entries (init_of ram_pages init)
+
+making_no_read_fault : (words : MeasureSplit) (terms : Result Terms Refusal) → NoReadFault terms → NoReadFault (making_words words terms)
+unfolding making_words
+making_no_read_fault words (Err refusal) is = is
+making_no_read_fault words (Ok terms) is = go (are_module_names words.modules) _
+  where
+    go : (b : Bool) (command : Command) → NoReadFault (cond b (Ok command) (Err (OutOfRange Word.Modules)))
+    go true command = tt
+    go false command = λ e. cc e
+
+split_no_read_fault : (split : Option Split) → NoReadFault (split_judged split)
+split_no_read_fault None = λ e. cc e
+split_no_read_fault (Some (Split.Flat w)) = flat_no_read_fault w.file (digest_of w.wanted) (number_within 0 max_events w.events)
+split_no_read_fault (Some (Split.Gen calls)) = gen_no_read_fault (number_within 1 max_calls calls)
+split_no_read_fault (Some (Split.Run w)) = run_no_read_fault w (source_of w.script) (number_within 0 max_events w.events)
+split_no_read_fault (Some (Split.Measure w)) =
+    making_no_read_fault w (terms_judged w.ram w.harts w.entries w.init)
+    (terms_no_read_fault w.init (number_within 16 max_ram_pages w.ram) (number_within 1 4 w.harts) (entries_judged w.entries))
+split_no_read_fault (Some (Split.Convert w)) = tt
+
+pub words_no_read_fault : (words : List (List ℕ)) → NoReadFault (judgement_of_words words)
+unfolding judgement_of_words
+words_no_read_fault words = split_no_read_fault (split_words words)

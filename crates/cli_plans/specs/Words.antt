@@ -1,0 +1,86 @@
+-- What judging and reading the words answers.
+use Rattle.std.specs.Prelude.{◌≡◌, ◌≤◌, IsTrue, map, Result, Ok, Err}
+use Rattle.cli_words.specs.Values.{convert_split_of}
+use Rattle.std.specs.Option.{option_copied}
+use Rattle.std.specs.Result.{is_ok}
+use Rattle.sv_types.specs.Limits.{max_events}
+use Rattle.guest_gen.specs.GuestCode.{max_calls}
+use Rattle.policy_making.specs.Making.{Terms}
+use Rattle.policy_making.specs.Ranges.{terms_within}
+use Rattle.policy_making.specs.WordRanges.{entries_of, are_module_names}
+use Rattle.cli_words.specs.Commands.{Split}
+use Rattle.cli_plans.specs.declared.refusal.Refusal.{Refusal}
+use Rattle.cli_plans.specs.declared.words.Command.{Command as Asked}
+use Rattle.cli_plans.specs.declared.words.Command.TheVariants as asked
+use Rattle.cli_plans.specs.declared.words.Source.{Source as Named}
+use Rattle.cli_plans.specs.declared.words.Source.TheVariants as named
+use Rattle.cli_plans.specs.declared.words.Run.{Run as AskedRun}
+use Rattle.cli_plans.specs.declared.words.Terms.{Terms as AskedTerms}
+use Rattle.cli_plans.specs.declared.words.MakePolicy.{MakePolicy as AskedPolicy}
+use Rattle.cli_plans.specs.CommandLine.{Command, Flat, Generated, Run, RunWords, MakePolicy, PolicyWords, Convert, Source, Rounds, Auto, Bursts, Text}
+
+-- where the events come from, by value
+abbrev pub source_value : Named → Source
+source_value named.Rounds = Rounds
+source_value (named.Auto number) = Auto number
+source_value (named.Bursts number) = Bursts number
+source_value (named.Text name) = Text name.now
+
+abbrev pub run_value : AskedRun → RunWords
+run_value run = record {
+  kind = run.kind;
+  image = run.image.now;
+  policy = run.policy.now;
+  disk = option_copied run.disk;
+  script = source_value run.script;
+  events = run.events;
+  save = option_copied run.save;
+}
+
+-- a word for the entries stands for its addresses
+abbrev pub terms_value : AskedTerms → Terms
+terms_value t = record { harts = t.harts; ram_pages = t.ram_pages; entries = entries_of t.entries.now; init = t.init }
+
+abbrev pub policy_value : AskedPolicy → PolicyWords
+policy_value p = record {
+  out = p.out.now;
+  kernel = p.kernel.now;
+  terms = terms_value p.terms;
+  modules = map (λ name. name.now) p.modules.items;
+}
+
+-- the values of the words
+abbrev pub command_of : Asked → Command
+command_of (asked.Flat flat) = Flat flat.file.now flat.wanted flat.events
+command_of (asked.Generated calls) = Generated calls
+command_of (asked.Run run) = Run (run_value run)
+command_of (asked.MakePolicy policy) = MakePolicy (policy_value policy)
+command_of (asked.Convert convert) = Convert (convert_split_of convert)
+
+-- the command of these values, or the first word that is out of its range
+abbrev pub IsRead : Result Command Refusal → Result Asked Refusal → Type 0
+IsRead due (Ok command) = due ≡ Ok (command_of command)
+IsRead due (Err refusal) = due ≡ Err refusal
+
+abbrev pub HasTerms : Result Terms Refusal → Result AskedTerms Refusal → Type 0
+HasTerms due (Ok terms) = due ≡ Ok (terms_value terms)
+HasTerms due (Err refusal) = due ≡ Err refusal
+
+-- the same without the values
+abbrev pub IsJudged : Result Command Refusal → Result (Unit {0}) Refusal → Type 0
+IsJudged due (Ok done) = IsTrue (is_ok due)
+IsJudged due (Err refusal) = due ≡ Err refusal
+
+abbrev pub HasModuleNames : Split → Type 0
+HasModuleNames (Split.Flat w) = Unit {0}
+HasModuleNames (Split.Gen calls) = Unit {0}
+HasModuleNames (Split.Run w) = Unit {0}
+HasModuleNames (Split.Measure w) = IsTrue (are_module_names w.modules)
+HasModuleNames (Split.Convert w) = Unit {0}
+
+abbrev pub IsInRange : Asked → Type 0
+IsInRange (asked.Flat flat) = flat.events ≤ max_events
+IsInRange (asked.Generated calls) = (1 ≤ calls) × (calls ≤ max_calls)
+IsInRange (asked.Run run) = run.events ≤ max_events
+IsInRange (asked.MakePolicy policy) = IsTrue (terms_within (terms_value policy.terms)) × IsTrue (are_module_names (map (λ name. name.now) policy.modules.items))
+IsInRange (asked.Convert convert) = Unit {0}

@@ -1,0 +1,301 @@
+// What the words of a command ask for.
+ghost use Rattle.std.specs.Prelude.{◌≡◌, option_map, IfOk, IsTrue, Ok};
+ghost use Rattle.std.specs.Option.{option_copied};
+ghost use Rattle.sv_types.specs.Numbers.{number_within};
+ghost use Rattle.spec_processor.specs.Regions.{max_ram_pages};
+ghost use Rattle.sv_types.specs.Limits.{max_harts, min_ram_pages};
+ghost use Rattle.policy_making.specs.WordRanges.{entries_of, are_module_names};
+ghost use Rattle.cli_words.specs.Values.{split_of, flat_split_of, run_split_of, measure_split_of};
+ghost use Rattle.cli_plans.specs.CommandLine.{command_judged, flat_judged, gen_judged, run_judged, run_of, unless_none, source_of, auto_of, bursts_of, making_judged, terms_judged, terms_with, init_of};
+ghost use Rattle.cli_plans.specs.Words.{IsRead, HasTerms, HasModuleNames, IsInRange, command_of, source_value, run_value};
+
+use crate::refusal::{Refusal, Word};
+use cli_words::{CommandWords, ConvertWords, DiskKind, FlatWords, MeasureWords, RunWords};
+use guest_gen::MAX_CALLS;
+use policy_limits::{MAX_HARTS, MAX_RAM_PAGES, MIN_RAM_PAGES};
+use policy_making::{are_entries, span_of};
+use sv_types::{Digest, MAX_EVENTS, Span};
+use text_numbers::{digest_of, number_within};
+
+/// What the words ask for.
+#[derive(Drop)]
+pub enum Command<'a> {
+    Flat(Flat<'a>),
+    /// `gen N`: the generated guest, which calls its kernel so many times.
+    Generated(u64),
+    Run(Run<'a>),
+    MakePolicy(MakePolicy<'a>),
+    Convert(ConvertWords<'a>),
+}
+
+/// `flat FILE MEASURE EVENTS`: the file's name, the measure that is wanted, and the number of events.
+#[derive(Drop)]
+pub struct Flat<'a> {
+    pub file: &'a str,
+    pub wanted: Digest,
+    pub events: u64,
+}
+
+/// `run IMAGE POLICY DISK SCRIPT EVENTS SAVE`, or `vrun` with the same words: the files' names, where the events come
+/// from, and their number.
+#[derive(Drop)]
+pub struct Run<'a> {
+    /// Which block device the machine has.
+    pub kind: DiskKind,
+    pub image: &'a str,
+    pub policy: &'a str,
+    /// None for an empty disk.
+    pub disk: Option<&'a str>,
+    pub script: Source<'a>,
+    pub events: u64,
+    /// The name under which the disk is saved behind the report, where it is.
+    pub save: Option<&'a str>,
+}
+
+/// `measure OUT KERNEL RAM HARTS ENTRIES INIT MODULES...`: the name that the policy is saved under, the files' names, and
+/// what it says beside them.
+#[derive(Drop)]
+pub struct MakePolicy<'a> {
+    pub out: &'a str,
+    pub kernel: &'a str,
+    pub terms: Terms<'a>,
+    pub modules: Vec<&'a str>,
+}
+
+/// What a policy says beside its files.
+#[derive(Drop)]
+pub struct Terms<'a> {
+    pub ram_pages: u32,
+    pub harts: u8,
+    /// The word of the entries, which are all in range.
+    pub entries: &'a str,
+    pub init: Option<Span>,
+}
+
+/// Where the events of a run come from.
+#[derive(Drop)]
+pub enum Source<'a> {
+    /// The harts in turn.
+    Rounds,
+    /// Drawn after a number.
+    Auto(u64),
+    /// Bursts of one hart, drawn after a number.
+    Bursts(u64),
+    /// The text of a file.
+    Text(&'a str),
+}
+
+/// What the words of a command ask for, or the first one that is out of its range. The names of modules were judged
+/// before.
+pub fn read_words(words: CommandWords<'_>) -> Result<Command<'_>, Refusal>
+    requires { HasModuleNames (split_of words) }
+    ensures read { IsRead (command_judged (split_of words.entry)) result }
+    ensures range { IfOk result IsInRange }
+{
+    match words {
+        CommandWords::Flat(words) => read_flat(&words),
+        CommandWords::Generated(calls) => read_generated(calls),
+        CommandWords::Run(words) => read_run(&words),
+        CommandWords::Measure(words) => read_measure(words),
+        CommandWords::Convert(words) => Ok(Command::Convert(words)),
+    }
+}
+
+/// The words of `flat`.
+#[tactic(auto, unfolding(crate::specs::CommandLine::flat_words))]
+pub fn read_flat<'a>(words: &FlatWords<'a>) -> Result<Command<'a>, Refusal>
+    ensures read { IsRead (flat_judged (flat_split_of words.now)) result }
+    ensures range { IfOk result IsInRange }
+{
+    let Some(wanted) = digest_of(words.wanted) else {
+        return Err(Refusal::OutOfRange {
+            word: Word::Measure,
+        });
+    };
+    let Some(events) = number_within(words.events.as_bytes(), 0, MAX_EVENTS) else {
+        return Err(Refusal::OutOfRange { word: Word::Events });
+    };
+    Ok(Command::Flat(Flat {
+        file: words.file,
+        wanted,
+        events,
+    }))
+}
+
+/// The word of `gen`.
+#[tactic(auto, unfolding(crate::specs::CommandLine::gen_words))]
+pub fn read_generated(calls: &str) -> Result<Command<'_>, Refusal>
+    ensures read { IsRead (gen_judged calls.now) result }
+    ensures range { IfOk result IsInRange }
+{
+    match number_within(calls.as_bytes(), 1, MAX_CALLS) {
+        Some(calls) => Ok(Command::Generated(calls)),
+        None => Err(Refusal::OutOfRange { word: Word::Calls }),
+    }
+}
+
+/// The words of `run`, or of `vrun`.
+#[tactic(auto, unfolding(crate::specs::CommandLine::run_words))]
+pub fn read_run<'a>(words: &RunWords<'a>) -> Result<Command<'a>, Refusal>
+    ensures read { IsRead (run_judged (run_split_of words.now)) result }
+    ensures range { IfOk result IsInRange }
+{
+    let Some(script) = source_of(words.script) else {
+        return Err(Refusal::OutOfRange { word: Word::Script });
+    };
+    let Some(events) = number_within(words.events.as_bytes(), 0, MAX_EVENTS) else {
+        return Err(Refusal::OutOfRange { word: Word::Events });
+    };
+    let run = run_of(words, script, events);
+    Ok(Command::Run(run))
+}
+
+fn run_of<'a>(words: &RunWords<'a>, script: Source<'a>, events: u64) -> Run<'a>
+    ensures value { run_value result ≡ run_of (run_split_of words.now) (source_value script.entry) events }
+    ensures events { result.events ≡ events }
+{
+    Run {
+        kind: words.kind,
+        image: words.image,
+        policy: words.policy,
+        disk: unless_none(words.disk),
+        script,
+        events,
+        save: unless_none(words.save),
+    }
+}
+
+/// A name, where the word isn't `none`.
+pub fn unless_none(word: &str) -> Option<&str>
+    ensures { option_copied result ≡ unless_none word.now }
+{
+    if word == "none" { None } else { Some(word) }
+}
+
+/// Where the events of a run come from, none where the word is out of range.
+#[tactic(auto, unfolding(crate::specs::CommandLine::source_of))]
+pub fn source_of(word: &str) -> Option<Source<'_>>
+    ensures { option_map source_value result ≡ source_of word.now }
+{
+    if word == "none" {
+        return Some(Source::Rounds);
+    }
+    if let Some(number) = word.strip_prefix("auto:") {
+        return auto_of(number);
+    }
+    match word.strip_prefix("bursts:") {
+        Some(number) => bursts_of(number),
+        None => Some(Source::Text(word)),
+    }
+}
+
+fn auto_of(number: &str) -> Option<Source<'_>>
+    ensures { option_map source_value result ≡ auto_of number.now }
+{
+    match number_within(number.as_bytes(), 0, u64::MAX) {
+        Some(number) => Some(Source::Auto(number)),
+        None => None,
+    }
+}
+
+fn bursts_of(number: &str) -> Option<Source<'_>>
+    ensures { option_map source_value result ≡ bursts_of number.now }
+{
+    match number_within(number.as_bytes(), 0, u64::MAX) {
+        Some(number) => Some(Source::Bursts(number)),
+        None => None,
+    }
+}
+
+// The words of `measure`.
+#[tactic(auto, unfolding(crate::specs::CommandLine::making_words))]
+fn read_measure(words: MeasureWords<'_>) -> Result<Command<'_>, Refusal>
+    requires { IsTrue (are_module_names (measure_split_of words).modules) }
+    ensures read { IsRead (making_judged (measure_split_of words.entry)) result }
+    ensures range { IfOk result IsInRange }
+{
+    let terms = read_terms(words.ram, words.harts, words.entries, words.init)?;
+    Ok(Command::MakePolicy(MakePolicy {
+        out: words.out,
+        kernel: words.kernel,
+        terms,
+        modules: words.modules,
+    }))
+}
+
+/// What a policy says beside its files.
+#[tactic(auto, unfolding(crate::specs::CommandLine::terms_words))]
+pub fn read_terms<'a>(
+    ram: &str,
+    harts: &str,
+    entries: &'a str,
+    init: &str,
+) -> Result<Terms<'a>, Refusal>
+    ensures { HasTerms (terms_judged ram.now harts.now entries.now init.now) result }
+{
+    let Some(ram_pages) = ram_pages_of(ram) else {
+        return Err(Refusal::OutOfRange { word: Word::Ram });
+    };
+    let Some(harts) = harts_of(harts) else {
+        return Err(Refusal::OutOfRange { word: Word::Harts });
+    };
+    if !are_entries(entries) {
+        return Err(Refusal::OutOfRange {
+            word: Word::Entries,
+        });
+    }
+    terms_with(ram_pages, harts, entries, init_of(ram_pages, init))
+}
+
+#[tactic(auto, unfolding(crate::specs::CommandLine::terms_with))]
+fn terms_with(
+    ram_pages: u32,
+    harts: u8,
+    entries: &str,
+    init: Option<Option<Span>>,
+) -> Result<Terms<'_>, Refusal>
+    ensures { HasTerms (terms_with ram_pages harts (entries_of entries.now) init) result }
+{
+    match init {
+        Some(init) => Ok(Terms {
+            ram_pages,
+            harts,
+            entries,
+            init,
+        }),
+        None => Err(Refusal::OutOfRange { word: Word::Init }),
+    }
+}
+
+fn ram_pages_of(word: &str) -> Option<u32>
+    ensures { result ≡ number_within min_ram_pages max_ram_pages word.now }
+{
+    let (low, high) = (u64::from(MIN_RAM_PAGES), u64::from(MAX_RAM_PAGES));
+    match number_within(word.as_bytes(), low, high) {
+        Some(number) => Some(number as u32),
+        None => None,
+    }
+}
+
+fn harts_of(word: &str) -> Option<u8>
+    ensures { result ≡ number_within 1 max_harts word.now }
+{
+    match number_within(word.as_bytes(), 1, u64::from(MAX_HARTS)) {
+        Some(number) => Some(number as u8),
+        None => None,
+    }
+}
+
+// None where the word names no pages, and else those that it names, if it isn't `none`.
+#[tactic(auto, unfolding(crate::specs::CommandLine::init_of))]
+fn init_of(ram_pages: u32, word: &str) -> Option<Option<Span>>
+    ensures { result ≡ init_of ram_pages word.now }
+{
+    if word == "none" {
+        return Some(None);
+    }
+    match span_of(ram_pages, word) {
+        Some(span) => Some(Some(span)),
+        None => None,
+    }
+}

@@ -1,0 +1,8 @@
+pub mod BlockRuns
+pub mod CountRuns
+pub mod SnapAnswers
+pub mod SnapEnds
+pub mod SnapFile
+pub mod SnapReady
+pub mod SnapWords
+pub mod Encoding

@@ -1,0 +1,35 @@
+// What is ready of `snap`.
+ghost use Rattle.std.specs.Prelude.{◌≡◌, ◌<◌, ◌≤◌, ◌-◌};
+ghost use Rattle.sv_types.specs.Limits.{max_events};
+ghost use Rattle.cli_words.specs.declared.command.DiskKind.{DiskKind};
+ghost use Rattle.cli_plans.specs.Plans.{run_plan};
+ghost use Rattle.cli_plans.specs.Reading.{MayFollow};
+ghost use Rattle.cli_plans.specs.Words.{run_value};
+ghost use Rattle.cli_snap.specs.SnapReady.{Boots};
+ghost use Rattle.spec_processor.specs.Counters.{CanCount};
+
+use cli_plans::Run;
+use host_io::Files;
+use secvisor_cli::{PreparedRun, Ready, Stop, prepare_run};
+use std::alloc::Global;
+use std::thread::Threads;
+
+/// Reads and judges what `run` does for the same words, and boots a machine with the project's block device.
+pub fn prepare_snap<'a, R: Threads + Sync, F: Files>(
+    rt: &R,
+    alloc: Global,
+    asked: &Run<'a>,
+    files: &mut F,
+) -> Result<PreparedRun<'a>, Stop>
+    requires permitted { MayFollow (run_plan (run_value asked.now)) (F.state files.old) }
+    requires reads { CanCount (F.state files.old).read_faults }
+    requires kind { asked.now.kind ≡ DiskKind.Block }
+    requires events { asked.now.events ≤ max_events }
+    ensures { Boots (run_plan (run_value asked.now)) (F.state files.old) (F.state files.new) result }
+{
+    let ready = prepare_run(rt, alloc, asked, files)?;
+    match ready {
+        Ready::Run(booted) => Ok(booted),
+        Ready::Save(_) => unreachable!(),
+    }
+}

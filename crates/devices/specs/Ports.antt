@@ -1,8 +1,0 @@
--- The disk that a port stands for. This project's own.
-use Rattle.reference.specs.States.{Disk, BlockDisk, VirtioDisk}
-use Rattle.virtio_blk.specs.Held.{device_of}
-use Rattle.devices.specs.declared.disk_port.Port.{Port}
-
-abbrev pub port_disk : Port → Disk
-port_disk (Port.Block device) = BlockDisk device
-port_disk (Port.Virtio device) = VirtioDisk (device_of device)

@@ -1,5 +1,0 @@
-use Rattle.guarantee.proofs.LawsHold.{exits_law}
-use Rattle.guarantee.proofs.law_exits.Goals as goal
-
-pub returns : goal.returns
-returns c = exits_law

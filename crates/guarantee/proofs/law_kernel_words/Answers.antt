@@ -1,5 +1,0 @@
-use Rattle.guarantee.proofs.LawsHold.{kernel_words_law}
-use Rattle.guarantee.proofs.law_kernel_words.Goals as goal
-
-pub returns : goal.returns
-returns c = kernel_words_law

@@ -1,5 +1,0 @@
-use Rattle.guarantee.proofs.LawsHold.{protected_bytes_law}
-use Rattle.guarantee.proofs.law_protected_bytes.Goals as goal
-
-pub returns : goal.returns
-returns c = protected_bytes_law

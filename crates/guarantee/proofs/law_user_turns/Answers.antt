@@ -1,5 +1,0 @@
-use Rattle.guarantee.proofs.TurnCases.{user_turns_law}
-use Rattle.guarantee.proofs.law_user_turns.Goals as goal
-
-pub returns : goal.returns
-returns c = user_turns_law

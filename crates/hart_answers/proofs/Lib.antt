@@ -1,4 +1,0 @@
-pub mod Hosts
-mod Changes
-mod Modules
-mod Traps

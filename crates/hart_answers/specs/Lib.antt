@@ -1,4 +1,0 @@
-pub mod Asking
-pub mod Hosts
-pub mod Seats
-pub mod Trapped

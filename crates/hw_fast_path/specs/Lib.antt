@@ -1,0 +1,4 @@
+pub mod Batches
+pub mod MicroOp
+pub mod Quick
+pub mod Ends

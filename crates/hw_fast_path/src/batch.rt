@@ -1,0 +1,170 @@
+// Turns in a row.
+
+ghost use Rattle.std.specs.Prelude.{◌≡◌, ◌+◌, ◌<◌, ◌≤◌, ◌^◌, None};
+ghost use Rattle.spec_processor.specs.Counters.{CanCount};
+ghost use Rattle.spec_processor.specs.HardwareAttempt.{attempt};
+ghost use Rattle.spec_processor.specs.HypervisorRegisters.{pending};
+ghost use Rattle.spec_processor.specs.declared.lines.Lines.{Lines};
+ghost use Rattle.hart.specs.Cores.{core_of};
+ghost use Rattle.hw_fast_path.specs.Quick.{Comes, GoesOn, Leads, MayTurn, Turned};
+ghost use Rattle.hw_fast_path.specs.Ends.{turns_of};
+ghost use Rattle.hw_fast_path.specs.Batches.{EndsBy};
+ghost use Rattle.hw_tlb.specs.Kept.{ReachAgrees};
+ghost use Rattle.hw_fast_path.specs.declared.leaving.Leaving.TheVariants.{Stays};
+
+use crate::leaving::{Leaving, leave};
+use crate::micro_op_cache::{FlatWords, MicroOpCache};
+use crate::requests::carry_out;
+use crate::tried::Tried;
+use crate::window::{Window, at_pc};
+use gstage_cache::Cache;
+use hart::Core;
+use host_mem::HostMem;
+use hw_tlb::Reach;
+use spec_processor::HRegs;
+
+// A turn, with the window behind it.
+#[inline(always)]
+fn turn(
+    words: &mut FlatWords,
+    core: &mut Core,
+    regs: &HRegs,
+    cache: &mut Cache,
+    reach: &mut Reach,
+    mem: &mut HostMem,
+    window: &mut Window,
+) -> Tried
+    requires may { MayTurn mem.old core.old regs.now cache.old reach.old }
+    requires leads { Leads mem.old (core_of core.old regs.now) window.old.page window.old.host }
+    ensures comes { (lines : Lines) → pending regs.now core.old.csrs lines ≡ None → Comes result (attempt mem.old (core_of core.old regs.now) lines) mem.old mem.new (core_of core.old regs.now) (core_of core.new regs.now) }
+    ensures turned { Turned result mem.old mem.new core.old core.new regs.now cache.old cache.new reach.new }
+    ensures leads { Leads mem.new (core_of core.new regs.now) window.new.page window.new.host }
+{
+    let Some(here) = at_pc(core, regs, cache, reach, mem, *window) else {
+        return Tried::Stopped;
+    };
+    let word = here.word(core, regs, mem);
+    match carry_out(core, regs, cache, reach, mem, words.micro_op(core.pc, word)) {
+        Tried::Stopped => {
+            *window = here;
+            Tried::Stopped
+        }
+        Tried::Retired => {
+            *window = here;
+            Tried::Retired
+        }
+        Tried::Stored => {
+            *window = here.behind_store(core);
+            Tried::Stored
+        }
+        Tried::ContextChanged => {
+            *window = Window::none();
+            Tried::ContextChanged
+        }
+    }
+}
+
+/// A row of turns: how many carried out their instructions, and how the hart left the guest in the turn behind them.
+#[derive(Clone, Copy, Drop)]
+pub struct Batch {
+    pub made: u64,
+    pub left: Leaving,
+}
+
+impl Batch {
+    /// No turn was made.
+    #[inline(always)]
+    pub fn none() -> Batch
+        ensures { result ≡ record { made = 0; left = Stays } }
+    {
+        Batch {
+            made: 0,
+            left: Leaving::Stays,
+        }
+    }
+
+    /// All turns that were made.
+    #[inline(always)]
+    pub fn turns(self) -> u64
+        requires { CanCount self.made }
+        ensures { result ≡ turns_of self }
+    {
+        match self.left {
+            Leaving::Stays => self.made,
+            Leaving::Calls | Leaving::Returns => self.made + 1,
+        }
+    }
+}
+
+// The turns themselves. All that they read and change is handed over by itself, so that the loop keeps it in registers; it
+// stands out of line, since the count that follows it would take one of them.
+#[inline(never)]
+fn batch_of_turns(
+    words: &mut FlatWords,
+    core: &mut Core,
+    regs: &HRegs,
+    cache: &mut Cache,
+    reach: &mut Reach,
+    mem: &mut HostMem,
+    most: u64,
+) -> Batch
+    requires may { MayTurn mem.old core.old regs.now cache.old reach.old }
+    ensures ends { (lines : Lines) → pending regs.now core.old.csrs lines ≡ None → EndsBy result.left result.made mem.old (core_of core.old regs.now) lines mem.new (core_of core.new regs.now) }
+    ensures most { turns_of result ≤ most }
+    ensures on { GoesOn mem.old mem.new core.old core.new regs.now cache.old cache.new }
+    ensures reach { ReachAgrees mem.new.tables reach.new }
+{
+    let mut window = Window::none();
+    let mut made = 0;
+    'turns: while made < most {
+        let tried = turn(words, core, regs, cache, reach, mem, &mut window);
+        if !tried.is_made() {
+            let left = leave(core, regs, mem, window);
+            return Batch { made, left };
+        }
+        made += 1;
+        if !tried.keeps_course() {
+            return Batch {
+                made,
+                left: Leaving::Stays,
+            };
+        }
+    }
+    Batch {
+        made,
+        left: Leaving::Stays,
+    }
+}
+
+/// Up to `most` turns of a hart in a row, each of whose attempts carries out its instruction, and one behind them that leaves
+/// the guest. Answers how many were made: what isn't a computation, a load, a store, an atomic operation, or an access to a
+/// register whose value doesn't go by the wires, or is refused, or misaligned, stops the row before its turn. Where the row
+/// stops at ECALL in user mode or SRET in kernel mode before it has `most` turns, that turn is made too, and isn't among
+/// `made`; its exit is the caller's to answer. Behind a write of `sstatus`, `sie` or `satp` the row ends, since an
+/// interrupt may be due then.
+///
+/// The hart has no reservation. No other hart's is looked at. That no interrupt is taken at the start is what the
+/// clause on turns asks; none comes up on the way, since no register changes that decides it. Each turn is an attempt, and
+/// counted.
+#[inline(always)]
+pub fn quick_turns(
+    words: &mut MicroOpCache,
+    core: &mut Core,
+    regs: &HRegs,
+    cache: &mut Cache,
+    reach: &mut Reach,
+    mem: &mut HostMem,
+    most: u64,
+) -> Batch
+    requires may { MayTurn mem.old core.old regs.now cache.old reach.old }
+    requires count { words.old + most < 2 ^ 64 }
+    ensures ends { (lines : Lines) → pending regs.now core.old.csrs lines ≡ None → EndsBy result.left result.made mem.old (core_of core.old regs.now) lines mem.new (core_of core.new regs.now) }
+    ensures most { turns_of result ≤ most }
+    ensures on { GoesOn mem.old mem.new core.old core.new regs.now cache.old cache.new }
+    ensures reach { ReachAgrees mem.new.tables reach.new }
+    ensures count { words.new ≡ words.old + turns_of result }
+{
+    let batch = batch_of_turns(&mut words.micro_op, core, regs, cache, reach, mem, most);
+    words.count(batch);
+    batch
+}

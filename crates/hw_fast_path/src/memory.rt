@@ -1,0 +1,149 @@
+// Where a quick turn's accesses lead.
+
+ghost use Rattle.std.specs.Prelude.{◌≡◌, ◌==◌, ◌≤◌, ℕ, ◌%◌, length, IfSome, Ok};
+ghost use Rattle.spec_processor.specs.Regions.{IsWidth, IsHostPlace};
+ghost use Rattle.spec_processor.specs.GStage.{WalksApart};
+ghost use Rattle.spec_processor.specs.CachedWalks.{CacheAgrees};
+ghost use Rattle.spec_processor.specs.HardwareMemory.{translation_result, aligned_translation};
+ghost use Rattle.hart.specs.Cores.{core_of};
+ghost use Rattle.hw_tlb.specs.Kept.{ReachAgrees};
+ghost use Rattle.hw_fast_path.specs.Quick.{MayTranslate, Translated};
+
+use gstage_cache::Cache;
+use hart::{Core, regime};
+use host_mem::HostMem;
+use hw_tlb::Reach;
+use spec_processor::{Access, BARE, HRegs, ROOT_MODE_SHIFT};
+
+/// An access to so many bytes at a virtual address.
+#[derive(Clone, Copy, Drop)]
+pub(crate) struct Reference {
+    pub(crate) access: Access,
+    pub(crate) address: u64,
+    pub(crate) width: u8,
+}
+
+// The host place of a virtual address by a walk, kept out of the way of addresses whose translation is held. It is handed
+// numbers alone, since for a reference in memory every access would write one.
+#[inline(never)]
+fn walk_to(
+    core: &Core,
+    regs: &HRegs,
+    cache: &mut Cache,
+    reach: &mut Reach,
+    mem: &HostMem,
+    access: Access,
+    address: u64,
+) -> Option<u64>
+    requires may { MayTranslate mem.now regs.now.hgatp cache.old reach.old }
+    ensures value { (htinst : ℕ) → IfSome result (λ hpa. translation_result mem.now (core_of core.now regs.now) access address htinst ≡ Ok hpa) }
+    ensures place { (width : ℕ) → IsWidth width → address % width ≡ 0 → IfSome result (λ hpa. IsHostPlace mem.now hpa width) }
+    ensures ram { IfSome result (λ hpa. length mem.now.tables ≤ hpa) }
+    ensures translated { Translated mem.now.tables regs.now.hgatp cache.old cache.new reach.new }
+{
+    let _table_bytes = mem.table_bytes();
+    reach.walk(cache, mem, &regime(core, regs), address, access)
+}
+
+// The host place of a virtual address, where its translation is held: without a first stage that of the second one, else
+// that of both.
+#[inline(always)]
+fn held_place(
+    core: &Core,
+    regs: &HRegs,
+    cache: &Cache,
+    reach: &Reach,
+    mem: &HostMem,
+    reference: Reference,
+) -> Option<u64>
+    requires apart { WalksApart mem.now regs.now.hgatp }
+    requires agrees { CacheAgrees mem.now.tables cache.now }
+    requires reach { ReachAgrees mem.now.tables reach.now }
+    ensures value { IfSome result (λ hpa. (htinst : ℕ) → translation_result mem.now (core_of core.now regs.now) reference.access reference.address htinst ≡ Ok hpa) }
+    ensures place { IfSome result (λ hpa. (width : ℕ) → IsWidth width → reference.address % width ≡ 0 → IsHostPlace mem.now hpa width) }
+    ensures ram { IfSome result (λ hpa. length mem.now.tables ≤ hpa) }
+{
+    let _table_bytes = mem.table_bytes();
+    if core.csrs.vsatp >> ROOT_MODE_SHIFT == BARE {
+        cache.held_place(mem, regs.hgatp, reference.address, reference.access)
+    } else {
+        reach.held_place(
+            mem,
+            &regime(core, regs),
+            reference.address,
+            reference.access,
+        )
+    }
+}
+
+/// The host place of a virtual address, none where an access there is refused. Its width isn't looked at.
+#[tactic(auto, using(gstage_cache::specs::Fills::nothing_filled))]
+#[inline(always)]
+pub(crate) fn place(
+    core: &Core,
+    regs: &HRegs,
+    cache: &mut Cache,
+    reach: &mut Reach,
+    mem: &HostMem,
+    reference: Reference,
+) -> Option<u64>
+    requires may { MayTranslate mem.now regs.now.hgatp cache.old reach.old }
+    ensures value { (htinst : ℕ) → IfSome result (λ hpa. translation_result mem.now (core_of core.now regs.now) reference.access reference.address htinst ≡ Ok hpa) }
+    ensures place { (width : ℕ) → IsWidth width → reference.address % width ≡ 0 → IfSome result (λ hpa. IsHostPlace mem.now hpa width) }
+    ensures ram { IfSome result (λ hpa. length mem.now.tables ≤ hpa) }
+    ensures translated { Translated mem.now.tables regs.now.hgatp cache.old cache.new reach.new }
+{
+    match held_place(core, regs, cache, reach, mem, reference) {
+        Some(hpa) => Some(hpa),
+        None => walk_to(
+            core,
+            regs,
+            cache,
+            reach,
+            mem,
+            reference.access,
+            reference.address,
+        ),
+    }
+}
+
+// An address is a multiple of a width. By a number that is known here it takes no division, which one in each load would
+// be felt.
+#[inline(always)]
+fn is_aligned(address: u64, width: u8) -> bool
+    requires { IsWidth width }
+    ensures { result ≡ (address % width == 0) }
+{
+    match width {
+        1 => true,
+        2 => address.is_multiple_of(2),
+        4 => address.is_multiple_of(4),
+        _ => address.is_multiple_of(8),
+    }
+}
+
+/// The host place of an access, none where it is refused: its address is a multiple of its width, and its translation
+/// permits it.
+#[tactic(auto, using(gstage_cache::specs::Fills::nothing_filled), unfolding(spec_processor::specs::HardwareMemory::aligned_translation))]
+#[inline(always)]
+pub(crate) fn aligned_place(
+    core: &Core,
+    regs: &HRegs,
+    cache: &mut Cache,
+    reach: &mut Reach,
+    mem: &HostMem,
+    reference: Reference,
+) -> Option<u64>
+    requires may { MayTranslate mem.now regs.now.hgatp cache.old reach.old }
+    requires width { IsWidth reference.width }
+    ensures value { (htinst : ℕ) → IfSome result (λ hpa. aligned_translation mem.now (core_of core.now regs.now) reference.access reference.address reference.width htinst ≡ Ok hpa) }
+    ensures place { IfSome result (λ hpa. IsHostPlace mem.now hpa reference.width) }
+    ensures ram { IfSome result (λ hpa. length mem.now.tables ≤ hpa) }
+    ensures translated { Translated mem.now.tables regs.now.hgatp cache.old cache.new reach.new }
+{
+    if is_aligned(reference.address, reference.width) {
+        place(core, regs, cache, reach, mem, reference)
+    } else {
+        None
+    }
+}

@@ -1,0 +1,24 @@
+use Rattle.std.proofs.Common.{length, sym, ◌∙◌, ap, subst}
+use Rattle.spec_processor.specs.Regions.{Region}
+use Rattle.spec_reference.specs.Attacker.{poke_move}
+use Rattle.spec_reference.specs.Disk.{is_writable}
+use Rattle.dma_guard.specs.declared.port.DmaStep.{DmaStep}
+use Rattle.machine_events.specs.Beats.{ToldInRam}
+use Rattle.machine_events.proofs.BeatsFit.{poke_fits, move_keeps_tables, move_keeps_size}
+use Rattle.machine_events.proofs.beats.write_poke.Goals as goal
+
+pub returns-clause-inside : goal.returns-clause-inside
+returns-clause-inside c =
+    subst (λ (b : DmaStep). ToldInRam c.args.mem.now.ram b) (sym c.poke.ensures.told)
+    (poke_fits c.args.mem.now.ram (is_writable c.args.dma.now) c.args.gpa c.args.value)
+
+pub returns-clause-tables : goal.returns-clause-tables
+returns-clause-tables c =
+    ap (λ (r : Region). r.tables) c.poke.ensures.memory
+    ∙ move_keeps_tables c.args.mem.now (poke_move c.args.mem.now.ram (is_writable c.args.dma.now) c.args.gpa c.args.value)
+
+pub returns-clause-size : goal.returns-clause-size
+returns-clause-size c =
+    ap (λ (r : Region). length r.ram) c.poke.ensures.memory
+    ∙ move_keeps_size c.args.mem.now (poke_move c.args.mem.now.ram (is_writable c.args.dma.now) c.args.gpa c.args.value)
+    (poke_fits c.args.mem.now.ram (is_writable c.args.dma.now) c.args.gpa c.args.value)

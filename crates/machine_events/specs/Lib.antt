@@ -1,0 +1,6 @@
+pub mod Attempts
+pub mod Beats
+pub mod Limits
+pub mod Parts
+pub mod Turns
+pub mod Batches

@@ -1,7 +1,0 @@
-pub mod Hosts
-pub mod Turns
-pub mod Seated
-pub mod Called
-pub mod Given
-pub mod BeatsFit
-pub mod Rows

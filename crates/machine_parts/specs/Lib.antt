@@ -1,6 +1,0 @@
-pub mod Attempts
-pub mod Beats
-pub mod Limits
-pub mod Parts
-pub mod Turns
-pub mod Rows

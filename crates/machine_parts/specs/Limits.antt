@@ -1,6 +1,0 @@
--- How high the counts of a machine may come. This project's own.
-use Rattle.std.specs.Prelude.{ℕ, ◌-◌, ◌^◌}
-
--- a turn makes two attempts at most, and the attempts are counted in 64 bits
-abbrev pub most_counts : ℕ
-most_counts = 2 ^ 63 - 1

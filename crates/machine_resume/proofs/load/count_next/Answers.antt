@@ -1,0 +1,30 @@
+use Rattle.std.proofs.Common.{length}
+use Rattle.spec_processor.specs.Bytes.{ram_offset}
+use Rattle.sv_types.specs.Policies.{rules_of}
+use Rattle.machine_resume.proofs.Counted.{counted_next, pages_inside}
+use Rattle.machine_resume.proofs.load.count_next.Goals as goal
+
+pub next_page-requires-clause-policy : goal.next_page-requires-clause-policy
+next_page-requires-clause-policy c = c.requires.counted.pages
+
+pub next_page-requires-clause-few : goal.next_page-requires-clause-few
+next_page-requires-clause-few c = c.requires.counted.few
+
+pub next_page-requires-clause-inside : goal.next_page-requires-clause-inside
+next_page-requires-clause-inside c =
+    pages_inside (ram_offset c.args.load.now.about.gpa) c.args.load.now.pages (length c.args.mem.now.ram) c.requires.counted.begins c.requires.counted.inside
+
+pub returns-clause-counted : goal.returns-clause-counted
+returns-clause-counted c =
+    (counted_next (rules_of c.args.policy.now) c.args.mem.now.ram c.args.load.now c.page.new.self c.next_page.result.now c.requires.within c.requires.counted c.requires.left c.page.ensures.pages
+    c.next_page.ensures.bytes c.page.ensures.counted).counted
+
+pub returns-clause-left : goal.returns-clause-left
+returns-clause-left c =
+    (counted_next (rules_of c.args.policy.now) c.args.mem.now.ram c.args.load.now c.page.new.self c.next_page.result.now c.requires.within c.requires.counted c.requires.left c.page.ensures.pages
+    c.next_page.ensures.bytes c.page.ensures.counted).left
+
+pub returns-clause-about : goal.returns-clause-about
+returns-clause-about c =
+    (counted_next (rules_of c.args.policy.now) c.args.mem.now.ram c.args.load.now c.page.new.self c.next_page.result.now c.requires.within c.requires.counted c.requires.left c.page.ensures.pages
+    c.next_page.ensures.bytes c.page.ensures.counted).about

@@ -1,0 +1,4 @@
+pub mod HwOfSlots
+mod Changes
+mod Modules
+mod Traps

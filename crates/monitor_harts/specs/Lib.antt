@@ -1,0 +1,4 @@
+pub mod Asking
+pub mod HwOfSlots
+pub mod Slots
+pub mod Trapped

@@ -1,4 +1,0 @@
-pub mod Rows
-pub mod Flat
-pub mod Quick
-pub mod Ends

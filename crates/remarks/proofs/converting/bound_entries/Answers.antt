@@ -1,5 +1,0 @@
-use Rattle.std.proofs.Common.{rules}
-use Rattle.remarks.proofs.converting.bound_entries.Goals as goal
-
-pub bind-requires : goal.bind-requires
-bind-requires g c = (search rules, record { file = c.args.image.now; accepted = c.in-Ok.ensures.accepted; segments = c.in-Ok.ensures.segments })

@@ -1,6 +1,0 @@
-use Rattle.snapshot_form.specs.Snapshots.{contents}
-use Rattle.resume_laws.proofs.FormParts.{parts_of}
-use Rattle.remarks.proofs.resuming.goes_on.Goals as goal
-
-pub resume_refusal-requires-clause-ram : goal.resume_refusal-requires-clause-ram
-resume_refusal-requires-clause-ram g c κs within = (parts_of (contents c.args.snapshot.now) c.requires.form).ram

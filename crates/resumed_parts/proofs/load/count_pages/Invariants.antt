@@ -1,9 +1,0 @@
-use Rattle.std.proofs.Common.{◌≡◌, ◌+◌}
-use Rattle.sv_types.specs.Policies.{rules_of}
-use Rattle.resumed_parts.specs.Counting.{IsCounted}
-use Rattle.resumed_parts.proofs.load.count_pages.Given as goal
-
--- so many pages are counted
-abbrev pub invariant-counted : goal.invariant-counted
-invariant-counted l =
-    IsCounted (rules_of l.policy) l.mem.ram l.load × ((l.load.left + l.counter ≡ l.fn.load.left) × ((l.load.about ≡ l.fn.load.about) × (l.load.pages ≡ l.fn.load.pages)))

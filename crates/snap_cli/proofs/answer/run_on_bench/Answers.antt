@@ -1,5 +1,0 @@
-use Rattle.std.proofs.Common.{refl}
-use Rattle.snap_cli.proofs.answer.run_on_bench.Goals as goal
-
-pub returns : goal.returns
-returns g c = λ start new. (c.run_and_save-result.new.machine, refl, c.run_and_save-result.ensures start new)

@@ -1,5 +1,0 @@
-use Rattle.snap_cli.proofs.FileHolds.{snap_file_law}
-use Rattle.snap_cli.proofs.laws.law_snap_file.Goals as goal
-
-pub returns : goal.returns
-returns c = snap_file_law

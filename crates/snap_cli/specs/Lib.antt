@@ -1,8 +1,0 @@
-pub mod BlockRuns
-pub mod CountRuns
-pub mod SnapAnswers
-pub mod SnapEnds
-pub mod SnapFile
-pub mod SnapReady
-pub mod SnapWords
-pub mod Spelling

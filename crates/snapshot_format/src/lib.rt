@@ -1,0 +1,19 @@
+//! What a snapshot is: a machine as plain data, with the digests of its text and the number of events that it made; and its
+//! bytes, as a form that is read and written exactly. The definitions are in `specs/`.
+#![tactic(auto)]
+
+ghost use Rattle.snapshot_format.specs.SnapshotLaw.{SnapshotLaw};
+
+pub mod note_kind;
+pub mod protection_number;
+mod refusal;
+pub mod verdict_kind;
+mod whole;
+
+pub use refusal::SnapRefusal;
+pub use whole::{MAGIC, MAGIC_BYTES, Snapshot, TextPage};
+
+/// A snapshot that has a spelling is read from its spelling, and what is read is spelled by exactly the bytes that were read.
+pub fn law_snapshot()
+    ensures { SnapshotLaw }
+{}

@@ -1,0 +1,12 @@
+pub mod Machine
+pub mod StandsFor
+pub mod Served
+pub mod HardwareEvent
+pub mod HwHarts
+pub mod HwCalls
+pub mod HwExits
+pub mod GivenAnswers
+pub mod HwEvents
+pub mod Steps
+pub mod Reaches
+pub mod Frame

@@ -1,0 +1,48 @@
+//! Whole runs of the program over files and a sink in memory. It runs the stored guests, and prints of each its name, the
+//! status of its run and all that the run prints; it says of each stored policy whether it is what `measure` makes of its
+//! image. Then it follows the orders of the cases, a line each, and prints what each call leaves behind.
+//! `data/parts.cases` says what the orders are.
+#![tactic(auto)]
+
+use std::rt::Files;
+use std::sync::Wait;
+use std::thread::Threads;
+use std::{fs, io};
+use test_cases::{ENDLESS, compare_policies, follow_cases, refuse_endless, run_guests};
+
+// The files of cases, in the order in which they run.
+static LISTS: [&str; 10] = [
+    "flat.cases",
+    "kernels.cases",
+    "generated.cases",
+    "images.cases",
+    "modules.cases",
+    "texts.cases",
+    "policies.cases",
+    "snapshots.cases",
+    "remarks.cases",
+    "live.cases",
+];
+
+fn main(rt: HostRuntime) -> io::Result<()> {
+    run_guests(&rt, "runs.txt")?;
+    compare_policies(&rt, "policies.txt")?;
+    let parts = fs::read_to_string(&rt, "parts.cases")?;
+    for list in &LISTS {
+        run_list(&rt, parts.as_str(), list)?;
+    }
+    println!(rt; "== files without end")?;
+    for words in &ENDLESS {
+        refuse_endless(&rt, rt.clone()?, words)?;
+    }
+    Ok(())
+}
+
+fn run_list<R: Threads + Wait + Sync + Files + AllocGlobal + Print>(
+    rt: &R,
+    parts: &str,
+    name: &str,
+) -> io::Result<()> {
+    let text = fs::read_to_string(rt, name)?;
+    follow_cases(rt, parts, text.as_str())
+}
