@@ -4,7 +4,7 @@ use Rattle.std.specs.List.{list_any}
 use Rattle.spec_processor.specs.Bytes.{word}
 use Rattle.sv_types.specs.Kernel.{kernel_refusal, file_checks, header_checks, header_at, loaded_among, segment_checks, image_checks, kernel_segments, text_of, header_entry}
 use Rattle.sv_types.specs.Measure.{measure}
-use Rattle.guest_gen.specs.Booting.{IsBootable}
+use Rattle.guest_gen.specs.Booting.{IsMeasuredKernel}
 use Rattle.guest_gen.specs.Images.{file_header, program_header, segment, headers, laid_out, text_address}
 use Rattle.guest_gen.specs.GuestCode.{setup, trap_handler, user_loop}
 use Rattle.guest_gen.specs.Generated.{generated_text, generated_image, policy_of_text, generated_policy}
@@ -21,7 +21,7 @@ pub same_text : (n : ℕ) → text_of (kernel_segments (generated_image n)) ≡ 
 unfolding word text_of kernel_segments header_at loaded_among file_header program_header segment headers laid_out generated_image generated_text setup trap_handler user_loop
 same_text n = refl
 
-pub bootable : (n : ℕ) → IsBootable (generated_image n) (generated_policy n)
+pub bootable : (n : ℕ) → IsMeasuredKernel (generated_image n) (generated_policy n)
 unfolding policy_of_text
 bootable n = record {
   accepted = accepted n;

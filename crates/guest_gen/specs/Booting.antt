@@ -6,7 +6,7 @@ use Rattle.sv_types.specs.Measure.{measure}
 use Rattle.sv_types.specs.Policies.{Rules}
 
 -- the file is a kernel for the policy's RAM, its text has the policy's measure, and it begins at a permitted entry
-pub record IsBootable (file : List ℕ) (rules : Rules) : Type 0 where
+pub record IsMeasuredKernel (file : List ℕ) (rules : Rules) : Type 0 where
   pub accepted : kernel_refusal file rules.ram_pages ≡ None
   pub measured : measure (text_of (kernel_segments file)) ≡ rules.kernel
   pub permitted : IsTrue (list_any (λ entry. entry == header_entry file) rules.entries)

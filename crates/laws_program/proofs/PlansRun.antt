@@ -57,11 +57,11 @@ flat_runs file wanted events = part_runs ⊥ IsMeasuredStart Part.Flat file _ _ 
 image_start_is : (kind : DiskKind) (rules : Rules) (file disk : List ℕ) → GoodRules rules → kernel_refusal file rules.ram_pages ≡ None
     → measure (text_of (kernel_segments file)) ≡ rules.kernel → has_number rules.entries (header_entry file) ≡ true → IsMeasuredStart (start_with kind rules file disk)
 image_start_is DiskKind.Block rules file disk good accepted measured entry = inr (inl (record {
-  starts = record { rules = rules; file = file; disk = disk; within = good.within; words = good.words; accepted = accepted; entry = entry; same = refl };
+  starts = record { rules = rules; file = file; disk = disk; bootable = record { within = good.within; words = good.words; accepted = accepted; entry = entry }; same = refl };
   measured = measured;
 }))
 image_start_is DiskKind.Virtio rules file disk good accepted measured entry = inr (inr (record {
-  starts = record { rules = rules; file = file; disk = disk; within = good.within; words = good.words; accepted = accepted; entry = entry; same = refl };
+  starts = record { rules = rules; file = file; disk = disk; bootable = record { within = good.within; words = good.words; accepted = accepted; entry = entry }; same = refl };
   measured = measured;
 }))
 

@@ -76,7 +76,7 @@ flat_keeps s k = subst IsKeepable (sym k.same)
 image_keeps : {boot : Rules → (file disk : List ℕ) → State} (s : State) (disk : Disk) (k : StartsBy boot s) → boot k.rules k.file k.disk ≡ image_start k.rules k.file disk → IsKeepable s
 image_keeps s disk k same = subst IsKeepable (sym (k.same ∙ same))
     (start_keeps k.rules (segments_ram (kernel_segments k.file) k.rules.ram_pages) (text_pages (kernel_segments k.file)) (header_entry k.file) disk
-    (image_can k.rules k.file k.within k.words k.accepted k.entry) (text_pages_ascend (kernel_segments k.file)))
+    (image_can k.rules k.file k.bootable.within k.bootable.words k.bootable.accepted k.bootable.entry) (text_pages_ascend (kernel_segments k.file)))
 
 begins : (s : State) → IsStart s → IsKeepable s
 unfolding boot_start virtio_start

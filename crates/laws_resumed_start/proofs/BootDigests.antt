@@ -157,10 +157,7 @@ boot_is rules file disk k = inr (inl (record {
   rules = rules;
   file = file;
   disk = disk;
-  within = k.within;
-  words = k.words;
-  accepted = k.accepted;
-  entry = k.entry;
+  bootable = k.bootable;
   same = refl;
 }))
 
@@ -169,7 +166,7 @@ digests_of_boot : (rules : Rules) (file disk : List ℕ) → IsMeasuredBoot rule
 unfolding boot_start
 digests_of_boot rules file disk k sound =
     of_start rules (segments_ram (kernel_segments file) rules.ram_pages) (text_pages (kernel_segments file)) (header_entry file) (block_disk disk)
-    (text_pages_ascend (kernel_segments file)) (ap measure (sym (text_in_ram file rules.ram_pages k.accepted)) ∙ k.measured) sound
+    (text_pages_ascend (kernel_segments file)) (ap measure (sym (text_in_ram file rules.ram_pages k.bootable.accepted)) ∙ k.measured) sound
 
 pub boot_digests_law : BootDigestsLaw
 boot_digests_law rules file disk k = digests_of_boot rules file disk k (reached_sound (boot_start rules file disk) [] (boot_is rules file disk k))

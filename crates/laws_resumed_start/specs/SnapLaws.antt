@@ -1,12 +1,12 @@
 -- What a snapshot of a run that began with a measured boot is good for. This project's own.
-use Rattle.std.specs.Prelude.{◌≡◌, ℕ, List, None, Ok, take, true, IsTrue}
-use Rattle.sv_types.specs.Kernel.{header_entry, kernel_refusal, kernel_segments, text_of}
+use Rattle.std.specs.Prelude.{◌≡◌, ℕ, List, None, Ok, take}
+use Rattle.sv_types.specs.Kernel.{kernel_segments, text_of}
 use Rattle.sv_types.specs.Measure.{measure}
-use Rattle.sv_types.specs.Policies.{Rules, rules_within}
+use Rattle.sv_types.specs.Policies.{Rules}
 use Rattle.sv_types.specs.declared.event.Event.{Event}
 use Rattle.spec_reference.specs.Run.{run}
-use Rattle.spec_reference.specs.Start.{AreWords, boot_start}
-use Rattle.spec_reference.specs.States.{State, has_number}
+use Rattle.spec_reference.specs.Start.{IsBootable, boot_start}
+use Rattle.spec_reference.specs.States.{State}
 use Rattle.spec_saved_machine.specs.SavedStates.{IsSaved}
 use Rattle.snapshot_format.specs.Snapshots.{contents, snapshot, snapshot_read}
 use Rattle.snapshot_format.specs.Typed.{IsTyped}
@@ -26,13 +26,9 @@ pub record IsSnapshotOf (start : State) (events : List Event) (s : Snapshot) : T
   pub text : s.text.items ≡ digested_text start
   pub typed : IsTyped (contents s)
 
--- a policy within its limits and an image that isn't refused, which begins at a permitted entry, and whose text has the
--- policy's measure
+-- a policy and an image that allow a boot, and the image's text has the policy's measure
 pub record IsMeasuredBoot (rules : Rules) (file : List ℕ) : Type 0 where
-  pub within : IsTrue (rules_within rules)
-  pub words : AreWords rules.entries
-  pub accepted : kernel_refusal file rules.ram_pages ≡ None
-  pub entry : has_number rules.entries (header_entry file) ≡ true
+  pub bootable : IsBootable rules file
   pub measured : measure (text_of (kernel_segments file)) ≡ rules.kernel
 
 -- the digests of the text before the first event are those that a run keeps

@@ -5,7 +5,7 @@ use Rattle.spec_processor.specs.Hardware.{Attempted, leave, with_region}
 use Rattle.spec_processor.specs.HypervisorRegisters.{HypervisorRegisters, registers_at_exit}
 use Rattle.spec_processor.specs.declared.outcome.Outcome.{Outcome}
 use Rattle.spec_processor.specs.declared.exit.Exit.{Exit}
-use Rattle.spec_reference.specs.States.{State, Hart, Loading}
+use Rattle.spec_reference.specs.States.{State, Hart}
 use Rattle.spec_hardware.specs.Machine.{Machine, HwHart, with_count_raised, after_attempt, after_quiet_attempt, all_forget, with_core}
 use Rattle.spec_hardware.specs.HwHarts.{with_hw, hw_outside, hw_seen}
 use Rattle.spec_hardware.specs.declared.exits.ExitAnswer.{ExitAnswer}
@@ -16,7 +16,7 @@ use Rattle.spec_reference.specs.Soundness.{IsSound}
 use Rattle.spec_hardware.specs.Served.{seen_of, exit_answer, exit_answered, serve_exit, is_again}
 use Rattle.spec_reference.specs.Turn.{turn, outside_entry, leave_entry}
 use Rattle.spec_reference.specs.Counting.{count, count_turn}
-use Rattle.laws_attempt.specs.Agree.{IsAt, AgreesBy, IsNotLoading, region_at, core_at, one_attempt_more}
+use Rattle.laws_attempt.specs.Agree.{IsAt, AgreesBy, region_at, core_at, one_attempt_more}
 use Rattle.laws_simulation.specs.Laws.{MakesAttempt, IsQuiet, QuietLaw, ExitLaw}
 use Rattle.spec_hardware.specs.HardwareEvent.{attempt_of}
 use Rattle.laws_attempt.proofs.HwOfSlots.{hw_harts_get, hw_harts_exit, hw_harts_update}
@@ -25,10 +25,6 @@ use Rattle.laws_attempt.proofs.AttemptLawHolds.{attempt_law}
 use Rattle.laws_invariants.proofs.StepsSound.{turn_goes, counted_sound, leave_goes}
 use Rattle.spec_hardware.proofs.Privileges.{same_mode}
 use Rattle.laws_invariants.proofs.EntriesHold.{running}
-
-not_loading : (h : ℕ) (x : Option Loading) → ((load : Loading) → x ≡ Some load → (load.hart == h) ≡ false) → IsNotLoading h x
-not_loading h None other = tt
-not_loading h (Some load) other = other load refl
 
 quiet_by : (o : Unseen) (r : State) (h : ℕ) (hart : Hart) (c : HypervisorRegisters) (a : Attempted) (x : Outcome) → IsAt o r h hart c
     → AgreesBy x o r h hart c a (turn r h) → IsQuiet x → StandsFor (after_quiet_attempt (machine_of o r) h a) (turn r h)
@@ -67,7 +63,7 @@ pub quiet_turn : (m : Machine) (r : State) (h : ℕ) (hw : HwHart) (hart : Hart)
     → IsQuiet (attempt_of m h hw).outcome → StandsFor (after_quiet_attempt m h (attempt_of m h hw)) (turn r h)
 quiet_turn m r h hw hart makes quiet =
     quiet_same m r h hw hart makes.stands.unseen makes.stands.same makes.stands.unseen_is_right makes.stands.sound makes.hw_is makes.hart_is makes.started
-    (not_loading h r.loading makes.loads) quiet
+    makes.free quiet
 
 -- ---- exits
 
@@ -126,7 +122,7 @@ pub exit_turn : (m : Machine) (r : State) (h : ℕ) (hw : HwHart) (hart : Hart) 
     → (attempt_of m h hw).outcome ≡ Outcome.Exit exit → StandsFor (after_attempt m h (attempt_of m h hw)) r × (turn r h ≡ serve_exit r h hart exit)
 exit_turn m r h hw hart exit makes left_by =
     exit_same m r h hw hart exit makes.stands.unseen makes.stands.same makes.stands.unseen_is_right makes.stands.sound makes.hw_is makes.hart_is makes.started
-    (not_loading h r.loading makes.loads) left_by
+    makes.free left_by
 
 -- ---- a second attempt
 
@@ -217,7 +213,7 @@ makes_raised m r h hw hart k = record {
   hw_is = k.hw_is;
   hart_is = k.hart_is;
   started = k.started;
-  loads = k.loads;
+  free = k.free;
 }
 
 pub quiet_law : QuietLaw

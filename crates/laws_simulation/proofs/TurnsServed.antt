@@ -34,6 +34,7 @@ use Rattle.laws_simulation.proofs.CallsMirrored.{none_hw}
 use Rattle.laws_simulation.proofs.EventsAgree.{IsNoTurn, event_law, verdict_of}
 use Rattle.laws_simulation.proofs.ExitsMirrored.{served_turn}
 use Rattle.laws_attempt.proofs.HwOfSlots.{hw_harts_get}
+use Rattle.laws_attempt.specs.Agree.{IsNotLoading}
 use Rattle.laws_attempt.proofs.AttemptsAgree.{get_back, turn_none, turn_stopped}
 use Rattle.laws_simulation.proofs.LawsHold.{answer_at_exit, quiet_turn, raised_at, makes_raised, exit_turn, outside_stands, again_turn}
 use Rattle.laws_simulation.proofs.LoadsMirrored.{load_turn}
@@ -118,7 +119,7 @@ makes_again m r h hw hart exit makes left = record {
   hw_is = again_there m h hw exit makes.hw_is left;
   hart_is = get_back r.harts h hart (outside_entry hart) makes.hart_is;
   started = makes.started;
-  loads = makes.loads;
+  free = makes.free;
 }
 
 choose_once : (b : Bool) (x y : ExitAnswer) → is_again x ≡ false → is_again y ≡ false → is_again (if b then x else y) ≡ false
@@ -226,11 +227,9 @@ its_by : (r : State) (h : ℕ) (x : Option Loading) (b : Bool) → is_loading (o
 its_by r h None b e on = absurd (cc)
 its_by r h (Some load) b e on = (load, (refl, ap (λ (n : ℕ). n == h) (sym (hart_of r load (slice_get r.rules.modules load.about.id))) ∙ e ∙ on))
 
-pub not_its : (r : State) (h : ℕ) (x : Option Loading) → is_loading (option_map (load_kept r.rules r.ram) x) h ≡ false → (load : Loading) → x ≡ Some load → (load.hart == h) ≡ false
-not_its r h None off load e = absurd (cc)
-not_its r h (Some other) off load e =
-    let same : other ≡ load = cc in
-    subst (λ (l : Loading). (l.hart == h) ≡ false) same (ap (λ (n : ℕ). n == h) (sym (hart_of r other (slice_get r.rules.modules other.about.id))) ∙ off)
+pub not_its : (r : State) (h : ℕ) (x : Option Loading) → is_loading (option_map (load_kept r.rules r.ram) x) h ≡ false → IsNotLoading h x
+not_its r h None off = tt
+not_its r h (Some load) off = ap (λ (n : ℕ). n == h) (sym (hart_of r load (slice_get r.rules.modules load.about.id))) ∙ off
 
 started_served : (m after : Machine) (r : State) (h : ℕ) (hw : HwHart) (hart : Hart) (b : Bool) → StandsFor (with_count_raised m count_turn) (count r count_turn)
     → slice_get m.harts h ≡ Some hw → slice_get r.harts h ≡ Some hart → hart.started ≡ true
@@ -250,7 +249,7 @@ started_served m after r h hw hart false stands hw_is hart_is on loading e serve
       hw_is = hw_is;
       hart_is = hart_is;
       started = on;
-      loads = not_its r h r.loading (ap (λ (x : Option HwLoad). is_loading x h) (sym loading) ∙ e);
+      free = not_its r h r.loading (ap (λ (x : Option HwLoad). is_loading x h) (sym loading) ∙ e);
     }) refl served
 
 -- ---- harts

@@ -1,17 +1,18 @@
 -- The laws of SecVisor's machine beside the reference machine. This project's own.
-use Rattle.std.specs.Prelude.{◌≡◌, ℕ, true, false, List, ◌==◌, Some, slice_get}
+use Rattle.std.specs.Prelude.{◌≡◌, ℕ, true, List, Some, slice_get}
 use Rattle.sv_types.specs.declared.event.Event.{Event}
 use Rattle.sv_types.specs.declared.event.Event.TheVariants.{Turn}
 use Rattle.sv_types.specs.declared.event.Verdict.TheVariants.{Running}
 use Rattle.spec_processor.specs.declared.outcome.Outcome.{Outcome}
 use Rattle.spec_processor.specs.declared.exit.Exit.{Exit}
-use Rattle.spec_reference.specs.States.{State, Hart, Loading}
+use Rattle.spec_reference.specs.States.{State, Hart}
 use Rattle.spec_reference.specs.Counting.{count, count_turn}
 use Rattle.spec_reference.specs.Run.{step, run}
 use Rattle.spec_reference.specs.Turn.{leave_entry, outside_entry}
 use Rattle.spec_hardware.specs.Machine.{Machine, HwHart, with_count_raised, after_attempt, after_quiet_attempt}
 use Rattle.spec_hardware.specs.StandsFor.{StandsFor}
 use Rattle.spec_hardware.specs.Served.{serve_exit}
+use Rattle.laws_attempt.specs.Agree.{IsNotLoading}
 use Rattle.spec_hardware.specs.HardwareEvent.{IsEvent, attempt_of, sent_again, hart_again}
 use Rattle.spec_hardware.specs.HwHarts.{asks_again}
 use Rattle.spec_hardware.specs.Steps.{AreTables, IsStep}
@@ -25,7 +26,7 @@ pub record MakesAttempt (m : Machine) (r : State) (h : ℕ) (hw : HwHart) (hart 
   pub hw_is : slice_get m.harts h ≡ Some hw
   pub hart_is : slice_get r.harts h ≡ Some hart
   pub started : hart.started ≡ true
-  pub loads : (load : Loading) → r.loading ≡ Some load → (load.hart == h) ≡ false
+  pub free : IsNotLoading h r.loading
 
 abbrev pub IsQuiet : Outcome → Type 0
 IsQuiet (Outcome.Retired wrote) = Unit {0}

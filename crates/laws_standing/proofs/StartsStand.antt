@@ -6,14 +6,14 @@ use Rattle.sv_types.specs.Boot.{flat_ram_pages}
 use Rattle.spec_processor.specs.Bytes.{with_padding, page_bytes, page_size, ram_base}
 use Rattle.sv_types.specs.ApprovedPages.{approved_pages, numbers_from}
 use Rattle.spec_processor.specs.HypervisorRegisters.{registers_at_boot}
-use Rattle.sv_types.specs.Kernel.{header_entry, kernel_refusal, kernel_segments, segments_ram, text_pages}
-use Rattle.sv_types.specs.Policies.{Rules, rules_within}
+use Rattle.sv_types.specs.Kernel.{header_entry, kernel_segments, segments_ram, text_pages}
+use Rattle.sv_types.specs.Policies.{Rules}
 use Rattle.sv_types.specs.Views.{AreViews, with_ram}
 use Rattle.sv_types.specs.declared.protection.Protection.{Protection}
 use Rattle.sv_types.specs.declared.protection.Protection.TheVariants.{Free, Held, Approved}
 use Rattle.spec_reference.specs.Calls.{hart_at, stopped_hart}
 use Rattle.spec_reference.specs.Protections.{protection_at, with_pages, with_each}
-use Rattle.spec_reference.specs.Start.{AreWords, start, flat_start, image_start, boot_start, virtio_start, block_disk, virtio_disk, flat_rules, harts_at_boot}
+use Rattle.spec_reference.specs.Start.{IsBootable, start, flat_start, image_start, boot_start, virtio_start, block_disk, virtio_disk, flat_rules, harts_at_boot}
 use Rattle.spec_reference.specs.States.{State, Disk, protection_in, protection_by, has_number, protections_of}
 use Rattle.spec_reference.specs.Soundness.{IsSoundDisk}
 use Rattle.spec_hardware.specs.Machine.{Machine}
@@ -168,20 +168,19 @@ flat_start_law m pages digest fits guarded same =
 
 -- whatever device the disk is behind
 pub any_start : (m : Machine) (rules : Rules) (file : List ℕ) (disk : Disk)
-    → IsTrue (rules_within rules) → AreWords rules.entries
-    → kernel_refusal file rules.ram_pages ≡ None → has_number rules.entries (header_entry file) ≡ true → IsGuarded m → IsSoundDisk disk
+    → IsBootable rules file → IsGuarded m → IsSoundDisk disk
     → m ≡ image_machine m.region.tables rules (header_entry file) (kernel_segments file) disk
     → IsNew m (image_start rules file disk)
-any_start m rules file disk within words accepted entry guarded quiet same =
+any_start m rules file disk boots guarded quiet same =
     subst (λ (k : Machine). IsNew k (image_start rules file disk)) (sym same)
-    (image_new m.region.tables rules file disk (image_can rules file within words accepted entry) quiet (subst IsGuarded same guarded))
+    (image_new m.region.tables rules file disk (image_can rules file boots.within boots.words boots.accepted boots.entry) quiet (subst IsGuarded same guarded))
 
 pub image_start_law : ImageStartLaw
 unfolding boot_start
-image_start_law m rules file disk within words accepted entry guarded same =
-    any_start m rules file (block_disk disk) within words accepted entry guarded (block_quiet disk) same
+image_start_law m rules file disk boots guarded same =
+    any_start m rules file (block_disk disk) boots guarded (block_quiet disk) same
 
 pub virtio_start_law : VirtioStartLaw
 unfolding virtio_start
-virtio_start_law m rules file disk within words accepted entry guarded same =
-    any_start m rules file (virtio_disk disk) within words accepted entry guarded (virtio_quiet disk) same
+virtio_start_law m rules file disk boots guarded same =
+    any_start m rules file (virtio_disk disk) boots guarded (virtio_quiet disk) same

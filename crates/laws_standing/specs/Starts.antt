@@ -4,8 +4,8 @@ use Rattle.sv_types.specs.Boot.{no_counts, flat_ram_pages}
 use Rattle.spec_processor.specs.Bytes.{with_padding, page_size, ram_base}
 use Rattle.sv_types.specs.Clock.{clock_at_boot}
 use Rattle.spec_processor.specs.HypervisorRegisters.{registers_at_boot}
-use Rattle.sv_types.specs.Kernel.{LoadedSegment, header_entry, kernel_refusal, kernel_segments, segments_ram, text_pages}
-use Rattle.sv_types.specs.Policies.{Rules, rules_within}
+use Rattle.sv_types.specs.Kernel.{LoadedSegment, header_entry, kernel_segments, segments_ram, text_pages}
+use Rattle.sv_types.specs.Policies.{Rules}
 use Rattle.spec_processor.specs.Regions.{Region, IsRegion}
 use Rattle.spec_processor.specs.IntegerRegisters.{register_count}
 use Rattle.sv_types.specs.Views.{AreViews, with_ram}
@@ -15,7 +15,7 @@ use Rattle.sv_types.specs.declared.protection.Protection.{Protection}
 use Rattle.sv_types.specs.declared.protection.Protection.TheVariants.{Free, Held, Approved}
 use Rattle.sv_types.specs.Protections.{is_free}
 use Rattle.spec_reference.specs.Protections.{protection_at, with_pages, with_each}
-use Rattle.spec_reference.specs.Start.{AreWords, block_disk, virtio_disk, flat_rules, flat_start, boot_start, virtio_start}
+use Rattle.spec_reference.specs.Start.{IsBootable, block_disk, virtio_disk, flat_rules, flat_start, boot_start, virtio_start}
 use Rattle.spec_reference.specs.States.{State, Disk, Journal, has_number}
 use Rattle.spec_hardware.specs.Machine.{Machine, HwHart}
 use Rattle.spec_hardware.specs.Reaches.{IsNew}
@@ -105,11 +105,10 @@ abbrev pub FlatStartLaw : Type 0
 FlatStartLaw = (m : Machine) (pages digest : List ℕ) → length pages ≤ page_size * flat_ram_pages → IsGuarded m
     → m ≡ flat_machine m.region.tables pages digest → IsNew m (flat_start pages digest)
 
--- a machine of an accepted image, under a policy within its limits that permits its entry, stands for its start
+-- a machine of an image under a policy that allow a boot stands for its start
 abbrev pub StartLaw : (List ℕ → Disk) → (Rules → (file disk : List ℕ) → State) → Type 0
 StartLaw device boot = (m : Machine) (rules : Rules) (file disk : List ℕ)
-    → IsTrue (rules_within rules) → AreWords rules.entries
-    → kernel_refusal file rules.ram_pages ≡ None → has_number rules.entries (header_entry file) ≡ true → IsGuarded m
+    → IsBootable rules file → IsGuarded m
     → m ≡ image_machine m.region.tables rules (header_entry file) (kernel_segments file) (device disk)
     → IsNew m (boot rules file disk)
 

@@ -82,7 +82,8 @@ pub image_new : (m : Machine) (rules : Rules) (image : KernelImage) (file : List
     → has_number rules.entries image.entry ≡ true → IsGuarded m → IsSoundDisk disk → m ≡ image_machine m.region.tables rules image.entry (segments_of image) disk
     → IsImageOf file rules.ram_pages image → IsNew m (image_start rules file disk)
 image_new m rules image file disk within words permitted guarded quiet made is =
-    any_start m rules file disk within words is.accepted (ap (has_number rules.entries) (sym is.entry) ∙ permitted) guarded quiet
+    any_start m rules file disk
+    (record { within = within; words = words; accepted = is.accepted; entry = ap (has_number rules.entries) (sym is.entry) ∙ permitted }) guarded quiet
     (made
     ∙ ap (λ (entry : ℕ). image_machine m.region.tables rules entry (segments_of image) disk) is.entry
     ∙ ap (λ (segments : List LoadedSegment). image_machine m.region.tables rules (header_entry file) segments disk) is.segments)

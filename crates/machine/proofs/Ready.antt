@@ -101,7 +101,7 @@ makes_attempt m r h stands makes =
         hw_is = there;
         hart_is = is.1.0;
         started = is.1.1 ∙ makes.started;
-        loads = not_its r h r.loading (ap (λ (x : Option HwLoad). is_loading x h) (sym loading) ∙ makes.free);
+        free = not_its r h r.loading (ap (λ (x : Option HwLoad). is_loading x h) (sym loading) ∙ makes.free);
       },
     )
 
@@ -179,7 +179,7 @@ asked_before m r h exit stands makes e =
       hw_is = hart_there left.harts h (left_below m h exit (started_below m.harts h makes.started) e);
       hart_is = k.1.hart_is;
       started = k.1.started;
-      loads = k.1.loads;
+      free = k.1.free;
     } in
     asked_same left r h (hart_in left.harts h) k.0 exit next ∙ sym (asked_same m r h (hart_in m.harts h) k.0 exit k.1)
 

@@ -4,7 +4,7 @@ ghost use Rattle.sv_types.specs.Policies.{rules_of, rules_within};
 ghost use Rattle.spec_reference.specs.Start.{boot_start};
 ghost use Rattle.spec_hardware.specs.Reaches.{IsNew};
 ghost use Rattle.guest_gen.specs.GuestCode.{max_calls};
-ghost use Rattle.guest_gen.specs.Booting.{IsBootable};
+ghost use Rattle.guest_gen.specs.Booting.{IsMeasuredKernel};
 ghost use Rattle.cli_plans.specs.Plans.{gen_due, gen_disk};
 ghost use Rattle.secvisor_cli.specs.Ready.{IsReady};
 
@@ -60,7 +60,7 @@ fn boot<R: Threads + Sync>(
     disk: Vec<u8>,
 ) -> Result<Machine, AllocError>
     requires within { IsTrue (rules_within (rules_of policy)) }
-    requires bootable { IsBootable file.now (rules_of policy) }
+    requires bootable { IsMeasuredKernel file.now (rules_of policy) }
     requires disk { disk.items ≡ gen_disk }
     ensures { IfOk result (λ m. IsNew m (boot_start (rules_of policy) file.now gen_disk)) }
 {

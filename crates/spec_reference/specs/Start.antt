@@ -90,15 +90,19 @@ pub record StartsFlat (s : State) : Type 0 where
   pub fits : length pages ≤ page_size * flat_ram_pages
   pub same : s ≡ flat_start pages digest
 
--- a policy within its limits and an image that isn't refused, which begins at a permitted entry, with a disk
-pub record StartsBy (boot : Rules → (file disk : List ℕ) → State) (s : State) : Type 0 where
-  pub rules : Rules
-  pub file : List ℕ
-  pub disk : List ℕ
+-- what a boot asks for: a policy within its limits, and an image that isn't refused and begins at a permitted entry
+pub record IsBootable (rules : Rules) (file : List ℕ) : Type 0 where
   pub within : IsTrue (rules_within rules)
   pub words : AreWords rules.entries
   pub accepted : kernel_refusal file rules.ram_pages ≡ None
   pub entry : has_number rules.entries (header_entry file) ≡ true
+
+-- the boot of a policy and an image that allow it, with a disk
+pub record StartsBy (boot : Rules → (file disk : List ℕ) → State) (s : State) : Type 0 where
+  pub rules : Rules
+  pub file : List ℕ
+  pub disk : List ℕ
+  pub bootable : IsBootable rules file
   pub same : s ≡ boot rules file disk
 
 abbrev pub StartsImage : State → Type 0

@@ -1,6 +1,6 @@
 use Rattle.std.proofs.Common.{◌∙◌, ℕ, List, refl, sym, subst}
 use Rattle.sv_types.specs.Policies.{Rules, rules_of}
-use Rattle.guest_gen.specs.Booting.{IsBootable}
+use Rattle.guest_gen.specs.Booting.{IsMeasuredKernel}
 use Rattle.guest_gen.specs.Generated.{generated_policy, generated_image}
 use Rattle.guest_gen.proofs.Boots.{bootable}
 use Rattle.spec_reference.specs.Start.{boot_start}
@@ -19,8 +19,8 @@ returns-in_err-disk g c = err_by _ Memory (λ r. IsReady (gen_due c.args.calls) 
 
 pub boot-requires-clause-bootable : goal.boot-requires-clause-bootable
 boot-requires-clause-bootable g c κs within =
-    subst (λ (rules : Rules). IsBootable c.deref.result.now rules) (sym c.in_ok-file.ensures.policy)
-    (subst (λ (file : List ℕ). IsBootable file (generated_policy c.args.calls)) (sym (c.deref.ensures.value ∙ c.in_ok-file.ensures.image)) (bootable c.args.calls))
+    subst (λ (rules : Rules). IsMeasuredKernel c.deref.result.now rules) (sym c.in_ok-file.ensures.policy)
+    (subst (λ (file : List ℕ). IsMeasuredKernel file (generated_policy c.args.calls)) (sym (c.deref.ensures.value ∙ c.in_ok-file.ensures.image)) (bootable c.args.calls))
 
 pub returns-in_err-machine : goal.returns-in_err-machine
 returns-in_err-machine g c = err_by _ Memory (λ r. IsReady (gen_due c.args.calls) r) c.from_residual-in_err-machine.ensures.1 (gen_wants c.args.calls)
