@@ -78,7 +78,7 @@ pass_law r = under_changes r.journal.verdict r
 
 -- ---- where it goes on
 
-set_there : (harts : List Hart) (at : ℕ) (hart next : Hart) → slice_get harts at ≡ Some hart → slice_get (slice_set harts at next) at ≡ Some next
+pub set_there : (harts : List Hart) (at : ℕ) (hart next : Hart) → slice_get harts at ≡ Some hart → slice_get (slice_set harts at next) at ≡ Some next
 set_there [] at hart next there = absurd (cc)
 set_there (x ∷ harts) zero hart next there = refl
 set_there (x ∷ harts) (suc at) hart next there = set_there harts at hart next there
