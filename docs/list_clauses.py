@@ -58,8 +58,8 @@ def clause_names(crate):
 
 
 def theorems():
-    """The lines of the page: a crate's name, then its laws."""
-    for crate in crates():
+    """The lines of the page: a crate's name, then its laws; lemmas on keys, caches and answers are left out."""
+    for crate in filter(re.compile(r'(?!monitor_|live_keys|gstage_)').match, crates()):
         laws = [(name, doc) for name, doc, _ in functions(crate) if name.startswith('law_')]
         if laws:
             yield f'**`{crate}`**'
