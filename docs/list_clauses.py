@@ -2,7 +2,7 @@
 """Lists what contracts say.
 
   list_clauses.py CRATE ..   each public function of the crates: its first sentence, and the names of its clauses
-  list_clauses.py --laws     all theorems, by their docstrings, as docs/PROVED.md has them
+  list_clauses.py --laws     theorems, by the first sentence of their docstrings, as docs/PROVED.md has them
   list_clauses.py --write    writes these into docs/PROVED.md
   list_clauses.py --check    compares them with docs/PROVED.md, and whether each clause that the page names in brackets after
                              a crate is one of that crate's; status 1 where something differs"""
@@ -57,6 +57,10 @@ def clause_names(crate):
         set(re.findall(r'\bpub (\w+) :', ' '.join(file.read_text() for file in (TOP / 'crates' / crate / 'specs').rglob('*.antt'))))
 
 
+def first_sentence(doc):
+    return re.split(r'(?<=\.) (?=[A-Z])', doc)[0]
+
+
 def theorems():
     """The lines of the page: a crate's name, then its laws; lemmas on keys, caches and answers are left out."""
     for crate in filter(re.compile(r'(?!monitor_|live_keys|gstage_)').match, crates()):
@@ -65,7 +69,7 @@ def theorems():
             yield f'**`{crate}`**'
             yield ''
             for name, doc in laws:
-                yield f'- `{name}`: {doc}'
+                yield f'- `{name}`: {first_sentence(doc)}'
             yield ''
 
 
@@ -105,7 +109,7 @@ def main(words):
     else:
         for crate in words:
             for name, doc, clauses in functions(crate):
-                print(f'{crate}::{name} [{", ".join(clause or "its one ensures" for clause in clauses)}]: {doc.split(". ")[0]}')
+                print(f'{crate}::{name} [{", ".join(clause or "its one ensures" for clause in clauses)}]: {first_sentence(doc)}')
     return 0
 
 
