@@ -12,7 +12,7 @@ TOP = pathlib.Path(__file__).resolve().parent.parent
 GROUPS = [
     ('definitions, and the data that all layers name', r'spec_\w+|sv_types'),
     ('theorems and their lemmas', r'laws_\w+'),
-    ('the monitor', r'monitor_\w+|page_guard|dma_guard|gstage_tables|module_gate|machine_journal|page_measure'),
+    ('the monitor', r'secvisor_core|monitor_\w+|page_guard|dma_guard|gstage_tables|module_gate|machine_journal|page_measure'),
     ('the machine that it guards', r'hart|hw_\w+|csr_file|sv39_walk|gstage_cache|rv64_decode|rv64_exec|virtio_blk|host_mem|host_bytes'),
     ('both put together: start, events, runs', r'machine|machine_\w+'),
     ('files that are read and written', r'elf64_\w+|policy|policy_\w+|script|snapshot_\w+|text_numbers|report'),
