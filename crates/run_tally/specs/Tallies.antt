@@ -1,12 +1,27 @@
 -- How the runs of numbers that follow one another ended. This project's own.
 use Rattle.std.specs.Prelude.{ℕ, suc, ◌==◌, Bool, true, false, ◌&&◌, not, if◌then◌else◌, List, [], ◌∷◌, length, map, filter, unwrap_or}
 use Rattle.std.specs.Map.{lookup}
+use Rattle.sv_types.specs.declared.event.Verdict.{Verdict}
+use Rattle.sv_types.specs.declared.event.Verdict.TheVariants.{Running, Shutdown, Stopped}
+use Rattle.sv_types.specs.declared.event.Rule.{Rule}
+use Rattle.sv_types.specs.declared.event.Rule.TheVariants as rule
 use Rattle.run_tally.specs.declared.outcome.Outcome.{Outcome}
 use Rattle.run_tally.specs.declared.outcome.Outcome.TheVariants.{ShutDown, Entry, Write, Ended}
 use Rattle.run_tally.specs.declared.tally.Tally.{Tally}
 
 -- ---- one way to end
 
+abbrev pub stop_of : Rule → Outcome
+stop_of (rule.Entry target) = Entry target
+stop_of (rule.Write pc gpa) = Write pc gpa
+
+-- how a run ends that stands so after its last event
+abbrev pub outcome_of : Verdict → Outcome
+outcome_of Running = Ended
+outcome_of Shutdown = ShutDown
+outcome_of (Stopped rule hart turn) = stop_of rule
+
+-- the hart and the turn of a stop don't count
 abbrev pub same : Outcome → Outcome → Bool
 same ShutDown ShutDown = true
 same (Entry target) (Entry other) = target == other

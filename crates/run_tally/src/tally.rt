@@ -40,7 +40,7 @@ fn count_run(tallies: &mut Tallies, outcome: Outcome, number: u64) -> Result<(),
 }
 
 // The runs that ended so.
-fn tally_of(tallies: &Tallies, outcome: Outcome) -> Tally
+pub(crate) fn tally_of(tallies: &Tallies, outcome: Outcome) -> Tally
     ensures { result ≡ tally_in outcome tallies.now.entries }
 {
     match tallies.get(&outcome) {
