@@ -1,5 +1,5 @@
 // A machine from the bytes of its files.
-ghost use Rattle.std.specs.Prelude.{◌≡◌, ◌%◌, IfOk, IsTrue, Ok, length};
+ghost use Rattle.std.specs.Prelude.{◌≡◌, ◌%◌, IfOk, IsErrOf, IsTrue, Ok, length};
 ghost use Rattle.sv_types.specs.Policies.{rules_of, rules_within};
 ghost use Rattle.spec_reference.specs.BlockDisk.{sector_size};
 ghost use Rattle.spec_reference.specs.Start.{boot_start};
@@ -19,6 +19,7 @@ use sv_types::Policy;
 pub(crate) fn read_policy(alloc: Global, text: &[u8]) -> Result<Policy, NoOutcome>
     ensures rules { IfOk result (λ p. rules_of_text text.now ≡ Ok (rules_of p)) }
     ensures within { IfOk result (λ p. IsTrue (rules_within (rules_of p))) }
+    ensures other { IsErrOf result NoOutcome.Script → ⊥ }
 {
     match policy::read(alloc, text) {
         Ok(policy) => Ok(policy),
@@ -27,12 +28,9 @@ pub(crate) fn read_policy(alloc: Global, text: &[u8]) -> Result<Policy, NoOutcom
     }
 }
 
-fn read_image(
-    alloc: Global,
-    file: &[u8],
-    ram_pages: u32,
-) -> Result<KernelImage<'_>, NoOutcome>
-    ensures { IfOk result (IsImageOf file.now ram_pages) }
+fn read_image(alloc: Global, file: &[u8], ram_pages: u32) -> Result<KernelImage<'_>, NoOutcome>
+    ensures image { IfOk result (IsImageOf file.now ram_pages) }
+    ensures other { IsErrOf result NoOutcome.Script → ⊥ }
 {
     match read_kernel(alloc, file, ram_pages) {
         Ok(image) => Ok(image),
@@ -42,7 +40,8 @@ fn read_image(
 }
 
 fn copy_disk(alloc: Global, disk: &[u8]) -> Result<Vec<u8>, NoOutcome>
-    ensures { IfOk result (λ copy. copy.items ≡ disk.now) }
+    ensures copy { IfOk result (λ copy. copy.items ≡ disk.now) }
+    ensures other { IsErrOf result NoOutcome.Script → ⊥ }
 {
     match disk.to_vec(alloc) {
         Ok(copy) => Ok(copy),
@@ -61,6 +60,7 @@ pub(crate) fn boot<R: Threads + Sync>(
     requires sectors { length files.now.disk.now % sector_size ≡ 0 }
     ensures new { IfOk result (λ m. IsNew m (boot_start (rules_of policy) files.now.image.now files.now.disk.now)) }
     ensures booted { IfOk result IsBooted }
+    ensures other { IsErrOf result NoOutcome.Script → ⊥ }
 {
     let image = read_image(alloc, files.image, policy.ram_pages)?;
     let disk = copy_disk(alloc, files.disk)?;

@@ -4,8 +4,11 @@
 mod beginning;
 mod ending;
 mod files;
+mod order;
 mod silent;
 mod trial;
 
+pub use ending::Ending;
 pub use files::{NoOutcome, RunFiles};
-pub use trial::{DrawnOrder, drawn_outcome, text_outcome};
+pub use order::Order;
+pub use trial::{script_of_order, try_order};
