@@ -15,7 +15,7 @@ ghost use Rattle.spec_reference.specs.VirtioDevice.{index_values};
 
 use crate::Virtio;
 use crate::chain::{DESCRIPTOR_BYTES, read_chain};
-use crate::requests::{is_good, lies_in_ram, result_by};
+use crate::requests::{is_good_chain, lies_in_ram, result_by};
 use dma_guard::DmaStep;
 use host_mem::{HostMem, word_at};
 use spec_processor::ram_offset;
@@ -27,7 +27,7 @@ const SECTOR_OFFSET: usize = 8;
 pub(crate) const INDICES: u64 = 1 << 16;
 /// The flags and the index of a ring. Virtio 1.2, 2.7.6 and 2.7.8.
 pub(crate) const RING_HEADER_BYTES: u64 = 4;
-/// Where the index stands in a ring, behind the flags.
+/// Where the index stands in a ring, after the flags.
 pub(crate) const RING_INDEX_OFFSET: u64 = 2;
 /// The bytes of that index.
 pub(crate) const RING_INDEX_WIDTH: u8 = 2;
@@ -47,7 +47,7 @@ fn empty_parts() -> [VirtioPart; MAX_VIRTIO_PARTS]
     }; MAX_VIRTIO_PARTS]
 }
 
-// The parts of a chain, with empty ones behind them.
+// The parts of a chain, with empty ones after them.
 fn padded_parts(parts: &[VirtioPart]) -> [VirtioPart; MAX_VIRTIO_PARTS]
     requires { length parts.now ≤ max_parts }
     ensures { result ≡ padded_parts parts.now }
@@ -212,7 +212,7 @@ impl Virtio {
             return DmaStep::Range;
         };
         let parts = parts.as_slice();
-        if !is_good(ram, parts) {
+        if !is_good_chain(ram, parts) {
             self.break_down();
             return DmaStep::Range;
         }
