@@ -41,8 +41,13 @@ pub fn stop_remark<A: Reread>(
     match words {
         [name, image, policy, ..] => match name.as_str() {
             "run" | "vrun" | "snap" | "live" | "survey" => {
-                match remark_of_files(alloc, files, most, (image.as_str(), policy.as_str()), ending)
-                {
+                match remark_of_files(
+                    alloc,
+                    files,
+                    most,
+                    (image.as_str(), policy.as_str()),
+                    ending,
+                ) {
                     Ok(said) => said,
                     Err(_) => None,
                 }
@@ -66,10 +71,20 @@ fn remark_of_files<A: Reread>(
     let Ok(image) = read_kernel(alloc, &bytes, policy.ram_pages) else {
         return Ok(None);
     };
-    let names = kernel_names(alloc, &bytes, &image)?;
+    remark_of_kernel(alloc, &policy, &bytes, &image, ending)
+}
+
+fn remark_of_kernel(
+    alloc: Global,
+    policy: &Policy,
+    bytes: &[u8],
+    image: &KernelImage<'_>,
+    ending: &Ending<'_>,
+) -> Result<Option<String>, Found> {
+    let names = kernel_names(alloc, bytes, image)?;
     let guest = Guest {
-        policy: &policy,
-        image: &image,
+        policy,
+        image,
         names,
     };
     remark_of_ending(alloc, &guest, ending)
@@ -267,9 +282,9 @@ fn refused_text(alloc: Global, policy: &Policy, notes: &[Note]) -> Result<Option
             if code != SbiCode::Success {
                 let module = module_text(alloc, policy, id)?;
                 let why = why_refused(code);
-                return Ok(Some(
-                    format!(in alloc; "hart {hart} turn {turn}: the load of {module} is refused: {why}")?,
-                ));
+                return Ok(Some(format!(in alloc;
+                    "hart {hart} turn {turn}: the load of {module} is refused: {why}"
+                )?));
             }
         }
     }
