@@ -19,6 +19,7 @@ TRIGGERS = ['EXEC_DATA', 'EXEC_STACK', 'EXEC_KMALLOC', 'EXEC_VMALLOC', 'EXEC_ROD
 # Code integrity speaks of what runs in kernel mode and of the bytes of approved code, and of nothing else.
 PROMISED = {'EXEC_DATA', 'EXEC_STACK', 'EXEC_KMALLOC', 'EXEC_VMALLOC', 'EXEC_RODATA', 'EXEC_USERSPACE', 'EXEC_NULL',
             'WRITE_KERN'}
+KERNELS = {'strict': 'Strict permissions', 'loose': 'No strict permissions', 'open': "All of the kernel's memory executable"}
 # Events to the shell; events for a trigger, in which Linux tells of a stall; the same in seconds.
 BOOT, MOST = 60_000_000, 300_000_000
 QEMU_SECONDS = 30
@@ -115,13 +116,14 @@ def main():
     words = argparse.ArgumentParser(description=__doc__)
     words.add_argument('secvisor')
     words.add_argument('folder', nargs='?', default=os.path.join(HERE, 'out'))
+    words.add_argument('--only', nargs='*', help='these kernels alone')
     words.add_argument('--jobs', type=int, default=os.cpu_count())
     words = words.parse_args()
     secvisor = os.path.abspath(words.secvisor)
     os.chdir(words.folder)
-    for kernel in ('strict', 'loose'):
+    for kernel in words.only or KERNELS:
         snapshot(secvisor, kernel)
-        print(f'\nPermissions {"strict" if kernel == "strict" else "not strict"}:\n')
+        print(f'\n{KERNELS[kernel]} (`{kernel}`):\n')
         print('| Trigger | The kernel alone, under QEMU | The kernel under SecVisor | SecVisor | Promised |')
         print('|---|---|---|---|---|')
         with concurrent.futures.ThreadPoolExecutor(words.jobs) as pool:
