@@ -32,7 +32,7 @@ use hw_fast_path::MicroOpCache;
 use hw_tlb::HartCaches;
 use machine_journal::Journal;
 use monitor_calls::law_starts;
-use monitor_harts::{HartSlot, forget};
+use monitor_exits::{HartSlot, forget};
 use monitor_modules::{Modules, load_turn};
 use page_guard::{Entries, Guard};
 use spec_processor::{Exit, Mode, Outcome, ram_offset};
@@ -71,7 +71,7 @@ impl Model for Parts {
 impl Parts {
     // An attempt of a hart, which SecVisor's answer follows where it gives an exit.
     #[inline(always)]
-    #[tactic(auto, using(monitor_harts::proofs::HwOfSlots::hw_harts_length))]
+    #[tactic(auto, using(monitor_exits::proofs::HwOfSlots::hw_harts_length))]
     fn attempt(&mut self, hart: u8) -> Outcome
         requires there { hart < length self.old.harts }
         requires count { CanCount self.old.attempts }

@@ -5,7 +5,7 @@ use Rattle.sv_types.specs.Views.{with_ram}
 use Rattle.spec_hardware.specs.StandsFor.{bound_pages}
 use Rattle.snapshot_format.specs.Snapshots.{Contents}
 use Rattle.page_guard.specs.Guarded.{TablesMatchGuard}
-use Rattle.monitor_harts.specs.HwOfSlots.{hw_harts_of}
+use Rattle.monitor_exits.specs.HwOfSlots.{hw_harts_of}
 use Rattle.monitor_modules.specs.Conditions.{AreJoined}
 use Rattle.monitor_modules.specs.Parts.{loading_of}
 use Rattle.snapshot_resume.specs.ResumedStates.{resumed_state}

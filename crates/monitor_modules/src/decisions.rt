@@ -11,7 +11,7 @@ ghost use Rattle.monitor_modules.specs.Parts.{loading_of, facts_in};
 use crate::modules::Modules;
 use host_mem::HostMem;
 use module_gate::{is_good_place, rule_of};
-use monitor_harts::Asked;
+use monitor_exits::Asked;
 use page_guard::Guard;
 use spec_reference::{Answer, Reply, SideEffect};
 use sv_types::{ModulePlacement, Policy, SbiCode};

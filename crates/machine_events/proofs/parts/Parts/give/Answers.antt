@@ -1,8 +1,8 @@
 use Rattle.std.proofs.Common.{ℕ, ◌<◌, ◌≤◌, IsTrue, List, length, sym, ◌∙◌, ap, subst}
 use Rattle.std.proofs.lemmas.List.{with_items_is}
 use Rattle.monitor_calls.specs.Known.{StartsOneOf}
-use Rattle.monitor_harts.specs.HwOfSlots.{hw_harts_of}
-use Rattle.monitor_harts.specs.declared.slots.HartSlot.{HartSlot}
+use Rattle.monitor_exits.specs.HwOfSlots.{hw_harts_of}
+use Rattle.monitor_exits.specs.declared.slots.HartSlot.{HartSlot}
 use Rattle.spec_hardware.specs.HwCalls.{hw_given, hw_replied, hw_harts_side_effect}
 use Rattle.spec_hardware.specs.Machine.{Machine, update}
 use Rattle.spec_hardware.specs.Steps.{WithTables}

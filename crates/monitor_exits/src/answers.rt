@@ -9,8 +9,8 @@ ghost use Rattle.spec_processor.specs.declared.mode.Mode.TheVariants.{Kernel};
 ghost use Rattle.spec_reference.specs.Trapping.{may_enter};
 ghost use Rattle.spec_hardware.specs.HwHarts.{hw_at_trap, hw_at_return, hw_demoted, hw_outside, hw_passed, hw_with, hw_answered, hw_stayed, hw_stopped, hw_started};
 ghost use Rattle.page_guard.specs.Privileges.{mode_of, view_at_return};
-ghost use Rattle.monitor_harts.specs.HwOfSlots.{hw_of};
-ghost use Rattle.monitor_harts.specs.Trapped.{in_handler, back_from_handler};
+ghost use Rattle.monitor_exits.specs.HwOfSlots.{hw_of};
+ghost use Rattle.monitor_exits.specs.Trapped.{in_handler, back_from_handler};
 ghost use Rattle.hart.specs.declared.hart.Hart.{Hart as Kept};
 ghost use Rattle.spec_processor.specs.Bytes.{instruction_size};
 
@@ -30,7 +30,7 @@ pub struct Trap {
 /// The hart comes to its guest's trap handler, on the kernel's side or in the entry that it is bound to. From user mode only a
 /// permitted target is entered, and else the target is the answer, and hart and side stay as they were.
 #[inline(always)]
-pub fn take_trap(
+pub(crate) fn take_trap(
     hart: &mut Hart,
     privilege: &mut PrivilegeView,
     entries: &Entries,
@@ -68,8 +68,8 @@ fn enter_handler(hart: &mut Hart, from: Mode, trap: Trap)
 
 /// The hart returns from its trap, as its own registers say: in kernel mode SecVisor carries SRET out. A return to user mode
 /// leaves the entry.
-#[tactic(auto, using(crate::proofs::Traps::at_return, crate::proofs::Traps::mode_after))]
-pub fn return_from_trap(hart: &mut Hart, privilege: &mut PrivilegeView)
+#[tactic(auto, using(crate::proofs::HartTraps::at_return, crate::proofs::HartTraps::mode_after))]
+pub(crate) fn return_from_trap(hart: &mut Hart, privilege: &mut PrivilegeView)
     requires { mode_of privilege.old ≡ Kernel }
     ensures hart { hw_of hart.new privilege.new ≡ hw_at_return (hw_of hart.old privilege.old) }
     ensures mode { mode_of privilege.new ≡ mode_at_return hart.old.core.csrs.vsstatus }
@@ -101,7 +101,7 @@ fn leave_handler(hart: &mut Hart) -> Mode
 
 /// The hart leaves kernel mode, and stays at its instruction.
 #[tactic(auto, unfolding(spec_hardware::specs::HwHarts::hw_demoted))]
-pub fn demote(hart: &mut Hart, privilege: &mut PrivilegeView)
+pub(crate) fn demote(hart: &mut Hart, privilege: &mut PrivilegeView)
     ensures hart { hw_of hart.new privilege.new ≡ hw_demoted (hw_of hart.old privilege.old) }
 {
     privilege.leave();
@@ -110,7 +110,7 @@ pub fn demote(hart: &mut Hart, privilege: &mut PrivilegeView)
 
 /// The hart goes on after its instruction.
 #[tactic(auto, unfolding(spec_hardware::specs::HwHarts::hw_passed))]
-pub fn pass(hart: &mut Hart)
+pub(crate) fn pass(hart: &mut Hart)
     ensures hart { (view : View) → hw_of hart.new view ≡ hw_passed (hw_of hart.old view) }
 {
     hart.core.pc = hart.core.pc.wrapping_add(INSTRUCTION_BYTES);
@@ -146,7 +146,7 @@ pub fn stay(hart: &mut Hart)
 }
 
 /// The hart stops at its instruction, and leaves the entry that it is in.
-#[tactic(auto, using(crate::proofs::Traps::at_stop))]
+#[tactic(auto, using(crate::proofs::HartTraps::at_stop))]
 pub fn stop(hart: &mut Hart, privilege: &mut PrivilegeView)
     ensures hart { hw_of hart.new privilege.new ≡ hw_stopped (hw_of hart.old privilege.old) }
 {
@@ -156,8 +156,8 @@ pub fn stop(hart: &mut Hart, privilege: &mut PrivilegeView)
 }
 
 /// The hart leaves its entry for all that kernel mode sees, and nothing else changes, so that it attempts the same turn again.
-#[tactic(auto, using(crate::proofs::Traps::left_entry))]
-pub fn send_again(privilege: &mut PrivilegeView)
+#[tactic(auto, using(crate::proofs::HartTraps::left_entry))]
+pub(crate) fn send_again(privilege: &mut PrivilegeView)
     ensures { (hart : Kept) → hw_of hart privilege.new ≡ hw_outside (hw_of hart privilege.old) }
 {
     privilege.widen();

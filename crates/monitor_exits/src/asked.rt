@@ -3,7 +3,7 @@
 ghost use Rattle.std.specs.Prelude.{◌≡◌, true};
 ghost use Rattle.spec_reference.specs.Calls.{Facts, asked_by};
 ghost use Rattle.spec_reference.specs.ModuleCalls.{answer_of, module_call};
-ghost use Rattle.monitor_harts.specs.Asking.{is_about_modules};
+ghost use Rattle.monitor_exits.specs.Asking.{is_about_modules};
 
 use rv64_exec::Regs;
 use spec_processor::{A0, A1, A2, A3, A6, A7};
@@ -28,7 +28,7 @@ impl Model for Asked {
 
     ghost Value = { Call };
 
-    ghost use Rattle.monitor_harts.specs.Asking.{call_of, fields_of};
+    ghost use Rattle.monitor_exits.specs.Asking.{call_of, fields_of};
 
     ghost view = { call_of };
 

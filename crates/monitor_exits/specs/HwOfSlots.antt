@@ -5,7 +5,7 @@ use Rattle.hart.specs.declared.hart.Hart.{Hart}
 use Rattle.spec_hardware.specs.Machine.{HwHart}
 use Rattle.page_guard.specs.Privileges.{entry_of, registers_of}
 use Rattle.sv_types.specs.declared.view.View.{View}
-use Rattle.monitor_harts.specs.declared.slots.HartSlot.{HartSlot}
+use Rattle.monitor_exits.specs.declared.slots.HartSlot.{HartSlot}
 
 abbrev pub hw_of : Hart → View → HwHart
 hw_of hart view = record { core = core_of hart.core (registers_of view); started = hart.started; entry = entry_of view }

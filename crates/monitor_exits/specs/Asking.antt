@@ -2,7 +2,7 @@
 use Rattle.std.specs.Prelude.{Bool, true, false, Option, Some}
 use Rattle.spec_reference.specs.Calls.{Asked, extension_of}
 use Rattle.spec_reference.specs.declared.answers.Extension.{Extension}
-use Rattle.monitor_harts.specs.declared.asked.Asked.TheInside.{Inside}
+use Rattle.monitor_exits.specs.declared.asked.Asked.TheInside.{Inside}
 
 abbrev pub call_of : Inside → Asked
 call_of a = record { extension = a.extension; function = a.function; a0 = a.a0; a1 = a.a1; a2 = a.a2; a3 = a.a3 }

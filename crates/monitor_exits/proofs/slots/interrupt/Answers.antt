@@ -1,8 +1,8 @@
 use Rattle.std.proofs.Common.{arith, sym}
 use Rattle.spec_reference.specs.Calls.{mask_names}
-use Rattle.monitor_harts.specs.Slots.{notified_by}
-use Rattle.monitor_harts.proofs.Changes.{none_changed, next_changed, all_notified}
-use Rattle.monitor_harts.proofs.slots.interrupt.Goals as goal
+use Rattle.monitor_exits.specs.Slots.{notified_by}
+use Rattle.monitor_exits.proofs.Changes.{none_changed, next_changed, all_notified}
+use Rattle.monitor_exits.proofs.slots.interrupt.Goals as goal
 
 pub loop-i-init : goal.loop-i-init
 loop-i-init c = sym (none_changed (notified_by (mask_names c.args.mask c.args.base)) c.args.slots.now)

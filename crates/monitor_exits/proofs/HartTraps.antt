@@ -12,8 +12,8 @@ use Rattle.hart.specs.declared.hart.Hart.{Hart}
 use Rattle.spec_hardware.specs.HwHarts.{hw_at_trap, hw_at_return, hw_stopped, hw_outside}
 use Rattle.spec_hardware.specs.StandsFor.{hregs_in, kernel_view}
 use Rattle.page_guard.specs.Privileges.{mode_of, entry_of, view_at_trap, view_at_return, view_outside}
-use Rattle.monitor_harts.specs.HwOfSlots.{hw_of}
-use Rattle.monitor_harts.specs.Trapped.{in_handler, back_from_handler}
+use Rattle.monitor_exits.specs.HwOfSlots.{hw_of}
+use Rattle.monitor_exits.specs.Trapped.{in_handler, back_from_handler}
 
 -- a hart in kernel mode, by its entry
 in_kernel : (hart : Hart) (entry : Option ℕ)

@@ -3,9 +3,9 @@ use Rattle.std.proofs.Common.{◌≡◌, ℕ, zero, suc, ◌+◌, ◌<◌, ◌�
 use Rattle.std.specs.Prelude.{slice_index_or, if◌then◌else◌}
 use Rattle.spec_hardware.specs.Machine.{forgets}
 use Rattle.spec_hardware.specs.HardwareEvent.{interrupted_hw_harts, software_set}
-use Rattle.monitor_harts.specs.HwOfSlots.{hw_at, hw_harts_of}
-use Rattle.monitor_harts.specs.Slots.{slot_after_write, slot_with_software, notified_by, first_changed}
-use Rattle.monitor_harts.specs.declared.slots.HartSlot.{HartSlot}
+use Rattle.monitor_exits.specs.HwOfSlots.{hw_at, hw_harts_of}
+use Rattle.monitor_exits.specs.Slots.{slot_after_write, slot_with_software, notified_by, first_changed}
+use Rattle.monitor_exits.specs.declared.slots.HartSlot.{HartSlot}
 
 pub none_changed : (change : ℕ → HartSlot → HartSlot) (slots : List HartSlot) → first_changed change 0 0 slots ≡ slots
 unfolding first_changed

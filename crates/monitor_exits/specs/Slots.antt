@@ -2,7 +2,7 @@
 use Rattle.std.specs.Prelude.{ℕ, zero, suc, ◌+◌, Bool, List, [], ◌∷◌, if◌then◌else◌}
 use Rattle.spec_processor.specs.Requests.{after_write}
 use Rattle.spec_processor.specs.HypervisorRegisters.{virtual_software_bit}
-use Rattle.monitor_harts.specs.declared.slots.HartSlot.{HartSlot}
+use Rattle.monitor_exits.specs.declared.slots.HartSlot.{HartSlot}
 
 abbrev pub slot_after_write : ℕ → ℕ → HartSlot → HartSlot
 slot_after_write hpa width slot = record slot {

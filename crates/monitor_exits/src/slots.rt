@@ -5,8 +5,8 @@ ghost use Rattle.spec_processor.specs.HypervisorRegisters.{virtual_software_bit}
 ghost use Rattle.spec_reference.specs.Calls.{mask_names};
 ghost use Rattle.spec_hardware.specs.Machine.{forgets};
 ghost use Rattle.spec_hardware.specs.HardwareEvent.{interrupted_hw_harts};
-ghost use Rattle.monitor_harts.specs.HwOfSlots.{hw_harts_of};
-ghost use Rattle.monitor_harts.specs.Slots.{slot_after_write, slot_with_software};
+ghost use Rattle.monitor_exits.specs.HwOfSlots.{hw_harts_of};
+ghost use Rattle.monitor_exits.specs.Slots.{slot_after_write, slot_with_software};
 
 use csr_file::{Csrs, VIRTUAL_SOFTWARE};
 use hart::Hart;

@@ -1,6 +1,6 @@
 use Rattle.spec_processor.specs.Traps.{is_interrupt, guest_number}
-use Rattle.monitor_harts.proofs.Traps.{at_trap}
-use Rattle.monitor_harts.proofs.answers.take_trap.Goals as goal
+use Rattle.monitor_exits.proofs.HartTraps.{at_trap}
+use Rattle.monitor_exits.proofs.answers.take_trap.Goals as goal
 
 pub returns-clause-hart : goal.returns-clause-hart
 returns-clause-hart c = λ rules same bound.

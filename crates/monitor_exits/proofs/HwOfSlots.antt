@@ -2,8 +2,8 @@
 use Rattle.std.proofs.Common.{◌≡◌, ℕ, zero, suc, List, [], ◌∷◌, length, refl, ap, slice_set}
 use Rattle.std.specs.Prelude.{slice_index_or}
 use Rattle.spec_hardware.specs.Machine.{HwHart, update}
-use Rattle.monitor_harts.specs.HwOfSlots.{hw_at, hw_harts_of}
-use Rattle.monitor_harts.specs.declared.slots.HartSlot.{HartSlot}
+use Rattle.monitor_exits.specs.HwOfSlots.{hw_at, hw_harts_of}
+use Rattle.monitor_exits.specs.declared.slots.HartSlot.{HartSlot}
 
 pub hw_harts_length : (slots : List HartSlot) → length (hw_harts_of slots) ≡ length slots
 hw_harts_length [] = refl

@@ -3,7 +3,7 @@ use Rattle.std.proofs.Common.{◌≡◌, true, Option, Some, None, refl}
 use Rattle.spec_reference.specs.Calls.{Asked, Facts, extension_of}
 use Rattle.spec_reference.specs.ModuleCalls.{call_answer_by, answer_of, module_call}
 use Rattle.spec_reference.specs.declared.answers.Extension.{Extension}
-use Rattle.monitor_harts.specs.Asking.{is_modules, is_about_modules}
+use Rattle.monitor_exits.specs.Asking.{is_modules, is_about_modules}
 
 by_extension : (f : Facts) (ask : Asked) (e : Option Extension) → is_modules e ≡ true → call_answer_by f ask e ≡ module_call f ask
 unfolding call_answer_by

@@ -1,7 +1,7 @@
 use Rattle.std.proofs.Common.{arith, sym}
-use Rattle.monitor_harts.specs.Slots.{slot_after_write}
-use Rattle.monitor_harts.proofs.Changes.{none_changed, next_changed, all_forgotten}
-use Rattle.monitor_harts.proofs.slots.forget.Goals as goal
+use Rattle.monitor_exits.specs.Slots.{slot_after_write}
+use Rattle.monitor_exits.proofs.Changes.{none_changed, next_changed, all_forgotten}
+use Rattle.monitor_exits.proofs.slots.forget.Goals as goal
 
 pub loop-slot-init : goal.loop-slot-init
 loop-slot-init c = sym (none_changed (λ h. slot_after_write c.args.hpa c.args.width) c.args.slots.now)
