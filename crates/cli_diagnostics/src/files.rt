@@ -28,7 +28,7 @@ pub struct MostBytes {
 pub(crate) enum Found {
     /// What there is to say of a file.
     Remark(String),
-    /// A file can't be read again, or memory is wanting.
+    /// A file can't be read again, or memory runs out.
     Nothing,
 }
 

@@ -57,7 +57,7 @@ pub ready_performs : (words : Result LiveWords Refusal) (f0 f1 f2 : FilesState) 
 ready_performs words f0 f1 f2 s0 s1 k0 k1 b0 b1 ready result p is a =
     record { reached = p.reached; read = f1; follows = p.follows; answers = ready_answers p.reached ready (out_of words) _ _ result p.ready is a }
 
--- ---- refusals, and want of memory
+-- ---- refusals, and out of memory
 
 refused_where : (reached : Option Due) (given : Refusal) (name : List ℕ) (files : FilesState) (old new : SinkState) (keys : KeysState) (bench : Option Machine) (result : Result Status Trouble) →
     IsLiveReadyWhere reached (Err (Refused given)) → Writes (refusal_status given) (refusal_line given) old new result → (IsErrOf result Memory → IsTrue (takes_memory given)) →

@@ -167,7 +167,7 @@ replays line words old new (Err Write) is p (inr ended) = absurd (cc ended.0)
 replays line words old new (Err Memory) is p (inl ended) = absurd (cc ended)
 replays line words old new (Err Memory) is p (inr ended) = absurd (cc ended.0)
 
--- ---- a run's status is neither a refusal's nor that of a wanting memory
+-- ---- a run's status is neither a refusal's nor that of running out of memory
 
 run_no_refusal : (verdict : Verdict) → is_refusal (run_status verdict) ≡ false
 run_no_refusal Running = refl

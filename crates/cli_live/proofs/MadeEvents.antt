@@ -1,4 +1,4 @@
--- Events that are made one behind another, and what of the console is written.
+-- Events that are made one after another, and what of the console is written.
 use Rattle.std.proofs.Common.{◌≡◌, ◌≤◌, ◌<◌, ◌+◌, ◌-◌, ◌^◌, ℕ, ◌⊎◌, inl, inr, IsFalse, IsTrue, OnOk, OnErr, IsErr, Result, Ok, Err, true, false, List, [], ◌∷◌, ◌++◌, length, drop, refl, sym, ◌∙◌, ap, subst, arith, length-append}
 use Rattle.std.proofs.lemmas.List.{length-drop}
 use Rattle.std.specs.Result.{is_err}
@@ -159,7 +159,7 @@ broken_show m s t off made = record {
   };
 }
 
--- ---- one behind another
+-- ---- one after another
 
 pub on_none : (made : List Event) (m : Machine) (s : SinkState) → GoesOn made made m m s s
 on_none made m s = record { taken = record { bytes = []; taken = sym (after_taking-nil s) }; ran = λ first start sink on. on }
@@ -209,7 +209,7 @@ pub err_both : {T E : Type 0} (r : Result T E) (P Q S : Type 0) → (P → Q →
 err_both (Ok x) P Q S f p q = tt
 err_both (Err e) P Q S f p q = f p q
 
--- ---- one drive behind another, and what fails behind it
+-- ---- one drive after another, and what fails after it
 
 pub stays_then : {a b c : LiveRun} → StaysUnderWay a b → StaysUnderWay b c → StaysUnderWay a c
 stays_then x y = record { way = y.way; line = y.line ∙ x.line; all = y.all ∙ x.all; harts = y.harts ∙ x.harts; events = y.events ∙ x.events }
@@ -273,14 +273,14 @@ auto_counted old new c keys autos counts =
     let long : length (key_bytes new) ≡ length (key_bytes old) = ap (λ (bytes : List ℕ). length bytes) keys in
     counts_within (count_of old + 1) (count_of new) c (omega arith) counts
 
--- the events of the journal, and the one that was drawn behind them
+-- the events of the journal, and the one that was drawn after them
 pub auto_made : (script next : Schedule) (old new : Journal) (event : Event) → event ≡ auto_event (harts_of script) 0 old.autos → next ≡ after_event script →
     events_of (harts_of script) new ≡ events_of (harts_of script) old ++ auto_event (harts_of script) 0 old.autos ∷ [] →
     events_of (harts_of script) old ++ event ∷ [] ≡ events_of (harts_of next) new
 auto_made script next old new event drawn rest grown =
     ap (λ (e : Event). events_of (harts_of script) old ++ e ∷ []) drawn ∙ sym grown ∙ ap (λ (h : ℕ). events_of h new) (sym (same_harts script next rest))
 
--- ---- one drive behind another
+-- ---- one drive after another
 
 pub both_on : {T U E : Type 0} (driven : Result T E) (ended : Result U E) (P Q S : Type 0) → (P → Q → S) → OnErr driven (IsErr ended) → OnOk driven P → OnOk ended Q → is_err ended ≡ false → S
 both_on (Ok x) (Ok y) P Q S then first p q never = then p q

@@ -123,7 +123,7 @@ pub record RunGives (line : LiveLine) (count : ℕ) (old : FilesState) (start : 
   pub found : IsTrue old.tells → HoldParts old.held line parts
   pub asked_are : first_events count (Schedule.Auto rules.harts 0) ≡ asked
 
--- behind the image: the disk and the boot
+-- after the image: the disk and the boot
 record AfterImage (line : LiveLine) (count : ℕ) (rules : Rules) (file : List ℕ) (old : FilesState) (start : State) (asked : List Event) : Type 0 where
   pub bytes : List ℕ
   pub few : length bytes ≤ max_disk_bytes
@@ -151,7 +151,7 @@ after_image line count rules file old read start asked save follows =
       boots = λ events other. (booted rules file d.bytes (first_events count (Schedule.Auto rules.harts 0)) events None other start asked save is).2;
     }
 
--- behind the policy: the image, and what stands behind it
+-- after the policy: the image, and what stands after it
 record AfterPolicy (line : LiveLine) (count : ℕ) (rules : Rules) (old : FilesState) (start : State) (asked : List Event) : Type 0 where
   pub bytes : List ℕ
   pub few : length bytes ≤ max_image_bytes

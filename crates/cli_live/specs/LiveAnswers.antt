@@ -47,7 +47,7 @@ pub record IsScriptOf (harts : ℕ) (events : List Event) (text : List ℕ) : Ty
   pub accepted : first_refused text ≡ None
   pub short : length text ≤ max_script_bytes
 
--- The script is saved behind what was to be written. Nothing is saved after a write that failed, or where memory was wanting.
+-- The script is saved after what was to be written. Nothing is saved after a write that failed, or where memory ran out.
 abbrev pub SavesScript : (harts : ℕ) → List Event → (name : List ℕ) → FilesState → FilesState → (written saved : Result Status Trouble) → Type 0
 SavesScript harts events name old new (Err trouble) saved = (new ≡ old) × (saved ≡ Err trouble)
 SavesScript harts events name old new (Ok status) saved =
@@ -75,7 +75,7 @@ abbrev pub after_reading : (failed : Bool) → Result Status Trouble → Result 
 after_reading failed (Err trouble) = Err trouble
 after_reading failed (Ok status) = Ok (read_status failed status)
 
--- What is written and saved behind a run: nothing, where a write failed in it.
+-- What is written and saved after a run: nothing, where a write failed in it.
 pub record Reports (live : LiveRun) (ended : LiveEnd) (name : List ℕ) (f0 f1 : FilesState) (old new : SinkState) (result : Result Status Trouble) : Type 0 where
   -- how writing ended
   pub written : Result Status Trouble
@@ -126,7 +126,7 @@ AnswersLive name (Refuse refusal) old new result =
 AnswersLive name (RunFrom start asked save) old new result = RunsLive start asked name old new result
 AnswersLive name (Make out rules line) old new result = ⊥
 
--- the same where memory was wanting before what is due was ready: nothing happened
+-- the same where memory ran out before what is due was ready: nothing happened
 abbrev pub AnswersLiveReached : (name : List ℕ) → Option Due → LiveOutside → LiveOutside → Result Status Trouble → Type 0
 AnswersLiveReached name None old new result = IsErrOf result Memory × (new ≡ old)
 AnswersLiveReached name (Some due) old new result = AnswersLive name due old new result

@@ -24,7 +24,7 @@ pub record IsLiveFresh (ready : LiveReady) : Type 0 where
   pub line : ready.live.taker.line ≡ ready.source.line
   pub feeder : (ready.source.feeder.line ≡ ready.source.line) × (ready.source.feeder.bytes ≡ [])
 
--- what is due is ready, or refused, or memory was wanting
+-- what is due is ready, or refused, or memory ran out
 abbrev pub IsLiveReady : Due → Result LiveReady Stop → Type 0
 IsLiveReady (RunFrom start events save) (Ok ready) =
     IsNew ready.live.machine start × (first_events ready.live.events ready.live.script ≡ events) × IsLiveFresh ready
@@ -35,7 +35,7 @@ IsLiveReady (RunFrom start events save) (Err (Refused given)) = ⊥
 IsLiveReady (Make name rules line) (Err (Refused given)) = ⊥
 IsLiveReady due (Err Memory) = ⊥
 
--- where memory was wanting, the end of the plan wasn't reached
+-- where memory ran out, the end of the plan wasn't reached
 abbrev pub IsLiveReadyWhere : Option Due → Result LiveReady Stop → Type 0
 IsLiveReadyWhere None result = IsErrOf result Memory
 IsLiveReadyWhere (Some due) result = IsLiveReady due result

@@ -30,7 +30,7 @@ use std::alloc::Global;
 use std::sync::Wait;
 use std::thread::Threads;
 
-// The report, and then the script. Where memory is wanting, nothing is written.
+// The report, and then the script. Where memory runs out, nothing is written.
 fn report_and_save<F: Files, O: Sink>(
     alloc: Global,
     live: &LiveRun,
@@ -70,7 +70,7 @@ fn after_reading(failed: bool, saved: Result<Status, Trouble>) -> Result<Status,
     }
 }
 
-// The run, its report and its script. Behind a write that failed nothing more is written.
+// The run, its report and its script. After a write that failed nothing more is written.
 fn report<F: Files, O: Sink>(
     alloc: Global,
     live: &LiveRun,
@@ -205,7 +205,7 @@ pub fn secvisor_live<R: Threads + Wait + Sync, F: Files, K: Keys + Send, O: Sink
     ensures unread { is_ok (live_judged (map string_bytes words.now)) ≡ false → F.state files.new ≡ F.state files.old }
     ensures unasked { is_refusal result ≡ true → K.state keys.new ≡ K.state keys.old }
 
-    // No name changes but the one that the script is saved under; and of a refusal, or where memory was wanting, nothing is saved.
+    // No name changes but the one that the script is saved under; and of a refusal, or where memory ran out, nothing is saved.
     ensures held { (name : List ℕ) → name ≢ out_of (live_judged (map string_bytes words.now)) → (F.state files.new).held name ≡ (F.state files.old).held name }
     ensures unsaved { (is_refusal result ≡ true) ⊎ (result ≡ Status.Memory) →
         ((F.state files.new).held ≡ (F.state files.old).held) × ((F.state files.new).save_faults ≡ (F.state files.old).save_faults) }

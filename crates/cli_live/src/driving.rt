@@ -14,7 +14,7 @@ use live_keys::{KeyLine, Pace};
 use std::sync::Wait;
 use sv_types::Verdict;
 
-// Of so many events one has the console shown behind it, so that a person sees a line that isn't ended.
+// Of so many events one has the console shown after it, so that a person sees a line that isn't ended.
 const SHOWN_EVERY: u64 = 4096;
 
 // The console, every so many events.
@@ -53,7 +53,7 @@ fn make_round<R: Wait, O: Sink, P: Pace>(
     show_often(live, out)
 }
 
-// The events of the script up to their number or the verdict, each behind the keys that wait.
+// The events of the script up to their number or the verdict, each after the keys that wait.
 fn make_autos<R: Wait, O: Sink, P: Pace>(
     rt: &R,
     live: &mut LiveRun,
@@ -77,7 +77,7 @@ fn make_autos<R: Wait, O: Sink, P: Pace>(
 }
 
 impl LiveRun {
-    /// Makes the events of the script up to their number or the verdict, each behind the keys that wait, then the keys that
+    /// Makes the events of the script up to their number or the verdict, each after the keys that wait, then the keys that
     /// wait, and shows the console. It takes no memory.
     pub fn drive<R: Wait, O: Sink, P: Pace>(
         &mut self,

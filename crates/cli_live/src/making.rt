@@ -49,7 +49,7 @@ fn make<O: Sink>(machine: &mut Machine, out: &mut O, event: Event) -> Result<(),
     flush_due(machine, out)
 }
 
-// A key, which the journal gets behind all events so far.
+// A key, which the journal gets after all events so far.
 fn make_key<O: Sink>(
     machine: &mut Machine,
     journal: &mut Journal,

@@ -28,9 +28,9 @@ pub struct KeySource {
 /// How a live run ended.
 #[derive(Clone, Copy, Drop)]
 pub struct LiveEnd {
-    /// A read of the keys failed, and none was read behind it.
+    /// A read of the keys failed, and none was read after it.
     pub read_failed: bool,
-    /// A write failed, and no event was made behind it.
+    /// A write failed, and no event was made after it.
     pub write_failed: bool,
 }
 

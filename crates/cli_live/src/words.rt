@@ -38,7 +38,7 @@ fn read_shape(words: &[String]) -> Result<Live<'_>, Refusal>
     }
 }
 
-// The words behind the name of a command.
+// The words after the name of a command.
 fn read_named<'a>(name: &str, rest: &'a [String]) -> Result<Live<'a>, Refusal>
     ensures { IsLive (live_named name.now (map string_bytes rest.now)) result }
 {

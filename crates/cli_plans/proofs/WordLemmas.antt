@@ -101,7 +101,7 @@ pub judged_by_name : (words : List (List ℕ)) (split : Split) → split_words w
 unfolding judgement_of_words
 judged_by_name words split is = ap split_judged is
 
--- ---- what a policy says beside its files is within its limits
+-- ---- what a policy says besides its files is within its limits
 
 number_by : (low high value n : ℕ) (good above below : Bool) → nat_le low value ≡ above → nat_le value high ≡ below → (if good && above && below then Some value else None) ≡ Some n
     → is_between low high n ≡ true

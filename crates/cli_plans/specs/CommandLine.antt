@@ -36,7 +36,7 @@ pub record RunWords : Type 0 where
   pub disk : Option (List ℕ)
   pub script : Source
   pub events : ℕ
-  -- where the disk is saved behind the report, if it is
+  -- where the disk is saved after the report, if it is
   pub save : Option (List ℕ)
 
 -- a policy that is made of a kernel and of modules
@@ -44,7 +44,7 @@ pub record PolicyWords : Type 0 where
   -- the name that it is saved under
   pub out : List ℕ
   pub kernel : List ℕ
-  -- what it says beside its files
+  -- what it says besides its files
   pub terms : Terms
   -- the names of the modules' objects
   pub modules : List (List ℕ)
@@ -139,7 +139,7 @@ terms_words init (Some ram_pages) (Some harts) (Some entries) = terms_with ram_p
 abbrev pub terms_judged : (ram harts entries init : List ℕ) → Result Terms Refusal
 terms_judged ram harts entries init = terms_words init (number_within min_ram_pages max_ram_pages ram) (number_within 1 max_harts harts) (entries_judged entries)
 
--- the modules are judged behind the other words
+-- the modules are judged after the other words
 unfoldable pub making_words : MeasureSplit → Result Terms Refusal → Result Command Refusal
 making_words w (Err refusal) = Err refusal
 making_words w (Ok terms) =

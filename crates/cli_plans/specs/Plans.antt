@@ -46,7 +46,7 @@ use Rattle.cli_plans.specs.CommandLine.{Command, Flat, Generated, Run, RunWords,
 
 pub data Due : Type 0 where
   Refuse : Refusal → Due
-  -- a run. Behind its report the disk's bytes are saved, where a name for them is given
+  -- a run. After its report the disk's bytes are saved, where a name for them is given
   RunFrom : (start : State) → (events : List Event) → (save : Option (List ℕ)) → Due
   -- a policy that was made. It is saved, and then a line is printed
   Make : (name : List ℕ) → (rules : Rules) → (line : List ℕ) → Due
@@ -117,7 +117,7 @@ pub data Plan : Type 0 where
   End : Due → Plan
   -- at most so many bytes are read under a name, once, and what is found decides how it goes on
   Read : (name : List ℕ) → (limit : ℕ) → (next : Found → Plan) → Plan
-  -- the words, or what was read of files, are judged, and what is due is made ready, for which memory may be wanting, before
+  -- the words, or what was read of files, are judged, and what is due is made ready, for which memory may run out, before
   -- it goes on
   Judge : (next : Plan) → Plan
 
@@ -234,7 +234,7 @@ boot_judged kind rules file disk events save =
     else Refuse (Entry (header_entry file)))
     else Refuse (Measure (image_measure file) rules.kernel)
 
--- what stands behind the image: the disk, the script and the boot
+-- what stands after the image: the disk, the script and the boot
 unfoldable pub boot_plan : RunWords → Rules → (file : List ℕ) → Plan
 boot_plan words rules file =
     disk_part words.disk (λ disk. script_part rules.harts words.script
@@ -283,7 +283,7 @@ pub record Modules : Type 0 where
 abbrev pub no_modules : Modules
 no_modules = record { names = []; objects = [] }
 
--- a module and the names that it wants stand behind those before it
+-- a module and the names that it wants stand after those before it
 abbrev pub with_module : Modules → (name file : List ℕ) → (names : List (List ℕ)) → Modules
 with_module before name file names = record { names = names; objects = before.objects ++ record { name = name; bytes = file } ∷ [] }
 
@@ -333,7 +333,7 @@ command_plan (Run words) = run_plan words
 command_plan (MakePolicy words) = measure_plan words
 command_plan (Convert words) = convert_plan words
 
--- words that are refused never want memory, and else memory may be wanting for reading them by their names
+-- words that are refused never run out of memory, and else memory may run out for reading them by their names
 unfoldable pub plan_of : Result Command Refusal → Plan
 plan_of (Err refusal) = End (Refuse refusal)
 plan_of (Ok command) = Judge (command_plan command)

@@ -32,7 +32,7 @@ FoundAs old new name limit Longer =
 FoundAs old new name limit (Held bytes) =
     (length bytes ≤ limit) × (IsTrue old.tells → old.held name ≡ Some bytes) × (new ≡ after_asking name limit old)
 
--- The files were asked as the plan says, up to what is due at its end. It is none where memory was wanting for a read,
+-- The files were asked as the plan says, up to what is due at its end. It is none where memory ran out for a read,
 -- or for judging what was read.
 abbrev pub Follows : Plan → FilesState → FilesState → Option Due → Type 0
 Follows (End due) old new reached = (reached ≡ Some due) × (new ≡ old)

@@ -38,7 +38,7 @@ fn judge_shape(words: &[String]) -> Result<(), Refusal>
     }
 }
 
-// The words behind the name of a command.
+// The words after the name of a command.
 fn judge_named(name: &str, rest: &[String]) -> Result<(), Refusal>
     ensures { IsJudged (split_judged (named_split name.now (map string_bytes rest.now))) result }
 {

@@ -48,12 +48,12 @@ pub struct Run<'a> {
     pub disk: Option<&'a str>,
     pub script: Source<'a>,
     pub events: u64,
-    /// The name under which the disk is saved behind the report, where it is.
+    /// The name under which the disk is saved after the report, where it is.
     pub save: Option<&'a str>,
 }
 
 /// `measure OUT KERNEL RAM HARTS ENTRIES INIT MODULES...`: the name that the policy is saved under, the files' names, and
-/// what it says beside them.
+/// what it says besides them.
 #[derive(Drop)]
 pub struct MakePolicy<'a> {
     pub out: &'a str,
@@ -62,7 +62,7 @@ pub struct MakePolicy<'a> {
     pub modules: Vec<&'a str>,
 }
 
-/// What a policy says beside its files.
+/// What a policy says besides its files.
 #[derive(Drop)]
 pub struct Terms<'a> {
     pub ram_pages: u32,
@@ -223,7 +223,7 @@ fn read_measure(words: MeasureWords<'_>) -> Result<Command<'_>, Refusal>
     }))
 }
 
-/// What a policy says beside its files.
+/// What a policy says besides its files.
 #[tactic(auto, unfolding(crate::specs::CommandLine::terms_words))]
 pub fn read_terms<'a>(
     ram: &str,

@@ -68,7 +68,7 @@ pub ready_performs : (plan : Plan) (f0 f1 f2 : FilesState) (s0 s1 : SinkState) (
 ready_performs plan f0 f1 f2 s0 s1 b0 b1 booted result p a =
     record { reached = p.reached; read = f1; follows = p.follows; answers = ready_answers p.reached booted _ _ result p.ready a }
 
--- ---- refusals, and want of memory
+-- ---- refusals, and out of memory
 
 refused_where : (reached : Option Due) (given : Refusal) (files : FilesState) (old new : SinkState) (bench : Option Machine) (result : Result Status Trouble) →
     IsResumedWhere reached (Err (Refused given)) → Writes (refusal_status given) (refusal_line given) old new result → (IsErrOf result Memory → IsTrue (takes_memory given)) →

@@ -1,4 +1,4 @@
--- A script behind its first events.
+-- A script after its first events.
 use Rattle.std.proofs.Common.{◌≡◌, ℕ, zero, suc, ◌+◌, ◌-◌, ◌≤◌, List, [], ◌∷◌, ◌++◌, length, drop, replicate, sym, ◌∙◌, ap, arith, None}
 use Rattle.std.proofs.lemmas.List.{drop_all}
 use Rattle.std.proofs.Math.Nat.{zero-add, suc-add}
@@ -14,7 +14,7 @@ drop_row zero rest event events = ap (λ (k : ℕ). drop k events) (zero-add res
 drop_row (suc n) rest event events =
     ap (λ (k : ℕ). drop k (event ∷ (replicate n event ++ events))) (suc-add n rest) ∙ drop_row n rest event events
 
--- nothing is behind a script's end
+-- nothing is after a script's end
 pub after_end : (undrawn made events : ℕ) (old new all : Schedule) → next_event old ≡ None →
     events_after undrawn (undrawn + events) old ≡ events_after made (made + events) all → first_events 0 new ≡ events_after made (made + events) all
 unfolding first_events

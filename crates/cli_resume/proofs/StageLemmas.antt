@@ -69,7 +69,7 @@ stopped_where (Some due) Memory it = absurd it
 pub stops : (plan : Plan) (old new : FilesState) (stop : Stop) → Prepares plan old new (Err stop) → Resumes plan old new (Err stop)
 stops plan old new stop p = record { reached = p.reached; follows = p.follows; ready = stopped_where p.reached stop p.ready }
 
--- what is ready behind a stage that passes
+-- what is ready after a stage that passes
 pub pass : {A : Type 0} (stage : (A → Plan) → Plan) (value : A) (next : A → Plan) (old now new : FilesState) (result : Result PreparedRun Stop) →
     Passes stage value old now → Resumes (next value) now new result → Resumes (stage next) old new result
 pass stage value next old now new result passes p = record { reached = p.reached; follows = passes.follows next new p.reached p.follows; ready = p.ready }

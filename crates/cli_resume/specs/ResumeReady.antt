@@ -32,7 +32,7 @@ IsResumed (Refuse refusal) (Ok booted) = ⊥
 IsResumed (Refuse refusal) (Err (Refused given)) = given ≡ refusal
 IsResumed due (Err Memory) = Unit {0}
 
--- where memory was wanting, the end of the plan wasn't reached
+-- where memory ran out, the end of the plan wasn't reached
 abbrev pub IsResumedWhere : Option Due → Result PreparedRun Stop → Type 0
 IsResumedWhere None result = IsErrOf result Memory
 IsResumedWhere (Some due) (Ok booted) = IsResumed due (Ok booted)

@@ -21,7 +21,7 @@ pub record ResumeWords : Type 0 where
   pub script : Source
   -- the most events of the whole run
   pub events : ℕ
-  -- where the disk is saved behind the report, if it is
+  -- where the disk is saved after the report, if it is
   pub save : Option (List ℕ)
 
 -- ---- resume SNAP POLICY SCRIPT EVENTS SAVE

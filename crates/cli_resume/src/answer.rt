@@ -17,7 +17,7 @@ use std::alloc::Global;
 use std::thread::Threads;
 
 /// Does all that `resume` does: judges the words, reads the files that they name, and goes on from the snapshot with the events
-/// of the script behind those that were made before. It writes what the machine prints from then on and the report of the whole
+/// of the script after those that were made before. It writes what the machine prints from then on and the report of the whole
 /// run, and saves the disk.
 pub fn secvisor_resume<R: Threads + Sync, F: Files, O: Sink>(
     rt: &R,

@@ -10,7 +10,7 @@ pub fn law_snap_and_resume()
 
 /// Where the files tell what they hold and no read of them fails, and their names hold a snapshot, a policy and a script in range,
 /// of which the policy doesn't refuse the snapshot, `resume` refuses nothing: it ends with the status of the verdict of the run
-/// that goes on, 0, 1 or 7; or a write or the save failed, which is counted; or memory was wanting.
+/// that goes on, 0, 1 or 7; or a write or the save failed, which is counted; or memory ran out.
 pub fn law_resume_ends()
     ensures { ResumeEndsLaw }
 {}

@@ -1,4 +1,4 @@
-// A script behind its first events.
+// A script after its first events.
 ghost use Rattle.std.specs.Prelude.{◌≡◌, ◌+◌, ◌≤◌};
 ghost use Rattle.sv_types.specs.Schedule.{first_events};
 ghost use Rattle.cli_resume.specs.ResumePlans.{events_after};
@@ -23,7 +23,7 @@ pub fn events_left(script: Script, made: u64, events: u64) -> Left
     skip(script, made, events - made)
 }
 
-// Behind the first `made` events so many are left, or fewer where the script ends. Those before are drawn and made by nobody.
+// After the first `made` events so many are left, or fewer where the script ends. Those before are drawn and made by nobody.
 fn skip(script: Script, made: u64, events: u64) -> Left
     ensures left { first_events result.events result.script ≡ events_after made (made + events) script }
     ensures few { result.events ≤ events }

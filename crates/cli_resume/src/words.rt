@@ -13,7 +13,7 @@ pub struct Resume<'a> {
     pub policy: &'a str,
     pub script: Source<'a>,
     pub events: u64,
-    /// The name under which the disk is saved behind the report, where it is.
+    /// The name under which the disk is saved after the report, where it is.
     pub save: Option<&'a str>,
 }
 
@@ -38,7 +38,7 @@ fn read_shape(words: &[String]) -> Result<Resume<'_>, Refusal>
     }
 }
 
-// The words behind the name of a command.
+// The words after the name of a command.
 fn read_named<'a>(name: &str, rest: &'a [String]) -> Result<Resume<'a>, Refusal>
     ensures { IsResume (resume_named name.now (map string_bytes rest.now)) result }
 {

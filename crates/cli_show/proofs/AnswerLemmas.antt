@@ -23,7 +23,7 @@ too_long bytes longer =
     let is : nat_lt max_snapshot_bytes (length bytes) ≡ true = grind (arith, nat_tests) in
     rw is refl
 
--- where memory was wanting for the read, nothing was written
+-- where memory ran out for the read, nothing was written
 unread : (due : Due) (old new : SinkState) (result : Result Status Trouble) → IsErrOf result Memory → new ≡ old → Ends due old new result
 unread due old new (Ok status) wants same = cc wants
 unread due old new (Err Write) wants same = cc wants

@@ -14,7 +14,7 @@ use Rattle.host_io.specs.Endings.{status_of_end}
 use Rattle.cli_show.specs.declared.refusal.ShowRefusal.{ShowRefusal}
 use Rattle.cli_show.specs.declared.refusal.ShowRefusal.TheVariants.{NoCommand, ReadFault, NoSnapshot}
 
--- All bytes that are due were written, and the status is theirs; or a write failed before; or memory was wanting, and nothing
+-- All bytes that are due were written, and the status is theirs; or a write failed before; or memory ran out, and nothing
 -- was written.
 abbrev pub Ends : Due → SinkState → SinkState → Result Status Trouble → Type 0
 Ends due old new (Ok status) = (status ≡ status_due due) × (new ≡ after_taking old (bytes_due due))

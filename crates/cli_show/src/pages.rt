@@ -6,7 +6,7 @@ ghost use Rattle.cli_show.specs.PageTexts as spec;
 use std::alloc::{AllocError, Global};
 use sv_types::Protection;
 
-/// Pages behind one another that are guarded alike, by the numbers of the first and of the last.
+/// Pages after one another that are guarded alike, by the numbers of the first and of the last.
 #[derive(Clone, Copy, Drop)]
 pub struct PageRun {
     pub first: u64,

@@ -13,7 +13,7 @@ use std::alloc::{AllocError, Global};
 
 /// What is shown of a snapshot, line by line: its events and its time in ticks; each hart with its registers by name; the
 /// pages of RAM by how they are guarded, as runs; modules, the load under way and whether init pages are retired; the
-/// devices; and the report that a run that ended here would print. Want of memory is the one refusal.
+/// devices; and the report that a run that ended here would print. Out of memory is the one refusal.
 #[tactic(auto, unfolding(crate::specs::SnapshotTexts::snapshot_text))]
 pub fn snapshot_text(alloc: Global, snapshot: &Snapshot) -> Result<String, AllocError>
     ensures { IfOk result (λ t. string_bytes t ≡ spec.snapshot_text (contents snapshot.now)) }

@@ -53,7 +53,7 @@ pub ready_performs : (plan : Plan) (name : List ℕ) (f0 f1 f2 : FilesState) (s0
 ready_performs plan name f0 f1 f2 s0 s1 b0 b1 booted result p a =
     record { reached = p.reached; read = f1; follows = p.follows; answers = ready_answers p.reached booted name _ _ result p.ready a }
 
--- ---- refusals, and want of memory
+-- ---- refusals, and out of memory
 
 refused_where : (reached : Option Due) (given : Refusal) (name : List ℕ) (files : FilesState) (old new : SinkState) (bench : Option Machine) (result : Result Status Trouble) →
     IsPreparedRunWhere reached (Err (Refused given)) → Writes (refusal_status given) (refusal_line given) old new result → (IsErrOf result Memory → IsTrue (takes_memory given)) →

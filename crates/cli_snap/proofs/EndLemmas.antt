@@ -22,7 +22,7 @@ use Rattle.cli_snap.proofs.AcceptedLemmas.{SnapAccepted, snap_accepted}
 use Rattle.cli_snap.proofs.ClauseLemmas.{reached_changes}
 
 module _ (start : State) (events : List Event) (name : List ℕ) (old new : Outside) where
-  -- memory was wanting
+  -- memory ran out
   wanting_ends : (result : Result Status Trouble) → result ≡ Err Memory → SnapEnds start events name old new (status_of_end result)
   wanting_ends result is = record { ends = inr (inr (ap status_of_end is)); done = λ fine. absurd (cc (sym fine ∙ ap status_of_end is)) }
 

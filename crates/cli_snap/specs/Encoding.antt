@@ -27,7 +27,7 @@ pub record EncodesMachine (m : Machine) (text : List TextPage) (bytes : List ℕ
   pub snapshot_is : IsMachineSnapshot m text it
   pub bytes_are : bytes ≡ snapshot.encode (contents it)
 
--- memory was wanting, or it was saved, or its save failed
+-- memory ran out, or it was saved, or its save failed
 abbrev pub SavesMachine : Machine → List TextPage → (name : List ℕ) → FilesState → FilesState → Result (Unit {0}) Trouble → Type 0
 SavesMachine m text name old new result =
     (IsErrOf result Memory × (new ≡ old))

@@ -1,4 +1,4 @@
--- What `snap` owes to what is asked of it: the console's bytes of a run, and the machine behind it as a snapshot. This project's
+-- What `snap` owes to what is asked of it: the console's bytes of a run, and the machine after it as a snapshot. This project's
 -- own.
 use Rattle.std.specs.Prelude.{◌≡◌, ◌⊎◌, ℕ, List, [], ◌++◌, Option, Some, None, Result, Ok, Err, OnOk, IsErrOf}
 use Rattle.sv_types.specs.declared.event.Event.{Event}
@@ -27,13 +27,13 @@ use Rattle.cli_snap.specs.SnapWords.{SnapWords, out_of, snap_plan}
 abbrev pub saving_of : (name : List ℕ) → Snapshot → Saving
 saving_of name s = record { name = name; content = Exactly (snapshot.encode (contents s)) }
 
--- memory was wanting for it, and nothing was saved; or it was saved, or its save failed
+-- memory ran out for it, and nothing was saved; or it was saved, or its save failed
 abbrev pub SavesMade : State → List Event → (name : List ℕ) → FilesState → FilesState → Status → (saved : Result Status Trouble) → Type 0
 SavesMade start events name old new status saved =
     ((saved ≡ Err Memory) × (new ≡ old))
     ⊎ ((s : Snapshot) × IsSnapshotOf start events s × SavedAfter (Some (saving_of name s)) old new (Ok status) saved)
 
--- It is saved behind what was to be written. Nothing is saved after a write that failed, or where memory was wanting.
+-- It is saved after what was to be written. Nothing is saved after a write that failed, or where memory ran out.
 abbrev pub SavesSnapshot : State → List Event → (name : List ℕ) → FilesState → FilesState → (written saved : Result Status Trouble) → Type 0
 SavesSnapshot start events name old new (Err trouble) saved = (saved ≡ Err trouble) × (new ≡ old)
 SavesSnapshot start events name old new (Ok status) saved = SavesMade start events name old new status saved
@@ -74,7 +74,7 @@ AnswersSnap name (Refuse refusal) old new result = WritesAndSaves (Refuse refusa
 AnswersSnap name (RunFrom start events save) old new result = RunsSnap start events name old new result
 AnswersSnap name (Make out rules line) old new result = ⊥
 
--- the same where memory was wanting before what is due was ready: nothing happened
+-- the same where memory ran out before what is due was ready: nothing happened
 abbrev pub AnswersSnapReached : (name : List ℕ) → Option Due → Outside → Outside → Result Status Trouble → Type 0
 AnswersSnapReached name None old new result = IsErrOf result Memory × (new ≡ old)
 AnswersSnapReached name (Some due) old new result = AnswersSnap name due old new result

@@ -50,7 +50,7 @@ pub record SnapDone (start : State) (events : List Event) (name : List ℕ) (old
   pub held : new.files.held name ≡ Some (snapshot.encode (contents saved))
   pub printed : new.sink ≡ after_taking old.sink (run start events).journal.printed
 
--- status 0, whatever the verdict; or a write or the save failed; or memory was wanting
+-- status 0, whatever the verdict; or a write or the save failed; or memory ran out
 pub record SnapEnds (start : State) (events : List Event) (name : List ℕ) (old new : Outside) (answer : Status) : Type 0 where
   pub ends : EndsAs Status.Done old new answer
   pub done : answer ≡ Status.Done → SnapDone start events name old new

@@ -29,7 +29,7 @@ IsPreparedRun (Refuse refusal) (Ok booted) = ⊥
 IsPreparedRun (Refuse refusal) (Err (Refused given)) = given ≡ refusal
 IsPreparedRun (Refuse refusal) (Err Memory) = ⊥
 
--- where memory was wanting, the end of the plan wasn't reached
+-- where memory ran out, the end of the plan wasn't reached
 abbrev pub IsPreparedRunWhere : Option Due → Result PreparedRun Stop → Type 0
 IsPreparedRunWhere None result = IsErrOf result Memory
 IsPreparedRunWhere (Some due) result = IsPreparedRun due result

@@ -21,7 +21,7 @@ pub record SnapWords : Type 0 where
 
 -- ---- snap IMAGE POLICY DISK SCRIPT EVENTS OUT
 
--- the disk isn't saved beside the snapshot
+-- the disk isn't saved alongside the snapshot
 abbrev pub block_run : (image policy disk : List ℕ) → Source → (events : ℕ) → RunWords
 block_run image policy disk script events = record {
   kind = DiskKind.Block;

@@ -6,7 +6,7 @@ use cli_plans::{DiskKind, Refusal, Run, Word, any_has_dash, source_of, unless_no
 use sv_types::MAX_EVENTS;
 use text_numbers::number_within;
 
-/// `snap IMAGE POLICY DISK SCRIPT EVENTS OUT`: a run, and the name that the machine behind it is saved under.
+/// `snap IMAGE POLICY DISK SCRIPT EVENTS OUT`: a run, and the name that the machine after it is saved under.
 #[derive(Drop)]
 pub struct Snap<'a> {
     pub run: Run<'a>,
@@ -34,7 +34,7 @@ fn read_shape(words: &[String]) -> Result<Snap<'_>, Refusal>
     }
 }
 
-// The words behind the name of a command.
+// The words after the name of a command.
 fn read_named<'a>(name: &str, rest: &'a [String]) -> Result<Snap<'a>, Refusal>
     ensures { IsSnap (snap_named name.now (map string_bytes rest.now)) result }
 {

@@ -1,4 +1,4 @@
--- The first word names the command, and the name says how the words behind it are split.
+-- The first word names the command, and the name says how the words after it are split.
 use Rattle.std.proofs.Common.{◌≡◌, ◌∙◌, ◌<◌, ◌≤◌, ◌-◌, ◌||◌, Bool, true, false, true≢false, cond, List, [], ◌∷◌, length, slice_index_or, take, drop, map, Option, None, refl, ap, sym, codes, arith, String, Global, string_bytes}
 use Rattle.std.specs.List.{list_any}
 use Rattle.std.specs.Option.{is_some, option_and_then}
@@ -50,7 +50,7 @@ parts_by true rest shape known = absurd (true≢false (sym known))
 parts_by false true shape known = absurd (true≢false (sym known))
 parts_by false false shape known = (refl, refl)
 
--- no word behind the name begins with a dash, and these words are split by the name
+-- no word after the name begins with a dash, and these words are split by the name
 pub after_name : (name : Text) (rest : List Text) → is_some (split_words (name ∷ rest)) ≡ true
     → (list_any has_dash rest ≡ false) × (split_words (name ∷ rest) ≡ named_split name rest)
 unfolding split_words

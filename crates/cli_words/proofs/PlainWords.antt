@@ -48,7 +48,7 @@ turn_is s w word on plain = elim on.waiting as (λ _. turn_passes s [] w word �
   | inr e ↦ rw (on.stopped, on.is_trailing, e, no_hyphens word plain, no_long word plain, no_short word plain) refl
 ]
 
--- no positional makes the words behind it values
+-- no positional makes the words after it values
 abbrev is_trailing_rule : Rule → Bool
 is_trailing_rule a = a.trailing_var_arg
 

@@ -1,4 +1,4 @@
--- What `clap` makes of the words behind the name of a command.
+-- What `clap` makes of the words after the name of a command.
 use Rattle.std.proofs.Common.{◌≡◌, ◌∙◌, ◌+◌, ◌&&◌, ℕ, Bool, true, false, true≢false, List, [], ◌∷◌, ◌++◌, Option, Some, None, drop, refl, sym, subst, ap, ap₂, codes, inl, append_assoc, if◌then◌else◌}
 use Rattle.std.specs.List.{fold, list_all, list_any}
 use Rattle.std.specs.Option.{is_some}
@@ -48,7 +48,7 @@ module _ (wants : List Want) (s : Shape) (is : IsAlone wants s) (words : List Te
   abbrev app : App
   app = app_of_wants wants
 
-  -- behind the words
+  -- after the words
   abbrev end : Walk
   end = fold (walk_after s.rules) start words
 
@@ -152,14 +152,14 @@ modules_row modules = record {
 }
 
 module _ (a b c d e f : Text) where
-  -- behind the six words that are wanted
+  -- after the six words that are wanted
   abbrev six : Walk
   six = fold (walk_after measure_shape.rules) start (a ∷ b ∷ c ∷ d ∷ e ∷ f ∷ [])
 
   abbrev rows_with : List Text → List Row
   rows_with modules = (settled measure_shape.rules six.held).rows ++ modules_row modules ∷ []
 
-  -- behind these modules and one more, which is pending
+  -- after these modules and one more, which is pending
   abbrev after_modules : List Text → Text → Walk
   after_modules seen last = record six {
     held = record { rows = rows_with seen; pending = Some (codes "MODULES", last ∷ []); skip = 0 };

@@ -46,7 +46,7 @@ pub data Split : Type 0 where
   Measure : MeasureSplit → Split
   Convert : ConvertSplit → Split
 
--- ---- by the number of words behind the name
+-- ---- by the number of words after the name
 
 abbrev pub flat_split : List (List ℕ) → Option Split
 flat_split (file ∷ wanted ∷ events ∷ []) = Some (Flat (record { file = file; wanted = wanted; events = events }))

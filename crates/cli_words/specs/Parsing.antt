@@ -23,7 +23,7 @@ name_of name =
     else if bytes_eq name (codes "convert") then Some command.Convert
     else None
 
--- the words behind the name of the command
+-- the words after the name of the command
 abbrev pub split_as : CommandName → List Text → Option Split
 split_as command.Flat words = flat_split words
 split_as command.Generated words = gen_split words
@@ -74,7 +74,7 @@ rule_of_want (Any name) = record (new_rule name) { action = Some Append }
 abbrev pub with_want : App → Want → App
 with_want app want = with_rule app (rule_of_want want)
 
--- the words stand behind the name of the command, and nothing asks for help
+-- the words stand after the name of the command, and nothing asks for help
 abbrev pub bare_app : App
 bare_app = on_top (λ s. record s { no_binary_name = true; disable_help_flag = true }) (new_app (codes "secvisor"))
 

@@ -1,4 +1,4 @@
-// What `clap` reads behind the name of a command.
+// What `clap` reads after the name of a command.
 ghost use Rattle.std.specs.Prelude.{◌≡◌, IfOk, IsTrue, false, map, string_bytes};
 ghost use Rattle.clap.specs.Words.{app_of, found_of, kind_of, matches_of, rows_of, rule_of, takes};
 ghost use Rattle.clap.specs.declared.builder.Command.TheViews.{out-Command};
@@ -51,7 +51,7 @@ static CONVERT: [Argument<'static>; 3] = [
     Argument::One("OUT"),
 ];
 
-/// What the command wants behind its name, in order.
+/// What the command wants after its name, in order.
 pub fn arguments_of(command: CommandName) -> &'static [Argument<'static>]
     ensures { map want_of result.now ≡ wants_of command }
 {
@@ -80,7 +80,7 @@ pub fn read<'a>(
     }
 }
 
-// A parse fails only where memory is wanting.
+// A parse fails only where memory runs out.
 fn want_of_memory(error: Error) -> AllocError
     requires { kind_of error ≡ ErrorKind.OutOfMemory }
 {
@@ -104,7 +104,7 @@ fn command_of_arguments<'a>(
     Ok(command)
 }
 
-// The words stand behind the name of the command, and nothing asks for help.
+// The words stand after the name of the command, and nothing asks for help.
 fn bare<'a>(alloc: Global) -> Command<'a>
     ensures app { app_of result ≡ bare_app }
     ensures local { (out-Command result).has_globals ≡ false }

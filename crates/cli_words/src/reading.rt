@@ -12,8 +12,8 @@ use crate::found::words_of_command;
 use crate::name::{CommandName, command_of_name};
 use std::alloc::{AllocError, Global};
 
-/// The words of a command by their names, as `clap` reads them behind the command's name, which refuses none of these
-/// words. Fails where memory is wanting.
+/// The words of a command by their names, as `clap` reads them after the command's name, which refuses none of these
+/// words. Fails where memory runs out.
 pub fn split<'a>(alloc: Global, words: &'a [String]) -> Result<CommandWords<'a>, AllocError>
     requires { IsTrue (is_some (split_words (map string_bytes words.now))) }
     ensures { IfOk result (λ found. split_words (map string_bytes words.entry.now) ≡ Some (split_of found)) }
@@ -24,7 +24,7 @@ pub fn split<'a>(alloc: Global, words: &'a [String]) -> Result<CommandWords<'a>,
     }
 }
 
-// The words behind the name of a command.
+// The words after the name of a command.
 fn split_named<'a>(
     alloc: Global,
     name: &str,

@@ -32,7 +32,7 @@ fn status_at_trap(status: u64, from: Mode) -> u64
     with_bits(closed, SPP, matches!(from, Mode::Kernel))
 }
 
-/// The status behind a trap handler: SIE has SPIE, SPIE is set, SPP is user mode.
+/// The status after a trap handler: SIE has SPIE, SPIE is set, SPP is user mode.
 #[tactic(auto, unfolding(spec_processor::specs::Traps::status_at_return))]
 fn status_at_return(status: u64) -> u64
     ensures { result ≡ status_at_return status }
@@ -55,7 +55,7 @@ fn mode_at_return(status: u64) -> Mode
 }
 
 /// Where a guest's trap goes: to the base of `vstvec`, or for an interrupt, where its bit 0 is set, to the place of the
-/// cause behind it, modulo 2^64.
+/// cause after it, modulo 2^64.
 #[tactic(auto, using(laws_processor::proofs::RegisterBits::target_aligned), unfolding(spec_processor::specs::Traps::trap_target))]
 pub fn target(csrs: &Csrs, cause: ExitCause) -> u64
     ensures value { result ≡ trap_target csrs.now.vstvec (is_interrupt cause) (guest_number cause) }

@@ -33,7 +33,7 @@ address_before strings symbols wanted i j n m s before after more next is so_far
     (so_far ∙ ap (λ (k : ℕ). address_among strings (symbols_from symbols k m) wanted) next)
     ∙ sym (address_more strings symbols wanted i n m more)
 
--- before the first, and behind the last
+-- before the first, and after the last
 pub none_found : (addresses : BTreeMap (Bor (List ℕ)) ℕ) (strings symbols wanted : List ℕ) (i n : ℕ) → addresses.entries ≡ [] → n ≡ 0
     → number_by_name addresses wanted ≡ address_among strings (symbols_from symbols i n) wanted
 none_found addresses strings symbols wanted i n empty none = rw (empty, none) refl

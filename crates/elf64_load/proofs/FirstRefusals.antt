@@ -1,4 +1,4 @@
--- Checks, one behind the other.
+-- Checks, one after the other.
 use Rattle.std.proofs.Common.{◌≡◌, ℕ, suc, ◌+◌, ◌<◌, Bool, true, false, List, [], ◌∷◌, ◌++◌, length, get_or, drop, map, flat_map, Some, None, refl, ap, sym, ◌∙◌, subst, arith, add-one, zero}
 use Rattle.std.proofs.Math.Seq.{drop-cons}
 use Rattle.sv_types.specs.Kernel.{first_refusal, image_check, header_checks, segment_checks, image_checks, loaded_headers, kernel_refusal, text_is_shared}

@@ -8,7 +8,7 @@ use Rattle.sv_types.specs.Kernel.{LoadedSegment, with_segment}
 use Rattle.laws_processor.proofs.ByteLemmas.{lt_or_le, length_overwrite, length_padded, length_part}
 use Rattle.elf64_load.specs.Images.{IsPlaced}
 
--- ---- bytes, and zeros behind them
+-- ---- bytes, and zeros after them
 
 pub zero_at : (n i : ℕ) → get_or {A = ℕ} (replicate n 0) i 0 ≡ 0
 zero_at zero i = refl
@@ -62,7 +62,7 @@ byte_elsewhere ram s i lies apart =
           at_after ram (with_padding s.bytes s.memory) (ram_offset s.gpa) i (omega arith) (omega arith)
     ]
 
--- a byte that is the segment's, or a zero behind its memory, is its byte or the zero behind them
+-- a byte that is the segment's, or a zero after its memory, is its byte or the zero after them
 pub byte_there : (ram : List ℕ) (s : LoadedSegment) (i : ℕ) → IsPlaced (length ram) s → ram_offset s.gpa ≤ i → get_or ram i 0 ≡ 0
     → get_or (with_segment ram s) i 0 ≡ get_or s.bytes (i - ram_offset s.gpa) 0
 byte_there ram s i lies from zero_before =
@@ -84,7 +84,7 @@ byte_there ram s i lies from zero_before =
 pub at_part : (list : List ℕ) (at n j : ℕ) → j < n → get_or (part list at n) j 0 ≡ get_or list (at + j) 0
 at_part list at n j h = search (rules, places)
 
--- a page of RAM is a page of a list, with zeros behind it, where its bytes are
+-- a page of RAM is a page of a list, with zeros after it, where its bytes are
 pub same_page : (ram bytes : List ℕ) (page at : ℕ) → page_size * page + page_size ≤ length ram
     → ((j : ℕ) → j < page_size → get_or ram (page_size * page + j) 0 ≡ get_or bytes (at + j) 0)
     → with_padding (part bytes at page_size) page_size ≡ page_bytes ram page

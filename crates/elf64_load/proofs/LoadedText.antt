@@ -56,7 +56,7 @@ byte_stays file ram page j h inside sound apart =
     byte_elsewhere ram (loaded_segment file h) (page_size * page + j) sound.lies
     (byte_apart (ram_offset h.gpa) h.memory_size page j inside (rw same at apart_here))
 
--- segments one behind the other
+-- segments one after the other
 abbrev with_segments : List ℕ → List ℕ → List ProgramHeader → List ℕ
 with_segments file ram hs = fold with_segment ram (map (loaded_segment file) hs)
 

@@ -58,7 +58,7 @@ shared_front (h ∷ hs) ks shared = elim (or_cases (list_any (may_clash h) hs) (
 
 -- ---- a segment that begins on no page before the others' first
 
--- a segment touches the page or one behind it
+-- a segment touches the page or one after it
 abbrev pub reaches : ℕ → ProgramHeader → Bool
 reaches page h = nat_le page (last_page h)
 
@@ -95,7 +95,7 @@ clash_after k (h ∷ hs) memory order =
     ∙ joined (is_executable k) (reaches (first_page k) h) (list_any (reaches (first_page k)) hs)
     (text_reaches (first_page k) h) (list_any (text_reaches (first_page k)) hs)
 
--- in that order, the segments in front of one begin on no page behind its first
+-- in that order, the segments in front of one begin on no page after its first
 pub in_front : (hs : List ProgramHeader) (i : ℕ) (d : ProgramHeader) → IsNonDecreasingBy first_page hs → i < length hs
     → All (λ h. first_page h ≤ first_page (get_or hs i d)) (take i hs)
 in_front hs i d order below =
@@ -106,7 +106,7 @@ in_front hs i d order below =
     let e : get_or (take i hs) j d ≡ get_or hs j d = get_or-take i hs j d here in
     rw e (order j i d (omega arith) below))
 
--- ---- the segments so far, with the page behind them all, and the one behind those of text
+-- ---- the segments so far, with the page after them all, and the one after those of text
 
 pub record Swept (done : List ProgramHeader) (end text_end : ℕ) : Type 0 where
   pub apart : text_is_shared done ≡ false

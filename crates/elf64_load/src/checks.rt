@@ -121,7 +121,7 @@ fn some_are_executable(headers: &[ProgramHeader]) -> bool
     headers.iter().any(|header| is_executable(header))
 }
 
-/// The first fault of all segments together. Fails where memory is wanting.
+/// The first fault of all segments together. Fails where memory runs out.
 #[tactic(auto, unfolding(sv_types::specs::Kernel::image_checks))]
 pub(crate) fn image_refusal(
     alloc: Global,

@@ -121,7 +121,7 @@ fn kernel_tables(alloc: Global, file: &[u8]) -> Result<Option<SymbolTables<'_>>,
 /// The exports of these names, in their order: the values of the first global symbols of the kernel's file that define
 /// them. Refuses a file for its header as `read_kernel` does; where its section headers, its symbol table or the table of
 /// its names is absent, outside the file, or of a wrong size of entries or link; where a name is no defined global symbol;
-/// where there are more than 4,096 names; and for want of memory. The time is linear in the file, but for looking names up.
+/// where there are more than 4,096 names; and when out of memory. The time is linear in the file, but for looking names up.
 #[tactic(auto, unfolding(crate::specs::Exports::exports_judged))]
 pub fn read_exports(alloc: Global, bytes: &[u8], names: &[Name]) -> Result<Vec<Export>, ElfRefusal>
     ensures exports { IfOk result (λ exports. spec.exports_judged bytes.now names.now ≡ Ok exports.items) }

@@ -11,7 +11,7 @@ use policy_limits::MAX_RAM_PAGES;
 use spec_processor::{PAGE_BYTES, ram_offset};
 use std::alloc::{AllocError, Global};
 
-/// A segment that is loaded: its bytes, which stay in the file, and zeros behind them up to the size in memory.
+/// A segment that is loaded: its bytes, which stay in the file, and zeros after them up to the size in memory.
 #[derive(Clone, Copy, Drop)]
 pub struct Segment<'a> {
     /// The virtual address.
@@ -34,8 +34,8 @@ pub struct KernelImage<'a> {
 }
 
 impl KernelImage<'_> {
-    /// The pages of the executable segments, in ascending order, one behind the other. Behind a segment's bytes its pages
-    /// hold zeros. Fails where memory is wanting.
+    /// The pages of the executable segments, in ascending order, one after the other. After a segment's bytes its pages
+    /// hold zeros. Fails where memory runs out.
     pub fn text(&self, alloc: Global) -> Result<Vec<u8>, AllocError>
         ensures { IfOk result (λ text. text.items ≡ text_of (segments_of self.now)) }
     {
@@ -48,7 +48,7 @@ impl KernelImage<'_> {
     }
 
     /// For each page the number of the first executable segment in which it lies, or of all segments where there is none.
-    /// Fails where memory is wanting.
+    /// Fails where memory runs out.
     pub fn page_owners(&self, alloc: Global) -> Result<Vec<usize>, AllocError>
         ensures pages { IfOk result (λ owners. length owners.items ≡ max_ram_pages) }
         ensures owners { IfOk result (λ owners. (page : ℕ) → page < max_ram_pages → slice_index owners.items page ≡ text_owner page (segments_of self.now)) }

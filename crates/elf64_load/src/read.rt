@@ -112,7 +112,7 @@ fn loaded_segments<'a>(
 }
 
 /// Reads a kernel's file for a machine of `ram_pages` pages of RAM. A file with faults is refused for the first of them,
-/// and for want of memory where no check of the header refuses it. The image's bytes stay in the file.
+/// and when out of memory where no check of the header refuses it. The image's bytes stay in the file.
 pub fn read_kernel(
     alloc: Global,
     bytes: &[u8],

@@ -33,7 +33,7 @@ fn sorted_text_is_shared(headers: &[ProgramHeader]) -> bool
     requires memory { All HasMemory headers.now }
     ensures { result ≡ text_is_shared headers.now }
 {
-    // the page behind all segments so far, and the one behind those of text
+    // the page after all segments so far, and the one after those of text
     let mut end = 0;
     let mut text_end = 0;
     'headers: for header in headers {
@@ -50,7 +50,7 @@ fn sorted_text_is_shared(headers: &[ProgramHeader]) -> bool
     false
 }
 
-/// Whether two segments, one of them executable, touch one page. Fails where memory is wanting.
+/// Whether two segments, one of them executable, touch one page. Fails where memory runs out.
 pub(crate) fn text_is_shared(alloc: Global, headers: &[ProgramHeader]) -> Result<bool, AllocError>
     requires { All HasMemory headers.now }
     ensures { IfOk result (λ shared. shared ≡ text_is_shared headers.now) }

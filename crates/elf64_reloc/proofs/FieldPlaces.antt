@@ -40,7 +40,7 @@ pub record IsPlace (total place : ℕ) : Type 0 where
   pub below : place < total
   pub whole : place % 4 ≡ 0
 
--- a field of the text, beside so many exports
+-- a field of the text, alongside so many exports
 pub record IsSiteOf (total exports : ℕ) (site : Site) : Type 0 where
   pub place : IsPlace total site.offset
   pub aligned : site.offset % site_size site.kind ≡ 0

@@ -70,7 +70,7 @@ all_at test [] i d within all = absurd (omega arith)
 all_at test (x ∷ xs) zero d within all = (and_parts (test x) (list_all test xs) all).0
 all_at test (x ∷ xs) (suc i) d within all = all_at test xs i d (omega arith) (and_parts (test x) (list_all test xs) all).1
 
--- one section more behind those that have their places
+-- one section more after those that have their places
 pub placed_more : (before new : List PlacedSection) (ends after : Ends) (placed : PlacedSection) (sections : List SectionHeader) (i : ℕ) (d : SectionHeader) → i < length sections
     → new ≡ before ++ placed ∷ [] → placed ≡ placed_after ends (get_or sections i d) → after ≡ ends_after ends (get_or sections i d)
     → new ++ placed_from after (drop (i + 1) sections) ≡ before ++ placed_from ends (drop i sections)

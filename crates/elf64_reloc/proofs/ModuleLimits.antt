@@ -84,7 +84,7 @@ ordered_length sites =
     let most : length (ordered_from [] sites) ≤ length sites = omega (arith, all) in
     subst (λ (n : ℕ). n ≤ length sites) (sym (length-map (ordered_from [] sites) (λ (e : ℕ × Site). e.1))) most
 
--- ---- each behind those before it
+-- ---- each after those before it
 
 last_got : (before : List Site) (site : Site) → slice_get (before ++ site ∷ []) (length before) ≡ Some site
 last_got [] site = refl

@@ -23,7 +23,7 @@ IsNamed e = e.1 ≡ e.0.now
 abbrev value : Entry → List ℕ
 value e = e.1
 
--- the values behind a name that is put at its place, and that each stands beside its own bytes
+-- the values after a name that is put at its place, and that each stands alongside its own bytes
 pub record Put (k : Bor (List ℕ)) (es : List Entry) (v : List ℕ) : Type 0 where
   pub values_are : map value (insert_entry by_text es k v) ≡ replace_key (slice_cmp nat_cmp) (map value es) v
   pub named : All IsNamed (insert_entry by_text es k v)

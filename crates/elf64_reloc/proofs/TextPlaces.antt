@@ -1,4 +1,4 @@
--- The sections of text stand in the text, one behind the other. In a short file no place goes beyond 64 bits.
+-- The sections of text stand in the text, one after the other. In a short file no place goes beyond 64 bits.
 use Rattle.std.proofs.Common.{◌≡◌, ℕ, zero, suc, ◌+◌, ◌*◌, ◌%◌, ◌^◌, ◌<◌, ◌≤◌, Bool, true, false, List, [], ◌∷◌, ◌++◌, length, take, drop, Option, Some, None, refl, ap, sym, subst, ◌∙◌, arith, length-append, length-take, length-drop}
 use Rattle.spec_processor.specs.Bytes.{page_size}
 use Rattle.std.specs.Prelude.{◌&&◌, ◌||◌, ◌==◌, if◌then◌else◌, flat_map, slice_get}
@@ -79,7 +79,7 @@ text_in_file file s is good =
 abbrev pub max_added : ℕ
 max_added = 2 ^ 32 + page_size
 
--- the end of the text behind a section
+-- the end of the text after a section
 abbrev end_after : Ends → SectionHeader → Space → ℕ
 end_after ends s Text = ends.text + padding ends.text s.alignment + s.size
 end_after ends s Data = ends.text

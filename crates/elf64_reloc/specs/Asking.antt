@@ -9,7 +9,7 @@ use Rattle.elf64_reloc.specs.declared.asked.Asked.{Asked}
 use Rattle.elf64_reloc.specs.declared.asked.Asked.TheVariants.{Field, Call}
 use Rattle.sv_types.specs.Elf.{r_riscv_call, r_riscv_call_plt}
 
--- R_RISCV_CALL and R_RISCV_CALL_PLT: the high part of an address by an AUIPC, and its low part by the JALR behind it
+-- R_RISCV_CALL and R_RISCV_CALL_PLT: the high part of an address by an AUIPC, and its low part by the JALR after it
 abbrev pub is_call : ℕ → Bool
 is_call number = number == r_riscv_call || number == r_riscv_call_plt
 

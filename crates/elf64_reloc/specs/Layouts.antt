@@ -1,4 +1,4 @@
--- Where the sections of an object lie: text and data, each behind the one before it. ELF-64 Object File Format, "Sections".
+-- Where the sections of an object lie: text and data, each after the one before it. ELF-64 Object File Format, "Sections".
 -- Places are counted modulo 2 ^ 64.
 use Rattle.std.specs.Prelude.{ℕ, ◌-◌, ◌%◌, Bool, ◌&&◌, ◌||◌, List, [], ◌∷◌, ◌==◌, if◌then◌else◌, nat_le}
 use Rattle.spec_processor.specs.Bits.{bit}
@@ -36,7 +36,7 @@ ends_with ends Text end = record ends { text = end }
 ends_with ends Data end = record ends { data_end = end }
 ends_with ends Elsewhere end = ends
 
--- a section behind those before it, and the ends behind it
+-- a section after those before it, and the ends after it
 unfoldable pub placed_after : Ends → SectionHeader → PlacedSection
 placed_after ends s = record { space = space_of s; place = place_after ends (space_of s) s; size = s.size }
 

@@ -159,7 +159,7 @@ fields_overlap sites ordered = nat_lt (length ordered) (length sites) || some_to
 abbrev pub zeros : ℕ → List ℕ
 zeros n = replicate n 0
 
--- the text with a section behind it
+-- the text with a section after it
 abbrev pub text_behind : List ℕ → List ℕ → SectionHeader → List ℕ
 text_behind file text s =
     if is_text (space_of s) then (text ++ zeros (padding (length text) s.alignment)) ++ section_bytes file s else text

@@ -7,6 +7,6 @@ use Rattle.std.specs.Borrow.{Bor}
 abbrev pub names_of : BTreeMap (Bor (List ℕ)) (List ℕ) → List (List ℕ)
 names_of table = values table
 
--- each stands beside its own bytes
+-- each stands alongside its own bytes
 abbrev pub AreNamed : BTreeMap (Bor (List ℕ)) (List ℕ) → Type 0
 AreNamed table = All (λ e. e.1 ≡ e.0.now) table.entries

@@ -1,4 +1,4 @@
--- Why an object is refused: its first fault, or want of memory.
+-- Why an object is refused: its first fault, or out of memory.
 use Rattle.std.specs.Prelude.{◌≡◌, ◌≢◌, Result, Ok, Err}
 use Rattle.elf64_reloc.specs.declared.fault.ObjectFault.{ObjectFault}
 use Rattle.elf64_reloc.specs.declared.refusal.RelocRefusal.{RelocRefusal}
@@ -13,6 +13,6 @@ abbrev pub as_answer : {A : Type 0} → Judged A → Result A RelocRefusal
 as_answer (Ok a) = Ok a
 as_answer (Err fault) = Err (Fault fault)
 
--- this is why, unless it is want of memory
+-- this is why, unless it is out of memory
 abbrev pub Refuses : {A : Type 0} → Judged A → RelocRefusal → Type 0
 Refuses judged refusal = refusal ≢ Memory → as_answer judged ≡ Err refusal

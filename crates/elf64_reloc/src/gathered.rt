@@ -28,7 +28,7 @@ pub(crate) struct Gathered<'n> {
     pub(crate) bases: BTreeMap<&'n str, u16>,
 }
 
-/// What is gathered of an object. Fails where memory is wanting.
+/// What is gathered of an object. Fails where memory runs out.
 pub(crate) fn gather<'n>(
     alloc: Global,
     object: &Object,

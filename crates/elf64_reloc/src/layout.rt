@@ -28,7 +28,7 @@ pub struct PlacedSection {
     pub size: u64,
 }
 
-/// The bytes behind the text and the data so far.
+/// The bytes after the text and the data so far.
 #[derive(Clone, Copy, Drop)]
 pub struct Ends {
     pub text: u64,
@@ -130,7 +130,7 @@ fn ends_after(ends: Ends, section: &SectionHeader) -> Ends
     ends_with(ends, space, end)
 }
 
-/// The layout of the sections. Fails where memory is wanting.
+/// The layout of the sections. Fails where memory runs out.
 pub(crate) fn lay_out(alloc: Global, sections: &[SectionHeader]) -> Result<Layout, AllocError>
     ensures sections { IfOk result (λ layout. layout.sections.items ≡ spec.placed_sections sections.now) }
     ensures size { IfOk result (λ layout. layout.text_size ≡ spec.text_size sections.now) }

@@ -64,7 +64,7 @@ fn join_by<'a>(
     join_symbol(names, tables.strings, &symbol_at(tables.symbols, symbol))
 }
 
-/// The names of a map, in the order of their bytes. Fails where memory is wanting.
+/// The names of a map, in the order of their bytes. Fails where memory runs out.
 pub fn names_in_order(alloc: Global, names: &BTreeMap<&str, Name>) -> Result<Vec<Name>, AllocError>
     ensures { IfOk result (λ list. list.items ≡ names_of names.now) }
 {
@@ -98,7 +98,7 @@ fn names_of_object(alloc: Global, object: &Object) -> Result<Vec<Name>, RelocRef
 
 /// The names that the object's text wants of the kernel, each once, in the order of their bytes: those of symbols that no
 /// section defines and to which a relocation refers. Refuses an object for a fault of its header, its sections or its
-/// symbols, where such a name is empty, longer than 64 bytes, no UTF-8 text or without an end, and for want of memory.
+/// symbols, where such a name is empty, longer than 64 bytes, no UTF-8 text or without an end, and when out of memory.
 #[tactic(auto, unfolding(crate::specs::Modules::names_judged), using(crate::proofs::RefusedOn::refused_on))]
 pub fn undefined_names(alloc: Global, bytes: &[u8]) -> Result<Vec<Name>, RelocRefusal>
     ensures names { IfOk result (λ names. spec.names_judged bytes.now ≡ Ok names.items) }

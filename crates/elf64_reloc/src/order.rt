@@ -15,7 +15,7 @@ fn in_order(alloc: Global, sites: &BTreeMap<u32, Site>) -> Result<Vec<Site>, All
     sites.values().copied().collect(alloc)
 }
 
-/// The fields in the order of their places; of two at one place the later one alone. Fails where memory is wanting.
+/// The fields in the order of their places; of two at one place the later one alone. Fails where memory runs out.
 pub(crate) fn ordered_sites(alloc: Global, sites: &[Site]) -> Result<Vec<Site>, AllocError>
     ensures { IfOk result (λ ordered. ordered.items ≡ spec.ordered_sites sites.now) }
 {

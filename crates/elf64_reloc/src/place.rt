@@ -125,7 +125,7 @@ fn relocation_text(
     text_behind(alloc, object, &section, relocation)
 }
 
-// A relocation behind its section's name.
+// A relocation after its section's name.
 fn text_behind(
     alloc: Global,
     object: &Object,

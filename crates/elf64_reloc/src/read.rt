@@ -123,7 +123,7 @@ fn module_of(
 }
 
 /// Reads a module's object: its text and the fields that relocations change, for a kernel with these exports, of which
-/// there are at most 4,096. Refuses an object for its first fault, and for want of memory. The time is linear in
+/// there are at most 4,096. Refuses an object for its first fault, and when out of memory. The time is linear in
 /// the file's relocations, but for looking names up and for sorting. A module of a file of at most 4 GiB is within the
 /// limits of a policy with these exports.
 #[tactic(auto, unfolding(crate::specs::Modules::module_judged), using(crate::proofs::RefusedOn::refused_on))]

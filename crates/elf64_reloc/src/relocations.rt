@@ -102,7 +102,7 @@ fn push_relocations_of(
     )
 }
 
-/// All relocations of sections of text, in the order of the file. Fails where memory is wanting.
+/// All relocations of sections of text, in the order of the file. Fails where memory runs out.
 pub(crate) fn all_relocations(
     alloc: Global,
     file: &[u8],

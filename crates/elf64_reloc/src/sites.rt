@@ -46,7 +46,7 @@ fn keep_high(
     Ok(())
 }
 
-/// The first high part of an address at each place. Fails where memory is wanting.
+/// The first high part of an address at each place. Fails where memory runs out.
 pub(crate) fn high_parts(
     alloc: Global,
     relocations: &[Relocation],

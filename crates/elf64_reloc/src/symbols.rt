@@ -28,7 +28,7 @@ pub(crate) struct Names<'a, 'n> {
     pub(crate) bases: &'a BTreeMap<&'n str, u16>,
 }
 
-/// The base of each export by its name: the first one's where two have one name. Fails where memory is wanting.
+/// The base of each export by its name: the first one's where two have one name. Fails where memory runs out.
 pub(crate) fn export_bases<'a>(
     alloc: Global,
     exports: &'a [Export],

@@ -13,7 +13,7 @@ use elf64_sections::{SectionHeader, part, push_zeros};
 use spec_processor::PAGE_BYTES;
 use std::alloc::{AllocError, Global};
 
-// Puts a section of text behind the text so far, at the next multiple of its alignment.
+// Puts a section of text after the text so far, at the next multiple of its alignment.
 fn push_section(text: &mut Vec<u8>, file: &[u8], section: &SectionHeader) -> Result<(), AllocError>
     requires part { IsTrue (is_good_part file.now section.now) }
     requires alignment { IsTrue (is_good_alignment section.now) }
@@ -29,7 +29,7 @@ fn push_section(text: &mut Vec<u8>, file: &[u8], section: &SectionHeader) -> Res
     }
 }
 
-/// The sections of text, each at its place, with zeros between them and up to whole pages. Fails where memory is wanting.
+/// The sections of text, each at its place, with zeros between them and up to whole pages. Fails where memory runs out.
 #[tactic(auto, unfolding(crate::specs::Modules::text_of))]
 pub(crate) fn text_of(alloc: Global, object: &Object) -> Result<Vec<u8>, AllocError>
     requires parts { IsTrue (list_all (is_good_part object.now.file.now) object.now.sections.items) }

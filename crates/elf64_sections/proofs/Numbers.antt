@@ -1,4 +1,4 @@
--- Numbers in a row, and the headers of sections, one behind the other.
+-- Numbers in a row, and the headers of sections, one after the other.
 use Rattle.std.proofs.Common.{◌≡◌, ℕ, zero, suc, ◌+◌, ◌*◌, List, [], ◌∷◌, ◌++◌, map, ap, sym, ◌∙◌, arith}
 use Rattle.std.proofs.lemmas.List.{map-append}
 use Rattle.sv_types.specs.ApprovedPages.{numbers_from}

@@ -219,7 +219,7 @@ pub const R_SYM: usize = 12;
 /// The addend.
 pub const R_ADDEND: usize = 16;
 
-/// A call by an AUIPC and the JALR behind it.
+/// A call by an AUIPC and the JALR after it.
 pub const R_RISCV_CALL: u32 = 18;
 
 /// The same.

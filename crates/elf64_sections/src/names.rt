@@ -8,7 +8,7 @@ ghost use Rattle.elf64_sections.specs.Sections as spec;
 use std::str;
 use sv_types::MAX_NAME_BYTES;
 
-/// The most bytes of a name, with the zero byte behind it.
+/// The most bytes of a name, with the zero byte after it.
 const MAX_BYTES: usize = MAX_NAME_BYTES + 1;
 
 // Where the first zero byte stands.
@@ -43,7 +43,7 @@ fn name_in(bytes: &[u8]) -> Option<&str>
     text_of(&bytes[..length])
 }
 
-/// The name that begins at `at`: 1 to 64 bytes of UTF-8 text with a zero byte behind them. None where no such name does.
+/// The name that begins at `at`: 1 to 64 bytes of UTF-8 text with a zero byte after them. None where no such name does.
 #[tactic(auto, unfolding(crate::specs::Sections::name_at))]
 pub fn name_at(strings: &[u8], at: u32) -> Option<&str>
     ensures name { option_map (λ name. name.now) result ≡ spec.name_at strings.now at }

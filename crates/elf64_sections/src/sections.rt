@@ -53,7 +53,7 @@ fn section_at(file: &[u8], at: usize) -> SectionHeader
     }
 }
 
-/// The headers of all sections, in their order. Fails where memory is wanting.
+/// The headers of all sections, in their order. Fails where memory runs out.
 pub fn section_headers(alloc: Global, file: &[u8]) -> Result<Vec<SectionHeader>, AllocError>
     requires header { file_header_size ≤ length file.now }
     requires table { spec.sections_place file.now + section_header_size * spec.sections_count file.now ≤ length file.now }
@@ -84,7 +84,7 @@ pub fn part<'a>(file: &'a [u8], section: &SectionHeader) -> &'a [u8]
     &file[start..start + section.size as usize]
 }
 
-/// Puts zeros behind the bytes. Fails where memory is wanting.
+/// Puts zeros after the bytes. Fails where memory runs out.
 pub fn push_zeros(bytes: &mut Vec<u8>, count: usize) -> Result<(), AllocError>
     requires { count ≤ page_size }
     ensures { OnOk result (bytes.new.items ≡ bytes.old.items ++ replicate count 0) }

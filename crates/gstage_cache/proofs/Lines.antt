@@ -82,7 +82,7 @@ fill_agrees r hgatp gpa access mapping apart answers permitted =
           ∙ ap (λ (b : Bool). if b then At (mapping.hpa - mapping.hpa % page_size + place) else PageFault) (permits_as hgatp gpa mapping other);
     }
 
--- line j behind a change of line i
+-- line j after a change of line i
 pub set_at : {A : Type 0} (lines : List (Option A)) (i j : ℕ) (o : Option A) → i < length lines
     → ((j ≡ i) × (get_or (set lines i o) j None ≡ o)) ⊎ ((j ≡ i → ⊥) × (get_or (set lines i o) j None ≡ get_or lines j None))
 set_at lines i j o fits = elim (eqb_tells j i) [

@@ -19,7 +19,7 @@ use sv39_walk::{GStage, Mapping, find_mapping};
 /// The lines of a cache.
 const LINES: usize = 256;
 
-/// A cache of second-stage translations. Contracts see its lines, each held or empty.
+/// A cache of G-stage translations. Contracts see its lines, each held or empty.
 #[derive(Drop)]
 pub struct Cache {
     lines: [Option<CacheLine>; LINES],
@@ -90,7 +90,7 @@ impl Cache {
         }
     }
 
-    /// The host place of a guest-physical address under the second-stage root that `hgatp` names, as `walk_g` gives it. A
+    /// The host place of a guest-physical address under the G-stage root that `hgatp` names, as `walk_g` gives it. A
     /// `GuestFault` with the address comes exactly where that faults.
     ///
     /// `hgatp` has mode 8 (Sv39x4), walks under it read the tables alone, and every line agrees with the tables.

@@ -1,4 +1,4 @@
-//! A cache of second-stage translations, tagged by the `hgatp` value under which they were walked.
+//! A cache of G-stage translations, tagged by the `hgatp` value under which they were walked.
 #![tactic(auto)]
 
 mod cache;

@@ -263,7 +263,7 @@ holds_pages_set before middle after pages bound ps page x false true h inside so
     (subst (λ (whole : Bool). Wrote middle after (tree_count (length bound)) (λ tree. 512 * (4 * tree_count (length bound) + tree) + page / 512)
     (λ tree. middle_word (tree_count (length bound)) (leaf_tables pages) (table_pages pages (length bound)) (sight_in bound tree) tree (page / 512) whole)) now (changed (λ e. cc)))
 
--- ---- a tree's level-0 tables filled behind those of others
+-- ---- a tree's level-0 tables filled after those of others
 
 module _ (before now after : List ℕ) (t trees tree : ℕ) (value : ℕ → ℕ → ℕ)
     (so : Wrote now after (512 * t) (λ p. 512 * (5 * trees + tree * t) + p) (value tree)) where

@@ -1,6 +1,6 @@
--- How the trees of second-stage tables lie in the table part: the roots of all trees, of four pages each, then a level-1
+-- How the trees of G-stage tables lie in the table part: the roots of all trees, of four pages each, then a level-1
 -- table of each tree, then the level-0 tables of one tree after the other. The first tree shows kernel mode's memory, the
--- second user mode's, and each behind them what is seen in an entry. A block of 2 MiB whose pages are all free is one leaf of level 1; its
+-- second user mode's, and each after them what is seen in an entry. A block of 2 MiB whose pages are all free is one leaf of level 1; its
 -- level-0 table is kept right while it isn't used.
 -- RISC-V Privileged manual, H extension, "Guest Physical Address Translation"; the places are this project's own.
 use Rattle.std.specs.Prelude.{◌≡◌, ℕ, ◌+◌, ◌-◌, ◌*◌, ◌/◌, ◌^◌, ◌<◌, ◌≤◌, ◌==◌, Bool, if◌then◌else◌, nat_lt, List, length, slice_index_or}
@@ -85,7 +85,7 @@ middle_table trees tree = root_pages * trees + tree
 abbrev pub leaf_table : (trees leaf_tables tree : ℕ) → ℕ
 leaf_table trees leaf_tables tree = upper_pages * trees + tree * leaf_tables
 
--- the pages of all tables, and of what lies behind them up to the next 2 MiB, so that a block of RAM lies at a multiple of
+-- the pages of all tables, and of what lies after them up to the next 2 MiB, so that a block of RAM lies at a multiple of
 -- its size
 abbrev pub table_pages : (ram_pages bound : ℕ) → ℕ
 table_pages ram_pages bound =
@@ -94,7 +94,7 @@ table_pages ram_pages bound =
 abbrev pub table_size : (ram_pages bound : ℕ) → ℕ
 table_size ram_pages bound = page_size * table_pages ram_pages bound
 
--- the most pages of all tables, and the most with those behind them up to a whole block
+-- the most pages of all tables, and the most with those after them up to a whole block
 abbrev pub max_table_pages : ℕ
 max_table_pages = upper_pages * max_trees + max_trees * table_words
 
@@ -162,7 +162,7 @@ middle_word trees leaf_tables table_pages sight tree i whole =
     then (if whole then leaf sight (block_pages * i) Free (table_pages + block_pages * i) else pointer (leaf_table trees leaf_tables tree + i))
     else 0
 
--- the entry for page p of RAM, which lies behind the tables, and 0 past its end
+-- the entry for page p of RAM, which lies after the tables, and 0 past its end
 unfoldable pub leaf_word : (ram_pages table_pages : ℕ) → Sight → (ℕ → Protection) → (p : ℕ) → ℕ
 leaf_word ram_pages table_pages sight protections p =
     if nat_lt p ram_pages then leaf sight p (protections p) (table_pages + p) else 0

@@ -1,4 +1,4 @@
-//! Trees of second-stage tables: what the guest may reach in kernel mode, in user mode, and in each entry that is bound to a
+//! Trees of G-stage tables: what the guest may reach in kernel mode, in user mode, and in each entry that is bound to a
 //! page.
 #![tactic(auto)]
 
@@ -40,7 +40,7 @@ const USER_TREE: u64 = 1;
 
 const FIRST_ENTRY_TREE: u64 = 2;
 
-/// The mode of `hgatp`, whose VMID begins behind the number of the root's page.
+/// The mode of `hgatp`, whose VMID begins after the number of the root's page.
 const GUEST_MODE: u64 = SV39X4 << ROOT_MODE_SHIFT;
 
 const NEXT_VMID: u64 = 1 << ROOT_PAGE_BITS;
@@ -102,7 +102,7 @@ impl Trees {
         PAGE_SIZE * up_to_blocks(tables) as usize
     }
 
-    /// Trees in which all pages are free, one for each entry beside those of the two modes: `bound` has the pages that the
+    /// Trees in which all pages are free, one for each entry alongside those of the two modes: `bound` has the pages that the
     /// entries are bound to. The table part has the size that `table_bytes` gives for the pages of RAM and the entries.
     pub fn new(mem: &mut HostMem, bound: &[u32]) -> Trees
         requires few { length bound.now ≤ max_bound }

@@ -52,7 +52,7 @@ pub(crate) fn leaf_table(trees: u64, tables: u64, tree: u64) -> u64
     UPPER_PAGES * trees + tree * tables
 }
 
-/// So many pages and those behind them up to a whole number of blocks.
+/// So many pages and those after them up to a whole number of blocks.
 pub(crate) fn up_to_blocks(pages: u64) -> u64
     requires { pages ≤ max_table_pages }
     ensures value { result ≡ block_pages * ((pages + last_in_block) / block_pages) }

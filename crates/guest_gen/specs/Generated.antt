@@ -7,7 +7,7 @@ use Rattle.sv_types.specs.Policies.{Rules}
 use Rattle.guest_gen.specs.Images.{code_bytes, laid_out, text_address}
 use Rattle.guest_gen.specs.GuestCode.{setup, trap_handler, trap_offset, user_loop}
 
--- the page of text, with zeros between its two parts and behind them
+-- the page of text, with zeros between its two parts and after them
 unfoldable pub generated_text : ℕ → List ℕ
 generated_text n = with_padding (with_padding (code_bytes (setup n)) trap_offset ++ code_bytes trap_handler) page_size
 

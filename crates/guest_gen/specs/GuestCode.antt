@@ -35,7 +35,7 @@ addi rd rs1 imm = Instr.OpImm Addi rd rs1 imm 0
 abbrev pub addiw : (rd rs1 : ℕ) → ℤ → Instr
 addiw rd rs1 imm = Instr.OpImm32 Addiw rd rs1 imm 0
 
--- the first register is stored at a place behind the second
+-- the first register is stored at a place after the second
 abbrev pub sw : (rs2 : ℕ) → ℤ → (rs1 : ℕ) → Instr
 sw rs2 imm rs1 = Instr.Store Sw rs1 rs2 imm
 
@@ -68,7 +68,7 @@ trap_offset = 0x100
 abbrev pub letter_k : ℕ
 letter_k = 75
 
--- the kernel's begin: the trap vector into t0, the user's loop, which lies behind the text, into s1, and the number of
+-- the kernel's begin: the trap vector into t0, the user's loop, which lies after the text, into s1, and the number of
 -- calls into s0. Two sectors from the first one on are to go to 512 bytes below the text; then the user's loop is
 -- entered
 unfoldable pub setup : (calls : ℕ) → List Instr
@@ -81,7 +81,7 @@ setup calls =
     ∷ addi t4 x0 (pos (command_number DiskToMemory)) ∷ sw t4 (pos command_offset) t2
     ∷ csrw Sepc s1 ∷ Instr.Sret ∷ []
 
--- the trap vector: the number of calls left is stored a page behind the user's loop and counted down. While some are
+-- the trap vector: the number of calls left is stored a page after the user's loop and counted down. While some are
 -- left the user's loop is entered again; at the end K is printed, and the machine shut down
 unfoldable pub trap_handler : List Instr
 trap_handler =

@@ -26,8 +26,8 @@ segment_count = 3
 abbrev pub text_address : ℕ
 text_address = ram_base + page_size
 
--- an executable file of RISC-V, 64 bits, little-endian, version 1, without sections. The program headers lie behind the
--- header; behind the version of the identification stand zeros
+-- an executable file of RISC-V, 64 bits, little-endian, version 1, without sections. The program headers lie after the
+-- header; after the version of the identification stand zeros
 unfoldable pub file_header : List Field
 file_header =
     Word elf_magic ∷ Byte elfclass64 ∷ Byte elfdata2lsb ∷ Byte ev_current ∷ Byte 0 ∷ Double 0

@@ -111,7 +111,7 @@ fn headers(alloc: Global, body_size: u64) -> Result<Vec<u8>, AllocError>
     Ok(file)
 }
 
-/// The file with this text, which is a page at most, and this body. Fails where memory is wanting.
+/// The file with this text, which is a page at most, and this body. Fails where memory runs out.
 #[tactic(auto, unfolding(crate::specs::Images::laid_out))]
 pub fn laid_out(alloc: Global, text: &[u8], body: &[u8]) -> Result<Vec<u8>, AllocError>
     requires text { length text.now ≤ page_size }
@@ -126,7 +126,7 @@ pub fn laid_out(alloc: Global, text: &[u8], body: &[u8]) -> Result<Vec<u8>, Allo
     Ok(file)
 }
 
-/// The file of a kernel with this text, with which it begins, and this body in two pages behind. Fails where memory is
+/// The file of a kernel with this text, with which it begins, and this body in two pages after. Fails where memory is
 /// wanting.
 pub fn image(alloc: Global, text: &[Instr], body: &[u8]) -> Result<Vec<u8>, AllocError>
     requires instructions { IsTrue (list_all fits text.now) }

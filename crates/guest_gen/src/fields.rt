@@ -30,7 +30,7 @@ fn push_field(file: &mut Vec<u8>, field: Field) -> Result<(), AllocError>
     }
 }
 
-/// Puts fields behind the bytes. Fails where memory is wanting.
+/// Puts fields after the bytes. Fails where memory runs out.
 pub fn push_fields(file: &mut Vec<u8>, fields: &[Field]) -> Result<(), AllocError>
     ensures { OnOk result (file.new.items ≡ file.old.items ++ flat_map spec.field_bytes fields.now) }
 {
@@ -40,7 +40,7 @@ pub fn push_fields(file: &mut Vec<u8>, fields: &[Field]) -> Result<(), AllocErro
     Ok(())
 }
 
-/// Puts the words of instructions behind the bytes. Fails where memory is wanting.
+/// Puts the words of instructions after the bytes. Fails where memory runs out.
 pub fn push_code(file: &mut Vec<u8>, text: &[Instr]) -> Result<(), AllocError>
     requires { IsTrue (list_all fits text.now) }
     ensures code { OnOk result (file.new.items ≡ file.old.items ++ spec.code_bytes text.now) }
@@ -52,7 +52,7 @@ pub fn push_code(file: &mut Vec<u8>, text: &[Instr]) -> Result<(), AllocError>
     Ok(())
 }
 
-/// Puts zeros behind the bytes up to a size. Fails where memory is wanting.
+/// Puts zeros after the bytes up to a size. Fails where memory runs out.
 pub fn pad(file: &mut Vec<u8>, size: usize) -> Result<(), AllocError>
     ensures padded { OnOk result (file.new.items ≡ with_padding file.old.items size) }
     ensures bytes { OnOk result (vec_len file.old ≤ size → vec_len file.new ≡ size) }

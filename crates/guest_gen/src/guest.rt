@@ -64,7 +64,7 @@ fn policy(alloc: Global, text: &[u8]) -> Result<Policy, AllocError>
     })
 }
 
-/// The guest's file and its policy: the user calls its kernel `n` times. Fails where memory is wanting.
+/// The guest's file and its policy: the user calls its kernel `n` times. Fails where memory runs out.
 #[tactic(auto, unfolding(crate::specs::Generated::generated_image))]
 pub fn generate(alloc: Global, n: u64) -> Result<(Vec<u8>, Policy), AllocError>
     requires some { 1 ≤ n }

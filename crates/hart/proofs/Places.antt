@@ -53,7 +53,7 @@ first_after r hgatp access (At gpa) place apart e =
 first_after r hgatp access PageFault place apart e = absurd (cc)
 first_after r hgatp access (Unreadable entry) place apart e = absurd (cc)
 
--- and the place lies behind the tables
+-- and the place lies after the tables
 pub stages_after : (r : Region) (hgatp va : ℕ) (s : Settings) (mode : Mode) (access : Access) (place : Place) → WalksApart r hgatp
     → two_stages r hgatp s mode va access ≡ Ok place → length r.tables ≤ place.hpa
 unfolding two_stages
@@ -67,7 +67,7 @@ bare_stages : (r : Region) (hgatp va hpa : ℕ) (s : Settings) (mode : Mode) (ac
 unfolding two_stages first_stage after_first_stage
 bare_stages r hgatp va hpa s mode access bare walked = rw (bare, walked) refl
 
--- an address leads where the second stage leads
+-- an address leads where the G-stage leads
 pub bare_place : (r : Region) (core : Core) (va hpa htinst : ℕ) (access : Access) → IsBare core.csrs.vsatp
     → walk_guest r core.hregs.hgatp va access ≡ Some hpa → translation_result r core access va htinst ≡ Ok hpa
 unfolding translation_result

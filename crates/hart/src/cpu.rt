@@ -36,7 +36,7 @@ impl Model for Cpu {
 }
 
 impl Cpu {
-    /// No attempt was made. Want of memory is the one refusal.
+    /// No attempt was made. Out of memory is the one refusal.
     pub fn new(alloc: Global) -> Result<Cpu, AllocError>
         ensures { IfOk result (λ count. count ≡ 0) }
     {

@@ -40,7 +40,7 @@ pub struct DecodeCache {
 }
 
 impl DecodeCache {
-    /// No word was decoded. Want of memory is the one refusal.
+    /// No word was decoded. Out of memory is the one refusal.
     pub fn new(alloc: Global) -> Result<DecodeCache, AllocError> {
         let places = zero_words(alloc, WORD_PLACES)?;
         Ok(DecodeCache { places })

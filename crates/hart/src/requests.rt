@@ -16,7 +16,7 @@ use host_mem::HostMem;
 use rv64_exec::{amo, loaded_value};
 use spec_processor::{AmoOp, Exception, HRegs, INSTRUCTION_BYTES, Outcome, RESERVED_BYTES, Wrote};
 
-/// The hart goes on behind an instruction that is done.
+/// The hart goes on after an instruction that is done.
 #[inline(always)]
 pub(crate) fn retire(core: &mut Core, wrote: Option<Wrote>) -> Outcome
     ensures core { core.new ≡ record core.old { pc = next_pc core.old.pc } }

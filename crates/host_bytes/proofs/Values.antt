@@ -1,4 +1,4 @@
--- The machine values of the structs: a pointer beside a count, and the mark that owns no memory of its own.
+-- The machine values of the structs: a pointer alongside a count, and the mark that owns no memory of its own.
 use Rattle.std.proofs.Common.{◌≡◌, ℕ, ◌^◌, ◌<◌, List, [], ◌∷◌, ◌++◌, refl, ◌∙◌, w64}
 use seplogic.Ra.Ura.{Ura}
 use mir.Syntax.{Body}

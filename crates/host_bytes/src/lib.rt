@@ -39,7 +39,7 @@ impl Model for RawBytes {
 impl RawBytes {
     ghost use Rattle.host_bytes.specs.LendsAll.{lends_all};
 
-    /// `size` zeros. Fails where memory is wanting, and above `isize::MAX`.
+    /// `size` zeros. Fails where memory runs out, and above `isize::MAX`.
     pub fn zeroed(alloc: Global, size: usize) -> Result<RawBytes, AllocError>
         ensures zeros { IfOk result (λ r. r ≡ replicate size 0) }
         ensures small { IfOk result (λ _. size < 2 ^ 63) }

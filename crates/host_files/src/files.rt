@@ -73,7 +73,7 @@ impl<R: std::rt::Files + AllocGlobal + Eprint + Drop> Files for RealFiles<R> {
         }
     }
 
-    // A plain file holds all of the bytes behind it, or what it held.
+    // A plain file holds all of the bytes after it, or what it held.
     fn save(&mut self, name: &str, bytes: &[u8]) -> Result<(), SaveFailed> {
         self.remark("saves", name);
         match save_whole(&self.rt, name, bytes) {

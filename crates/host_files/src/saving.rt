@@ -19,7 +19,7 @@ enum Old {
     Other,
 }
 
-/// Puts bytes under a name. A plain file, or a name under which nothing stands, holds all of the bytes behind it, or after
+/// Puts bytes under a name. A plain file, or a name under which nothing stands, holds all of the bytes after it, or after
 /// a fault what it held. What is no plain file is written as it stands, and so is a file whose place in its folder no new
 /// one may take.
 pub(crate) fn save_whole<R: Files + AllocGlobal>(

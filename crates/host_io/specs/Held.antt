@@ -43,7 +43,7 @@ HaveRoom room spare = All (λ (v : Vec ℕ Global). room ≤ vec_capacity v) spa
 
 -- ---- which calls fail
 
--- the call behind so many calls is one of those that are to fail
+-- the call after so many calls is one of those that are to fail
 abbrev pub is_to_fail : List ℕ → ℕ → Bool
 is_to_fail failing calls = list_any (λ number. number == next_count calls) failing
 
@@ -56,7 +56,7 @@ abbrev pub save_fails : (failing : List ℕ) → (saves room places : ℕ) → (
 save_fails failing saves room places name bytes =
     is_to_fail failing saves || nat_lt room (length bytes) || not (is_name_text name && not (places == 0))
 
--- more bytes than the limit, or want of memory
+-- more bytes than the limit, or out of memory
 abbrev pub IsTooLongOrMemory : ℕ → ℕ → FileRefusal → Type 0
 IsTooLongOrMemory size limit Absent = ⊥
 IsTooLongOrMemory size limit Failed = ⊥

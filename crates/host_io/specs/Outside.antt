@@ -21,11 +21,11 @@ pub record FilesState : Type 0 where
   pub read_faults : ℕ
   pub save_faults : ℕ
 
--- the files once a name was asked for with a limit: what was permitted behind that is permitted now
+-- the files once a name was asked for with a limit: what was permitted after that is permitted now
 abbrev pub after_asking : (name : List ℕ) → (limit : ℕ) → FilesState → FilesState
 after_asking name limit files = record files { permits = λ asked. files.permits ((name, limit) ∷ asked) }
 
--- the files once bytes were saved under a name, or the save failed: what was permitted behind that is permitted now
+-- the files once bytes were saved under a name, or the save failed: what was permitted after that is permitted now
 abbrev pub after_saving : (name bytes : List ℕ) → FilesState → FilesState
 after_saving name bytes files = record files { permits_save = λ saves. files.permits_save ((name, bytes) ∷ saves) }
 

@@ -28,7 +28,7 @@ pub enum FileRefusal {
     Failed,
     /// The name holds more bytes than the limit.
     TooLong,
-    /// Memory was wanting.
+    /// Memory ran out.
     Memory,
 }
 

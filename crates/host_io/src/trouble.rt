@@ -13,7 +13,7 @@ use sv_types::{Failed, Status};
 pub enum Trouble {
     /// A write or a save failed.
     Write,
-    /// Memory was wanting.
+    /// Memory ran out.
     Memory,
 }
 

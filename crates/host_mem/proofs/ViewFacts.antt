@@ -53,7 +53,7 @@ copy_seen tables bytes copied r at stop seen end =
     bytes_of_region tables (put_mid at (stop - at) bytes copied) ∙ part_put bytes copied at stop end
     ∙ ap (λ (list : List ℕ). overwrite list at copied) (sym (bytes_seen tables bytes r seen))
 
--- behind the tables it changes RAM alone
+-- after the tables it changes RAM alone
 pub copy_after : (tables : ℕ) (bytes copied : List ℕ) (r : Region) (at stop : ℕ) → Seen tables bytes r → stop ≡ at + length copied → length r.tables ≤ at
     → region_of tables (put_mid at (stop - at) bytes copied) ≡ record r { ram = overwrite r.ram (at - length r.tables) copied }
 copy_after tables bytes copied r at stop seen end behind =

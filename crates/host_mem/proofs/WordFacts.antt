@@ -8,7 +8,7 @@ use Rattle.laws_processor.proofs.ByteLemmas.{length_low_bytes}
 
 -- ---- reading
 
--- a word is its lowest byte and the word behind it
+-- a word is its lowest byte and the word after it
 word_more : (list : List ℕ) (at next n : ℕ) → next ≡ at + 1 → at < length list → word list at (suc n) ≡ get_or list at 0 + 256 * word list next n
 unfolding word
 word_more list at next n e within = rw (e, drop_more list at 0 within) refl

@@ -1,4 +1,4 @@
-//! Host memory: one region of bytes, the table part and behind it guest RAM.
+//! Host memory: one region of bytes, the table part and after it guest RAM.
 #![tactic(auto)]
 
 ghost use Rattle.std.specs.Prelude.{◌≡◌, ◌+◌, ◌-◌, ◌*◌, ◌<◌, ◌≤◌, ◌%◌, ◌^◌, length, Some, None, IfOk, IfSome, if◌then◌else◌, replicate};
@@ -43,7 +43,7 @@ impl Model for HostMem {
 
 impl HostMem {
     /// A region whose table part has `table_bytes` bytes, in whole pages, and whose guest RAM has `ram_pages` pages, all
-    /// of them zeros. Fails where memory is wanting.
+    /// of them zeros. Fails where memory runs out.
     pub fn new(alloc: Global, table_bytes: usize, ram_pages: usize) -> Result<HostMem, AllocError>
         requires whole { table_bytes % page_size ≡ 0 }
         requires few { ram_pages ≤ max_ram_pages }

@@ -1,4 +1,4 @@
-// A block device: a disk in memory, behind five registers, that moves 64 bytes in each beat of a transfer.
+// A block device: a disk in memory, after five registers, that moves 64 bytes in each beat of a transfer.
 
 ghost use Rattle.std.specs.Prelude.{◌≡◌, ◌+◌, ◌%◌, ◌^◌, ◌<◌, ◌≤◌, Some, length, true, false};
 ghost use Rattle.spec_processor.specs.Bytes.{overwrite};

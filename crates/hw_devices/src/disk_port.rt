@@ -23,7 +23,7 @@ pub enum Port {
 }
 
 impl Port {
-    /// A disk in whole sectors, behind an idle block device.
+    /// A disk in whole sectors, after an idle block device.
     pub fn block(disk: Vec<u8>) -> Port
         requires sectors { length disk.items % sector_size ≡ 0 }
         ensures { port_disk result ≡ block_disk disk.items }

@@ -1,4 +1,4 @@
--- The turn behind a row, where its hart leaves the guest.
+-- The turn after a row, where its hart leaves the guest.
 use Rattle.std.proofs.Common.{◌≡◌, ◌%◌, ◌<◌, ◌≤◌, ℕ, List, refl, sym, ◌∙◌, ap, subst, true, false, Bool, arith}
 use Rattle.std.specs.Prelude.{None, Option, Some, if◌then◌else◌}
 use Rattle.spec_processor.specs.Bits.{bit}

@@ -116,7 +116,7 @@ batch_stays t n r mid after core before next course hregs batch stopped same = �
     subst (λ (x : Region). RetiresThrough n r core lines x next) (sym both.0)
     (subst (λ (x : Core). RetiresThrough n r core lines mid x) (sym both.1) (batch lines none))
 
--- behind translations
+-- after translations
 pub turned_after : (t : Tried) (r after : Region) (core next : Kept) (regs : HRegs) (x y z : List (Option CacheLine)) (here kept : List (Option Line))
     → Translated r.tables regs.hgatp x y here → Turned t r after core next regs y z kept → Turned t r after core next regs x z kept
 turned_after t r after core next regs x y z here kept translated turned =
@@ -133,7 +133,7 @@ turned_after t r after core next regs x y z here kept translated turned =
       reach = turned.reach;
     }
 
--- ---- windows behind a turn
+-- ---- windows after a turn
 
 -- some wires
 abbrev pub low : Lines
@@ -159,7 +159,7 @@ stored_leads r after core next regs x y here there on course apart leads bare pa
 next_aligned : (pc : ℕ) → pc % 4 ≡ 0 → (pc + 4) % 18446744073709551616 % 4 ≡ 0
 next_aligned pc aligned = omega arith
 
--- a write to RAM, behind which the hart goes on at the next instruction
+-- a write to RAM, after which the hart goes on at the next instruction
 pub write_goes : (r after : Region) (core next : Kept) (regs : HRegs) (lines held : List (Option CacheLine)) (at n value : ℕ) → MayAttempt r core regs lines
     → core.reservation ≡ None → Walked r.tables regs.hgatp lines held → length r.tables ≤ at → IsHostPlace r at n → after ≡ write_host r at n value
     → next.csrs ≡ core.csrs → next.reservation ≡ core.reservation → next.pc ≡ (core.pc + 4) % 18446744073709551616 → GoesOn r after core next regs lines held

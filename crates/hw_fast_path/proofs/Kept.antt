@@ -1,4 +1,4 @@
--- A write to RAM leaves walks of the second stage as they are.
+-- A write to RAM leaves walks of the G-stage as they are.
 use Rattle.std.proofs.Common.{◌≡◌, ℕ, ◌-◌, ◌/◌, ◌^◌, ◌<◌, ◌≤◌, List, length, refl, sym, ◌∙◌, ap, subst, arith, Bool, true, false}
 use Rattle.std.specs.Prelude.{Option, None, if◌then◌else◌, ◌==◌, nat_lt}
 use Rattle.std.proofs.lemmas.Bool.Decides.{nat_tests}
@@ -45,7 +45,7 @@ apart_kept r after hgatp same size apart = record {
       (omega (arith, tables, old.0), omega (arith, tables, size, old.1));
 }
 
--- a write behind the tables leaves the size of RAM
+-- a write after the tables leaves the size of RAM
 pub write_size : (r : Region) (at n value : ℕ) → length r.tables ≤ at → IsHostPlace r at n → length (write_host r at n value).ram ≡ length r.ram
 unfolding write_host
 write_size r at n value behind place =

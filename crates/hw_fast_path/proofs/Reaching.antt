@@ -43,7 +43,7 @@ leads_place r regime access va hpa n region apart small leads width aligned =
     subst (λ (x : ℕ). IsHostPlace r x n) found.1.1
     (stages_place r regime.hgatp va n (settings_of regime) regime.mode access found.0 region (apart_inside r regime.hgatp apart) small found.1.0 width aligned)
 
--- and the place lies behind the tables
+-- and the place lies after the tables
 pub leads_after : (r : Region) (regime : Regime) (access : Access) (va hpa : ℕ) → WalksApart r regime.hgatp → leads_under r regime access va ≡ Some hpa
     → length r.tables ≤ hpa
 leads_after r regime access va hpa apart leads =

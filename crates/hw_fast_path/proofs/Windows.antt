@@ -51,7 +51,7 @@ stage_moves read s mode a b access same =
     ∙ choose_moves (is_canonical a) (b % page_size) (walk read grants (sv39_indices a) (root_of s.satp) a) PageFault
     (walk read grants (sv39_indices b) (root_of s.satp) b) PageFault walked refl)
 
--- ---- the second stage
+-- ---- the G-stage
 
 near_too : (a b : ℕ) → a / page_size ≡ b / page_size → a < 2 ^ guest_address_bits → b < 2 ^ guest_address_bits
 near_too a b same near = omega arith

@@ -1,4 +1,4 @@
--- Attempts of one hart in a row, each of which carries out its instruction, and the one behind them. This project's own.
+-- Attempts of one hart in a row, each of which carries out its instruction, and the one after them. This project's own.
 use Rattle.std.specs.Prelude.{◌≡◌, ℕ, zero, suc, None}
 use Rattle.spec_processor.specs.Hardware.{Core, Attempted, exit_of, leave, plain_exception, with_region}
 use Rattle.spec_processor.specs.HardwareAttempt.{attempt, virtual_instruction}
@@ -30,7 +30,7 @@ RetiresThrough zero r core lines after next = (after ≡ r) × (next ≡ core)
 RetiresThrough (suc n) r core lines after next =
     (mid : Region) × ((before : Core) × (RetiresThrough n r core lines mid before × Carries (attempt mid before lines) after next))
 
--- ---- the turn behind a row
+-- ---- the turn after a row
 
 -- an attempt left the guest by an exit, which changed the registers of exits alone
 pub record Leaves (a : Attempted) (exit : Exit) (r : Region) (core next : Core) : Type 0 where
@@ -50,6 +50,6 @@ LeavesBy Stays a r core next = next ≡ core
 LeavesBy Calls a r core next = (core.hregs.mode ≡ User) × Leaves a (call_exit core.pc) r core next
 LeavesBy Returns a r core next = (core.hregs.mode ≡ Kernel) × Leaves a (return_exit core.pc) r core next
 
--- so many turns in a row, and the one behind them
+-- so many turns in a row, and the one after them
 abbrev pub EndsBy : Leaving → ℕ → Region → Core → Lines → Region → Core → Type 0
 EndsBy left n r core lines after next = (last : Core) × (RetiresThrough n r core lines after last × LeavesBy left (attempt after last lines) after last next)

@@ -62,7 +62,7 @@ pub record SameCourse (before after : HypervisorRegisters) : Type 0 where
   pub enabled : after.hie ≡ before.hie
   pub raised : after.hvip ≡ before.hvip
 
--- the turns behind it go by the same registers
+-- the turns after it go by the same registers
 abbrev pub keeps_course : Tried → Bool
 keeps_course Stopped = true
 keeps_course Retired = true

@@ -23,7 +23,7 @@ use host_mem::HostMem;
 use hw_tlb::Reach;
 use spec_processor::HRegs;
 
-// A turn, with the window behind it.
+// A turn, with the window after it.
 #[inline(always)]
 fn turn(
     words: &mut FlatWords,
@@ -64,7 +64,7 @@ fn turn(
     }
 }
 
-/// A row of turns: how many carried out their instructions, and how the hart left the guest in the turn behind them.
+/// A row of turns: how many carried out their instructions, and how the hart left the guest in the turn after them.
 #[derive(Clone, Copy, Drop)]
 pub struct Batch {
     pub made: u64,
@@ -136,11 +136,11 @@ fn batch_of_turns(
     }
 }
 
-/// Up to `most` turns of a hart in a row, each of whose attempts carries out its instruction, and one behind them that leaves
+/// Up to `most` turns of a hart in a row, each of whose attempts carries out its instruction, and one after them that leaves
 /// the guest. Answers how many were made: what isn't a computation, a load, a store, an atomic operation, or an access to a
 /// register whose value doesn't go by the wires, or is refused, or misaligned, stops the row before its turn. Where the row
 /// stops at ECALL in user mode or SRET in kernel mode before it has `most` turns, that turn is made too, and isn't among
-/// `made`; its exit is the caller's to answer. Behind a write of `sstatus`, `sie` or `satp` the row ends, since an
+/// `made`; its exit is the caller's to answer. After a write of `sstatus`, `sie` or `satp` the row ends, since an
 /// interrupt may be due then.
 ///
 /// The hart has no reservation. No other hart's is looked at. That no interrupt is taken at the start is what the

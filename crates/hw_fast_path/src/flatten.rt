@@ -208,7 +208,7 @@ fn access(word: u32, op: CsrOp, rd: u8, rs1: u8, number: u16) -> MicroOp
     form(word, csr(op), rd, rs1, 0, i64::from(number))
 }
 
-// What an atomic operation has beside its registers: its width in bytes, and its acquire and release bits.
+// What an atomic operation has besides its registers: its width in bytes, and its acquire and release bits.
 #[derive(Clone, Copy, Drop)]
 struct Ordered {
     width: u8,

@@ -1,4 +1,4 @@
-// The turn behind a row, where its hart leaves the guest.
+// The turn after a row, where its hart leaves the guest.
 
 ghost use Rattle.std.specs.Prelude.{◌≡◌, ◌%◌, None};
 ghost use Rattle.spec_processor.specs.Hardware.{exit_of, plain_exception};
@@ -18,7 +18,7 @@ use hart::Core;
 use host_mem::HostMem;
 use spec_processor::{Cause, ECALL, HRegs, Mode, PAGE_BYTES, SRET, has_bit};
 
-/// How a hart left the guest in the turn behind a row.
+/// How a hart left the guest in the turn after a row.
 #[derive(Clone, Copy, Drop)]
 pub enum Leaving {
     /// It made no such turn.

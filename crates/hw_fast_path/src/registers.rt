@@ -125,7 +125,7 @@ fn access_to(core: &mut Core, regs: &HRegs, access: CsrAccess, csr: Csr) -> Trie
 }
 
 /// An access to a supervisor register, where the mode has it and its value doesn't go by the wires. It is a table of one line
-/// for each register: behind the one look at the number the register is known, so that nothing looks at it again.
+/// for each register: after the one look at the number the register is known, so that nothing looks at it again.
 #[tactic(auto, unfolding(spec_processor::specs::HypervisorRegisters::csr_access, spec_processor::specs::HypervisorRegisters::reached_csr))]
 #[inline(always)]
 pub(crate) fn csr(core: &mut Core, regs: &HRegs, access: CsrAccess) -> Tried

@@ -157,7 +157,7 @@ fn atomic(
 }
 
 // An instruction that kernel mode alone has and that changes nothing but the pc: a wait for an interrupt, which doesn't wait,
-// and a fence of translations, of which none is kept beside the words that it comes of.
+// and a fence of translations, of which none is kept alongside the words that it comes of.
 #[tactic(auto, unfolding(spec_processor::specs::HardwareAttempt::after_supervisor_only))]
 #[inline(always)]
 fn supervisor_only(core: &mut Core, regs: &HRegs) -> Tried

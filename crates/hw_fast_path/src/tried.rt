@@ -28,7 +28,7 @@ impl Tried {
         }
     }
 
-    /// The turns behind it go by the same registers.
+    /// The turns after it go by the same registers.
     #[inline(always)]
     pub(crate) fn keeps_course(self) -> bool
         ensures { result ≡ keeps_course self }

@@ -18,7 +18,7 @@ use Rattle.hw_tlb.specs.declared.line.Line.{Line}
 use Rattle.hw_tlb.specs.Kept.{AreThere, ArePlaces, EndsAt, LeadsNowhere, LineAgrees, host_of, leads_under}
 use Rattle.sv39_walk.proofs.Steps.{bare, mapped, mapped_test, not_canonical}
 
--- ---- the second stage
+-- ---- the G-stage
 
 pub moved_address : (place x : ℕ) (d : Destination) → address_at d ≡ Some x → address_at (destination_at place d) ≡ Some (x - x % page_size + place)
 moved_address place x (At found) e = let same : found ≡ x = cc in rw same refl
@@ -82,7 +82,7 @@ host_through : (gpa hpa : ℕ) (walked : Option ℕ) → host_of (place_through 
 host_through gpa hpa None e = absurd (cc)
 host_through gpa hpa (Some x) e = e
 
--- a leaf led somewhere: the address is canonical, the leaf permits the access, and the second stage led there
+-- a leaf led somewhere: the address is canonical, the leaf permits the access, and the G-stage led there
 led : (canonical permits : Bool) (r : Region) (hgatp gpa hpa : ℕ) (access : Access)
     → host_of (after_first_stage r hgatp access (if canonical then (if permits then At gpa else PageFault) else PageFault)) ≡ Some hpa
     → (canonical ≡ true) × ((permits ≡ true) × (walk_guest r hgatp gpa access ≡ Some hpa))
@@ -182,7 +182,7 @@ nowhere_led r regime access va paged nowhere =
     ∙ after_none r regime.hgatp access d
     (first_none (entry_through r regime.hgatp) s regime.mode va access (is_canonical va) refl paged (nowhere (permits_access s regime.mode access)))
 
--- where the second stage leads a guest-physical address, if there is one
+-- where the G-stage leads a guest-physical address, if there is one
 abbrev pub led_on : Region → (hgatp : ℕ) → Access → Option ℕ → Option ℕ
 led_on r hgatp access None = None
 led_on r hgatp access (Some gpa) = walk_guest r hgatp gpa access

@@ -37,7 +37,7 @@ IsThere r seen = host_word r seen.at entry_size ≡ seen.word
 abbrev pub AreThere : Region → Entries → Type 0
 AreThere r entries = Above 0 (IsThere r) entries
 
--- the second stage of these tables leads the load of an entry there
+-- the G-stage of these tables leads the load of an entry there
 abbrev pub IsPlace : List ℕ → (hgatp : ℕ) → Entry → Type 0
 IsPlace tables hgatp seen = (gpa : ℕ) × ((gpa % entry_size ≡ 0) × ((r : Region) → r.tables ≡ tables → walk_guest r hgatp gpa Load ≡ Some seen.at))
 
@@ -80,7 +80,7 @@ pub record IsFor (by : Regime) (kind : Access) (number : ℕ) (line : Line) : Ty
 
 -- ---- all lines
 
--- those of fetches, and behind them those of loads and those of stores
+-- those of fetches, and after them those of loads and those of stores
 abbrev pub fetch_lines : ℕ
 fetch_lines = 256
 

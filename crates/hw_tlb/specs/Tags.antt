@@ -1,4 +1,4 @@
--- One number for all by which a kept translation is found beside the roots. This project's own.
+-- One number for all by which a kept translation is found alongside the roots. This project's own.
 use Rattle.std.specs.Prelude.{ℕ, ◌+◌, ◌*◌, Bool, true, false}
 use Rattle.spec_processor.specs.Bytes.{page_size}
 use Rattle.spec_processor.specs.declared.access.Access.{Access}

@@ -6,7 +6,7 @@ ghost use Rattle.hw_tlb.specs.Usable.{AreUsable, nothing_kept};
 use crate::lines::Reach;
 use gstage_cache::Cache;
 
-/// What a hart keeps of walks: where the second stage leads, and where both lead.
+/// What a hart keeps of walks: where the G-stage leads, and where both lead.
 #[derive(Drop)]
 pub struct HartCaches {
     pub second: Cache,

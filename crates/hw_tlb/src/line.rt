@@ -9,7 +9,7 @@ use sv39_walk::Regime;
 
 /// Where accesses of one kind to a page of virtual addresses are led: by what the translation went, the page's number, the
 /// host place of its first byte, and the entries that the first stage read. Its tag is the number of all by which it is
-/// found beside the roots.
+/// found alongside the roots.
 #[derive(Clone, Copy, Drop)]
 pub struct Line {
     pub tag: u64,

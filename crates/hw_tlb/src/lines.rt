@@ -48,8 +48,8 @@ impl Model for Reach {
     ghost invariant = { λ r. length r.lines ≡ lines_of_reach };
 }
 
-// Where the line of an access to a page is kept: those for loads stand behind those for fetches, and those for stores
-// behind these.
+// Where the line of an access to a page is kept: those for loads stand after those for fetches, and those for stores
+// after these.
 #[inline(always)]
 fn line_place(access: Access, page: u64) -> usize
     ensures value { result ≡ line_place access page }

@@ -15,7 +15,7 @@ use host_mem::HostMem;
 use spec_processor::{Access, ENTRY_BYTES, ENTRY_WIDTH, PteBits, TABLE_LEVELS};
 use sv39_walk::{GStage, entry_page, index, is_pointer};
 
-// The entry at a guest-physical address, read where the second stage leads as a load.
+// The entry at a guest-physical address, read where the G-stage leads as a load.
 fn read_entry(cache: &mut Cache, mem: &HostMem, hgatp: u64, gpa: u64) -> Option<Entry>
     requires may { MayWalk mem.now hgatp cache.old }
     requires aligned { gpa % entry_size ≡ 0 }

@@ -1,4 +1,4 @@
--- The harts of the hardware, beside those of the reference machine.
+-- The harts of the hardware, alongside those of the reference machine.
 use Rattle.std.proofs.Common.{◌≡◌, ℕ, zero, suc, ◌+◌, List, [], ◌∷◌, length, map, refl, ◌∙◌, ap, slice_get, slice_set}
 use Rattle.std.specs.Prelude.{Some, option_map}
 use Rattle.spec_processor.specs.HypervisorRegisters.{HypervisorRegisters}

@@ -60,7 +60,7 @@ unfolding serve_plain plain_answer exit_answered write_answer
 guarded_served r h hart address width value gpa htinst pc store same inside =
     rw (store.explicit, gpa_back gpa address same, inside) refl
 
--- the bytes are written behind the tables, and the hart's own reservation there goes
+-- the bytes are written after the tables, and the hart's own reservation there goes
 written : (o : Unseen) (r : State) (hart : Hart) (c : HypervisorRegisters) (p width value : ℕ)
     → with_region (write_host (region_at o r) (length o.tables + p) width value)
     (retire (behind_write (core_at o c hart) (length o.tables + p) width) (write_at (length o.tables + p) width))

@@ -1,5 +1,5 @@
 -- Under a view, a first-stage entry is read as it stands in RAM. So translation through both stages is the plain one
--- followed by the second stage's answer for the page that it leads to.
+-- followed by the G-stage's answer for the page that it leads to.
 use Rattle.std.proofs.Common.{◌≡◌, ℕ, ◌+◌, ◌*◌, ◌/◌, ◌%◌, ◌^◌, ◌<◌, ◌≤◌, inl, inr, List, length, refl, sym, ◌∙◌, ap, arith, Bool, true, false, ◌&&◌, lit<}
 use Rattle.std.specs.Prelude.{Some, None, if◌then◌else◌, nat_le, nat_lt, ◌==◌}
 use Rattle.std.proofs.lemmas.Bool.Decides.{nat_tests}
@@ -134,7 +134,7 @@ view_walks_inside tables ram ram_pages hgatp protections sight is_view size = re
       (page_inside (length tables) ram_pages gpa (view_permits sight (page_of gpa) (protections (page_of gpa)) access)) answer in omega arith;
 }
 
--- behind the tables
+-- after the tables
 chosen_after : (b : Bool) (t n x : ℕ) → (if b then Some (t + n) else None) ≡ Some x → t ≤ x
 chosen_after true t n x e = let same : t + n ≡ x = cc in omega arith
 chosen_after false t n x e = absurd (cc)

@@ -1,4 +1,4 @@
--- The law of attempts: one attempt of the hardware beside one turn of the reference machine. This project's own.
+-- The law of attempts: one attempt of the hardware alongside one turn of the reference machine. This project's own.
 use Rattle.std.specs.Prelude.{◌≡◌, ℕ, ◌+◌, length, true, false, ◌==◌, Option, Some, None, slice_get}
 use Rattle.spec_processor.specs.Hardware.{Attempted, Core, leave, with_region}
 use Rattle.spec_processor.specs.HardwareAttempt.{attempt}

@@ -1,5 +1,5 @@
 //! The law of attempts: what the hardware makes of an attempt is the reference machine's turn; and laws of views: what a root
-//! of the second stage lets a hart see.
+//! of the G-stage lets a hart see.
 #![tactic(auto)]
 
 mod translation;

@@ -15,12 +15,12 @@ pub fn law_two_stages()
     ensures { (tables ram : List ℕ) (ram_pages hgatp : ℕ) (guards : ℕ → Protection) (sight : Sight) → IsView tables ram_pages guards sight hgatp → length ram ≡ page_size * ram_pages → (s : Settings) (mode : Mode) (va : ℕ) (access : Access) → two_stages (with_ram tables ram) hgatp s mode va access ≡ under_view (length tables) ram_pages sight guards access (place ram s mode va access) }
 {}
 
-/// Under a view, every second-stage walk leads into the region.
+/// Under a view, every G-stage walk leads into the region.
 pub fn law_walks_inside()
     ensures { (tables ram : List ℕ) (ram_pages hgatp : ℕ) (guards : ℕ → Protection) (sight : Sight) → IsView tables ram_pages guards sight hgatp → length ram ≡ page_size * ram_pages → WalksInside (with_ram tables ram) hgatp }
 {}
 
-/// Under a view, every second-stage walk reads the tables alone and leads to RAM.
+/// Under a view, every G-stage walk reads the tables alone and leads to RAM.
 pub fn law_walks_apart()
     ensures { (tables ram : List ℕ) (ram_pages hgatp : ℕ) (guards : ℕ → Protection) (sight : Sight) → IsView tables ram_pages guards sight hgatp → length ram ≡ page_size * ram_pages → WalksApart (with_ram tables ram) hgatp }
 {}

@@ -1,5 +1,5 @@
 -- What one event does to the journal once its own count was raised: each other count rises by one at most, and one byte at
--- most is printed, behind those that were.
+-- most is printed, after those that were.
 use Rattle.std.proofs.Common.{◌≡◌, ℕ, ◌+◌, ◌%◌, ◌≤◌, ◌∷◌, ◌++◌, Bool, true, false, List, [], length, refl, sym, subst, arith, length-append}
 use Rattle.std.specs.Prelude.{if◌then◌else◌}
 use Rattle.std.proofs.lemmas.List.{append-nil}

@@ -41,7 +41,7 @@ pub record NoneFalls (old new : Counts) : Type 0 where
   pub refused : old.refused ≤ new.refused
   pub notes : old.notes ≤ new.notes
 
--- and at most one byte is printed, behind those that were
+-- and at most one byte is printed, after those that were
 pub record Grows (old new : Journal) : Type 0 where
   pub counts : RiseByOne old.counts new.counts
   pub kept : NoneFalls old.counts new.counts

@@ -16,7 +16,7 @@ pub fn law_modules()
     ensures { ModulesLaw }
 {}
 
-/// One event raises each count by one at most, and prints one byte at most, behind those that were printed.
+/// One event raises each count by one at most, and prints one byte at most, after those that were printed.
 pub fn law_grows()
     ensures { GrowsLaw }
 {}

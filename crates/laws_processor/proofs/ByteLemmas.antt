@@ -99,7 +99,7 @@ word_elsewhere list at n value from m fits apart =
       | inr above ↦ ap little_endian (part_after list (low_bytes n value) at from m (omega arith) (omega arith))
     ]
 
--- ---- two lists, one behind the other
+-- ---- two lists, one after the other
 
 pub part_behind : (front rest : List ℕ) (at n : ℕ) → part (front ++ rest) (length front + at) n ≡ part rest at n
 part_behind front rest at n = ap {B = List ℕ} (take n) (drop-append-add front rest at)

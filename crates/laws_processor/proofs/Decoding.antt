@@ -165,7 +165,7 @@ pub mask_funct5 : (w o f g : ℕ) → bits w 0 7 ≡ o → bits w 12 15 ≡ f �
     → bit_and w 0xF800707F ≡ o + 2 ^ 12 * f + 2 ^ 27 * g
 mask_funct5 w o f g e h k = omega (arith, mask_parts w 27 31 0x707F (omega arith), and_mask (w / 2 ^ 27) 5, low_funct3 (w % 2 ^ 27))
 
--- with rs2 beside them
+-- with rs2 alongside them
 low_rs2 : (w : ℕ) → bit_and w 0x1F0707F ≡ w / 2 ^ 20 % 32 * 2 ^ 20 + (w / 2 ^ 12 % 8 * 2 ^ 12 + w % 128)
 low_rs2 w = omega (arith, mask_parts w 20 31 0x707F (omega arith), and_mask (w / 2 ^ 20) 5, low_funct3 (w % 2 ^ 20))
 
@@ -177,7 +177,7 @@ pub mask_funct7_rs2 : (w o f g n : ℕ) → bits w 0 7 ≡ o → bits w 12 15 �
     → bit_and w 0xFFF0707F ≡ o + 2 ^ 12 * f + 2 ^ 20 * n + 2 ^ 25 * g
 mask_funct7_rs2 w o f g n e h k r = omega (arith, mask_parts w 25 127 0x1F0707F (omega arith), and_mask (w / 2 ^ 25) 7, low_rs2 (w % 2 ^ 25))
 
--- with rd beside them
+-- with rd alongside them
 low_rd : (w : ℕ) → bit_and w 0x7FFF ≡ w % 2 ^ 15
 low_rd w = and_mask w 15
 

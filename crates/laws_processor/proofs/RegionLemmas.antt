@@ -18,7 +18,7 @@ not_in_tables t i = grind (arith, nat_tests)
 less_tables : (t i : ℕ) → t + i - t ≡ i
 less_tables t i = omega arith
 
--- behind the tables a word is one of RAM
+-- after the tables a word is one of RAM
 pub word_in_ram : (r : Region) (i n : ℕ) → host_word r (length r.tables + i) n ≡ word r.ram i n
 unfolding host_word
 word_in_ram r i n = rw (not_in_tables (length r.tables) i, less_tables (length r.tables) i) refl

@@ -1,4 +1,4 @@
--- What an aligned access has of a reservation, and reservations of a memory that stands behind other bytes.
+-- What an aligned access has of a reservation, and reservations of a memory that stands after other bytes.
 use Rattle.std.proofs.Common.{◌≡◌, ℕ, ◌+◌, refl, arith, Bool, true, false}
 use Rattle.std.specs.Prelude.{Option, Some, None, if◌then◌else◌, option_map}
 use Rattle.std.proofs.lemmas.Bool.Decides.{nat_tests}

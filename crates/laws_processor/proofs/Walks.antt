@@ -114,7 +114,7 @@ guest_fits_by : (b : Bool) (a x : ℕ) (d : Destination) → Fits a d → (if b 
 guest_fits_by true a x d h e = found_fits a x d h e
 guest_fits_by false a x d h e = absurd (cc)
 
--- a second-stage walk too
+-- a G-stage walk too
 pub walk_guest_fits : (r : Region) (hgatp gpa at : ℕ) (access : Access) → walk_guest r hgatp gpa access ≡ Some at
     → (at % page_size ≡ gpa % page_size) × (at < 2 ^ 64)
 unfolding walk_guest

@@ -111,7 +111,7 @@ by_due begins plan old new read answer (Some (RunFrom start events save)) walk g
     }
 by_due begins plan old new read answer (Some (Make name rules line)) walk guard good f meets = absurd (walk (Make name rules line) f)
 
--- ---- what was written, and saved behind it
+-- ---- what was written, and saved after it
 
 refused_writes : (answer : Status) (refusal : Refusal) (old new : Outside) (result : Result Status Trouble) → IsRunStatus answer → result ≡ Ok answer
     → WritesAndSaves (Refuse refusal) old new result → ⊥

@@ -17,7 +17,7 @@ use Rattle.laws_invariants.proofs.StartsSound.{CanStart, image_can}
 use Rattle.laws_guarantee.specs.Reached.{HasMeasuredText}
 use Rattle.laws_program.specs.Starts.{IsMeasuredImage, IsMeasuredStart, MeasuredLaw}
 
--- ---- digests of pages that lie one behind the other
+-- ---- digests of pages that lie one after the other
 
 abbrev AreWhole : List ℕ → List ℕ → Type 0
 AreWhole ram pages = (page : ℕ) → has_number pages page ≡ true → length (page_bytes ram page) ≡ page_size

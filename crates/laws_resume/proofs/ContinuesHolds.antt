@@ -16,7 +16,7 @@ run_alike : (front : List ℕ) (r next : State) (events : List Event) → Alike 
 run_alike front r next [] alike = alike
 run_alike front r next (e ∷ events) alike = run_alike front (step r e) (step next e) events (alike_law front r next e alike)
 
--- the events that are left, made by the state behind the first ones
+-- the events that are left, made by the state after the first ones
 goes_on_by : (verdict : Verdict) (s : State) (k : ℕ) (e : Event) (events : List Event) → s.journal.verdict ≡ verdict
     → run (run (step s e) (take k events)) (drop (draw_count (step s e) (take k events)) events) ≡ run (step s e) events
     → run (run (step s e) (take k events)) (drop (drawn_under verdict suc (draw_count (step s e) (take k events))) (e ∷ events)) ≡ run (step s e) events

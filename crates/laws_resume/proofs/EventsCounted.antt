@@ -62,7 +62,7 @@ happen_one r (Key byte) = let same = key_none (count r count_key) byte in omega 
 happen_one r (Tick n) = let same = tick_none (count r count_tick) n in omega (arith, same)
 happen_one r (Poke gpa value) = let same = poke_none (count r count_beat) gpa value in omega (arith, same)
 
--- ---- while the machine runs, and behind its end
+-- ---- while the machine runs, and after its end
 
 runs_by : (verdict : Verdict) (r : State) (e : Event) → verdict ≡ Running → happen_under verdict r e ≡ happen r e
 unfolding happen_under

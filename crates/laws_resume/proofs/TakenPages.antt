@@ -101,7 +101,7 @@ were_free p guard after (page ∷ pages) q e there =
     free_by p guard page q (page == q) refl step.0
     (λ off. were_free p (slice_set guard page p) after pages q step.1 (found_later (page == q) (has_number pages q) there off))
 
--- ---- some, and others behind them
+-- ---- some, and others after them
 
 pub taken_in_two : (p : Protection) (guard after : List Protection) (some others : List ℕ) → Taking p guard (some ++ others) after
     → (mid : List Protection) × (Taking p guard some mid × Taking p mid others after)

@@ -30,7 +30,7 @@ unfoldable pub draw_count : State → List Event → ℕ
 draw_count r [] = 0
 draw_count r (e ∷ events) = drawn_under r.journal.verdict suc (draw_count (step r e) events)
 
--- Behind the first k events, or those up to the verdict, a state that is alike but has nothing printed goes on with the events
+-- After the first k events, or those up to the verdict, a state that is alike but has nothing printed goes on with the events
 -- that are left: the bytes that were printed then, and what it gives, are what the whole run gives. Status and disk are the same.
 pub record Continues (s : State) (k : ℕ) (events : List Event) (resumed : State) : Type 0 where
   pub output : (run s (take k events)).journal.printed ++ output (run resumed (drop (draw_count s (take k events)) events)) ≡ output (run s events)

@@ -8,6 +8,6 @@ abbrev pub is_block_disk : Disk → Bool
 is_block_disk (BlockDisk d) = true
 is_block_disk (VirtioDisk d) = false
 
--- no event puts it behind another
+-- no event puts it after another
 abbrev pub KindLaw : Type 0
 KindLaw = (s : State) (events : List Event) → is_block_disk (run s events).devices.disk ≡ is_block_disk s.devices.disk

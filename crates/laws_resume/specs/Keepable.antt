@@ -1,4 +1,4 @@
--- What each machine that runs keeps so that a snapshot of it can be written and read, beside its soundness. This project's own.
+-- What each machine that runs keeps so that a snapshot of it can be written and read, alongside its soundness. This project's own.
 use Rattle.std.specs.Prelude.{◌≡◌, ℕ, ◌+◌, ◌*◌, ◌%◌, ◌<◌, ◌≤◌, true, List, [], ◌∷◌, length, min, Option, Some, None, slice_get}
 use Rattle.spec_processor.specs.Bytes.{page_size, instruction_size}
 use Rattle.spec_processor.specs.Requests.{reserved_bytes}

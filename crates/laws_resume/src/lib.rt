@@ -28,7 +28,7 @@ pub fn law_continues()
     ensures { ContinuesLaw }
 {}
 
-/// From any sound state, a run keeps what a snapshot asks beside soundness.
+/// From any sound state, a run keeps what a snapshot asks besides soundness.
 pub fn law_keeps()
     ensures { KeepsLaw }
 {}
@@ -71,7 +71,7 @@ pub fn law_counted()
     ensures { CountedLaw }
 {}
 
-/// The disk stays behind the device that it was behind.
+/// The disk stays behind the device that it was after.
 pub fn law_kind()
     ensures { KindLaw }
 {}

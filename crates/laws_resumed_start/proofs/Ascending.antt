@@ -22,7 +22,7 @@ picked_none first (suc n) = picked_none (first + 1) n
 
 -- ---- an ascending list
 
--- behind its first number the others alone are met
+-- after its first number the others alone are met
 rest_same : (page k : ℕ) (pages : List ℕ) → page + 1 ≤ k → has_number (page ∷ pages) k ≡ has_number pages k
 rest_same page k pages past = rw (ne_eqb page k (λ same. omega (arith, same, past))) refl
 

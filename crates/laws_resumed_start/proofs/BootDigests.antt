@@ -1,4 +1,4 @@
--- The digests of a machine's text behind its boot are those that the run keeps.
+-- The digests of a machine's text after its boot are those that the run keeps.
 use Rattle.std.proofs.Common.{◌≡◌, ℕ, inl, inr, zero, suc, ◌+◌, ◌*◌, ◌/◌, ◌<◌, ◌≤◌, List, [], ◌∷◌, flat_map, length, map, refl, sym, ◌∙◌, ap, subst, Bool, true, ◌||◌, arith, slice_get, length-append}
 use Rattle.std.specs.Prelude.{Some, ◌==◌}
 use Rattle.std.proofs.lemmas.List.{take_at, drop_at}
@@ -44,7 +44,7 @@ rest_whole ram page pages whole k there = whole k (ap (λ (b : Bool). (page == k
 abbrev digest_at : List ℕ → ℕ → List ℕ
 digest_at ram page = page_digest (page_bytes ram page)
 
--- their digests where they lie one behind the other
+-- their digests where they lie one after the other
 digests_after : (ram pages : List ℕ) → AreWhole ram pages → page_digests (length pages) (flat_map (page_bytes ram) pages) ≡ map (digest_at ram) pages
 digests_after ram [] whole = refl
 digests_after ram (page ∷ pages) whole =

@@ -1,4 +1,4 @@
--- A snapshot behind any events of a run that began with a measured boot.
+-- A snapshot after any events of a run that began with a measured boot.
 use Rattle.std.proofs.Common.{◌≡◌, ℕ, List, [], take, refl, sym, ◌∙◌, subst, true}
 use Rattle.std.specs.Prelude.{None}
 use Rattle.sv_types.specs.Policies.{Rules}
@@ -34,7 +34,7 @@ pub nothing_printed : (rules : Rules) (s : Contents) → (resumed_state rules s)
 unfolding resumed_state
 nothing_printed rules s = refl
 
--- behind any events of the run
+-- after any events of the run
 record IsGood (start : State) (rules : Rules) (events : List Event) (s : Snapshot) : Type 0 where
   alike : Alike (run start events).journal.printed (run start events) (resumed_state rules (contents s))
   accepted : resume_refusal rules (contents s) ≡ None

@@ -33,7 +33,7 @@ csrs_resumed h = record registers_at_boot {
   hvip = at_hypervisor_places h.sip;
 }
 
--- RAM lies behind so many bytes of tables
+-- RAM lies after so many bytes of tables
 abbrev pub hw_resumed : (tables : ℕ) → SavedHart → HwHart
 hw_resumed tables h = record {
   core = record {

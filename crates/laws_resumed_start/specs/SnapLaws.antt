@@ -18,7 +18,7 @@ use Rattle.laws_resume.specs.Resumed.{KeepsDigests}
 use Rattle.laws_resume.specs.SavedForm.{HasBlock, IsCounted}
 use Rattle.laws_resumed_start.specs.TextPages.{digested_text}
 
--- the state behind the events, how many of them were made while the machine ran, and the text that the start approves; its
+-- the state after the events, how many of them were made while the machine ran, and the text that the start approves; its
 -- numbers are words, a hart's registers 32 and a digest 32 bytes
 pub record IsSnapshotOf (start : State) (events : List Event) (s : Snapshot) : Type 0 where
   pub state : IsSaved (run start events) s.«machine»
@@ -35,7 +35,7 @@ pub record IsMeasuredBoot (rules : Rules) (file : List ℕ) : Type 0 where
 abbrev pub BootDigestsLaw : Type 0
 BootDigestsLaw = (rules : Rules) (file disk : List ℕ) → IsMeasuredBoot rules file → KeepsDigests (boot_start rules file disk) (digested_text (boot_start rules file disk))
 
--- a snapshot behind the first k events, with the text of the start
+-- a snapshot after the first k events, with the text of the start
 pub record IsSnapAfter (rules : Rules) (file disk : List ℕ) (events : List Event) (k : ℕ) (s : Snapshot) : Type 0 where
   pub state : IsSaved (run (boot_start rules file disk) (take k events)) s.«machine»
   pub text : s.text.items ≡ digested_text (boot_start rules file disk)

@@ -19,7 +19,7 @@ pub fn law_boot_digests()
     ensures { BootDigestsLaw }
 {}
 
-/// A snapshot that was taken behind any events of such a run isn't refused under its policy.
+/// A snapshot that was taken after any events of such a run isn't refused under its policy.
 pub fn law_snap_accepted()
     ensures { SnapAcceptedLaw }
 {}
@@ -29,7 +29,7 @@ pub fn law_snap_read()
     ensures { SnapReadLaw }
 {}
 
-/// A run that goes on from a snapshot, which was taken behind any of its events, prints what is left of the whole run.
+/// A run that goes on from a snapshot, which was taken after any of its events, prints what is left of the whole run.
 pub fn law_snap_continues()
     ensures { SnapContinuesLaw }
 {}

@@ -11,7 +11,7 @@ use spec_processor::PAGE_SIZE;
 use std::alloc::{AllocError, Global};
 use sv_types::Protection;
 
-/// The approved pages of RAM, ascending, each with the SHA-256 of its bytes. `protections` has one for each page. Want of memory
+/// The approved pages of RAM, ascending, each with the SHA-256 of its bytes. `protections` has one for each page. Out of memory
 /// is the one refusal.
 #[tactic(auto, unfolding(crate::specs::TextPages::text_in))]
 pub fn text_pages(

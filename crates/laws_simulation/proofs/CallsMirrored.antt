@@ -26,7 +26,7 @@ use Rattle.laws_invariants.proofs.AnswersMay.{MayHaveSideEffect, answer_may}
 use Rattle.laws_invariants.proofs.CallsSound.{harts_number}
 use Rattle.spec_hardware.proofs.Privileges.{same_mode}
 
--- ---- an answer, by what becomes of the hart and by what happens beside
+-- ---- an answer, by what becomes of the hart and by what happens besides
 
 mirror_replied : (t : ℕ) (c : HypervisorRegisters) (reply : Reply) (hart : Hart) → hw_replied reply (hw_hart t c hart) ≡ hw_hart t c (with_reply reply hart)
 unfolding hw_replied with_reply hw_with hw_answered hw_stayed hw_stopped

@@ -180,7 +180,7 @@ poke_frame o r f gpa value s =
 
 -- ---- keys and time
 
--- a key changes counts alone beside the queue
+-- a key changes counts alone alongside the queue
 key_frame : (o : Unseen) (r : State) (byte : ℕ) (room : Bool)
     → record (machine_of o r) {
       devices = record r.devices { console = after_key r.devices.console byte };

@@ -15,7 +15,7 @@ use Rattle.laws_attempt.specs.Agree.{IsAt}
 use Rattle.laws_attempt.proofs.HwOfSlots.{hw_harts_update}
 use Rattle.spec_hardware.specs.HardwareEvent.{Answers, Others, Nobody, MayChange, others_changed, hart_answered, devices_answered, journal_answered}
 
--- bytes are printed behind those that were
+-- bytes are printed after those that were
 pub record Adds (old new : List ℕ) : Type 0 where
   pub added : List ℕ
   pub same : new ≡ old ++ added

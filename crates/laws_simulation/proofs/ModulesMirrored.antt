@@ -218,7 +218,7 @@ facts_same o r s size =
     ∙ ap (λ (x : ℕ → Bool). facts_with r (facts_of r).started x (is_some (machine_of o r).loading)) (fun_ext (λ page. protected_same r page s))
     ∙ ap (facts_with r (facts_of r).started (is_protected r)) (loads_same o r)
 
--- ---- what an answer does to pages, beside the other parts that it changes
+-- ---- what an answer does to pages, alongside the other parts that it changes
 
 abbrev hosted_by : (o : Unseen) (r : State) (h : ℕ) → SideEffect → Changed o r h → Machine
 hosted_by o r h b x = record (hw_pages_side_effect b h (machine_of o r)) { harts = x.hw_all; devices = x.devices; journal = without_printed o.cleared x.journal }

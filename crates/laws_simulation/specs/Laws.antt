@@ -1,4 +1,4 @@
--- The laws of SecVisor's machine beside the reference machine. This project's own.
+-- The laws of SecVisor's machine alongside the reference machine. This project's own.
 use Rattle.std.specs.Prelude.{◌≡◌, ℕ, true, List, Some, slice_get}
 use Rattle.sv_types.specs.declared.event.Event.{Event}
 use Rattle.sv_types.specs.declared.event.Event.TheVariants.{Turn}

@@ -13,7 +13,7 @@ use Rattle.live_keys.specs.Placed.{is_placed, are_bytes, autos_between, events_b
 
 -- ---- numbers
 
--- numbers from one on, and then those behind them
+-- numbers from one on, and then those after them
 pub numbers_join : (first count more : ℕ) → numbers_from first (count + more) ≡ numbers_from first count ++ numbers_from (first + count) more
 numbers_join first zero more =
     let none : zero + more ≡ more = omega arith in

@@ -121,7 +121,7 @@ drawn_autos harts first (suc n) more =
     ∙ ap (λ (es : List Event). auto_event harts 0 first ∷ es) (drawn_autos harts (first + 1) n more)
     ∙ ap (λ (k : ℕ). auto_event harts 0 first ∷ map (auto_event harts 0) (numbers_from (first + 1) n) ++ events_drawn (Auto harts (random_at 0 k)) more) behind
 
--- the events of lines, behind so many of `auto(0, harts)`
+-- the events of lines, after so many of `auto(0, harts)`
 abbrev events_after : (harts first : ℕ) → List (List ℕ) → List Event
 events_after harts first all = events_drawn (Auto harts (random_at 0 first)) (flat_map said_of_line all)
 
@@ -285,7 +285,7 @@ pub one_line : (count : ℕ) (old new : List ℕ) → 0 < count → new ≡ old 
 one_line zero old new some is = absurd (omega arith)
 one_line (suc count) old new some is = is ∙ ap (λ (text : List ℕ). old ++ text) (sym (append-nil (ended_line (auto_line (suc count)))))
 
--- behind the last key come the events that are left
+-- after the last key come the events that are left
 pub text_whole : (before after : List ℕ) (made : ℕ) (keys : List LiveKey) (at last : ℕ) → length keys ≤ at →
     after ≡ before ++ text_of (auto_lines (last - made)) → before ++ text_of (journal_lines made (drop at keys) last) ≡ text_of (journal_lines 0 keys last) →
     after ≡ journal_text keys last

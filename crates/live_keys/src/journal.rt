@@ -4,7 +4,7 @@ ghost use Rattle.live_keys.specs.Placed.{is_placed, are_bytes};
 
 use crate::live_key::LiveKey;
 
-/// The keys that were made, and the number of the machine's other events. Each key stands behind as many of these as it
+/// The keys that were made, and the number of the machine's other events. Each key stands after as many of these as it
 /// says.
 #[derive(Drop)]
 pub struct Journal {

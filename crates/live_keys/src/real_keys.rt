@@ -10,7 +10,7 @@ use sv_types::Failed;
 /// How often a read that was interrupted is tried.
 const MAX_TRIES: u32 = 1000;
 
-/// The bytes of a reader. Behind its end nothing more is read: a terminal would go on.
+/// The bytes of a reader. After its end nothing more is read: a terminal would go on.
 #[derive(Drop)]
 pub struct ReaderKeys<I: Read + Drop> {
     reader: I,

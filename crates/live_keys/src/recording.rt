@@ -26,7 +26,7 @@ impl Journal {
         })
     }
 
-    /// A key was made, behind all events so far. It takes no memory.
+    /// A key was made, after all events so far. It takes no memory.
     #[tactic(auto, using(crate::proofs::Events::placed_key, crate::proofs::Events::bytes_key, crate::proofs::Events::events_key))]
     pub fn add_key(&mut self, byte: u8)
         requires room { HasRoom self.old }

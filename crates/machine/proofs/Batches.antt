@@ -95,7 +95,7 @@ module _ (m : Machine) (h n : ℕ) (mid : Region) (before : Core) (region : Regi
 
 -- ---- the row
 
--- the machine behind so many turns, with all that is known of it
+-- the machine after so many turns, with all that is known of it
 pub record Rowed (n : ℕ) (m : Machine) (h : ℕ) (after : Machine) : Type 0 where
   pub chain : Repeats n m (Turn h) after
   pub quiet : IsQuiet m after

@@ -1,4 +1,4 @@
--- The turn behind a row, in which a hart leaves the guest, and what SecVisor answers it.
+-- The turn after a row, in which a hart leaves the guest, and what SecVisor answers it.
 use Rattle.std.proofs.Common.{◌≡◌, ℕ, ◌+◌, ◌-◌, ◌%◌, ◌<◌, ◌≤◌, Bool, true, false, List, length, refl, sym, ◌∙◌, ap, subst, arith, add-one}
 use Rattle.std.specs.Prelude.{Option, Some, None, if◌then◌else◌}
 use Rattle.spec_processor.specs.Hardware.{Core, Attempted, leave, with_region}
@@ -265,7 +265,7 @@ row_within Stays n = omega arith
 row_within Calls n = omega arith
 row_within Returns n = omega arith
 
--- the counts behind the row's own turns
+-- the counts after the row's own turns
 pub after_counts : (left : Leaving) (n most : ℕ) (m mid : Machine) (h : ℕ) → Begins m h → EndsBatch left n m h mid → most ≤ max_counts → with_leaving left n ≤ most
     → CountsAtMost (max_counts - most) m.journal.counts → CountsAtMost max_counts mid.journal.counts
 after_counts left n most m mid h begins ends few within counts =

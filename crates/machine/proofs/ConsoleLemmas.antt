@@ -74,7 +74,7 @@ stands_next start m next done event cleared s makes =
     subst (λ (r : State). Stands next cleared r) (sym (run_on start done (event ∷ [])))
     (stands_step m next (run start done) cleared event s (makes.stands (run start done) s.stands) makes.event)
 
--- one event more, and bytes that are flushed behind it
+-- one event more, and bytes that are flushed after it
 ran_more : (first : Machine) (start : State) (done : List Event) (m next flushed : Machine) (event : Event) (old now new : SinkState) →
     HasRun first start done m old now → Makes m event next → Flushed next flushed now new → HasRun first start (done ++ event ∷ []) flushed old new
 ran_more first start done m next flushed event old now new ran makes f = record {
@@ -96,7 +96,7 @@ ran_again (suc n) first start done m next event old now ran (before, (those, (on
     subst (λ (events : List Event). HasRun first start events next old now) (in_row done n event)
     (ran_more first start (done ++ replicate n event) before next next event old now now (ran_again n first start done m before event old now ran those) makes (flushed_none next now))
 
--- the same, and bytes that are flushed behind the last one
+-- the same, and bytes that are flushed after the last one
 ran_flushed : (n : ℕ) (first : Machine) (start : State) (done : List Event) (m next flushed : Machine) (event : Event) (old now new : SinkState) → 0 < n →
     HasRun first start done m old now → Repeats n m event next → Flushed next flushed now new → HasRun first start (done ++ replicate n event) flushed old new
 ran_flushed zero first start done m next flushed event old now new some ran repeats f = absurd (omega arith)
@@ -116,7 +116,7 @@ runs_more n first start all left rest m next flushed event old now new some on p
   ran = ran_flushed n first start on.done m next flushed event old now new some on.ran repeats f;
 }
 
--- what a run prints stands behind what was printed before
+-- what a run prints stands after what was printed before
 run_prints : (r : State) (events : List Event) → (more : List ℕ) × ((run r events).journal.printed ≡ r.journal.printed ++ more)
 run_prints r [] = ([], sym (append-nil r.journal.printed))
 run_prints r (e ∷ events) =

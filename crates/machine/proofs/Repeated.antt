@@ -1,4 +1,4 @@
--- One event several times in a row: the state that the machine stands for behind it, and how far its counts rise.
+-- One event several times in a row: the state that the machine stands for after it, and how far its counts rise.
 use Rattle.std.proofs.Common.{◌≡◌, ℕ, zero, suc, ◌+◌, ◌≤◌, List, [], ◌∷◌, ◌++◌, replicate, sym, ◌∙◌, ap, subst, arith, add-one}
 use Rattle.std.proofs.lemmas.List.{replicate-append-replicate}
 use Rattle.sv_types.specs.declared.event.Counts.{Counts}

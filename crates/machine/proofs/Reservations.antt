@@ -70,12 +70,12 @@ under_free Running known m after e free steps = event_free known m after e free 
 under_free Shutdown known m after e free same = stays_free known m after e free same
 under_free (Stopped rule hart at) known m after e free same = stays_free known m after e free same
 
--- where no hart had one, none has one behind an event by which none gets one
+-- where no hart had one, none has one after an event by which none gets one
 pub step_free : (known : Bool) (m after : Machine) (e : Event) → AreFreeWhere known m.harts → IsStep m e after → AreFreeWhere (known && reserves_nothing e) after.harts
 unfolding IsStep
 step_free known m after e free steps = under_free m.journal.verdict known m after e free steps
 
--- ---- the answer to an exit behind a row, which takes the hart's own away
+-- ---- the answer to an exit after a row, which takes the hart's own away
 
 trap_free : (rules : Rules) (interrupt : Bool) (cause tval : ℕ) (x : HwHart) → (hw_at_trap rules interrupt cause tval x).core.reservation ≡ None
 unfolding hw_at_trap

@@ -9,7 +9,7 @@ use Rattle.elf64_load.specs.declared.image.KernelImage.{KernelImage}
 use Rattle.machine.specs.declared.boot.BootRefusal.{BootRefusal}
 use Rattle.machine.specs.declared.boot.BootRefusal.TheVariants.{Measure, Entry, Memory}
 
--- by the measure exactly where it differs, never by the entry of plain pages, and freely for want of memory
+-- by the measure exactly where it differs, never by the entry of plain pages, and freely when out of memory
 abbrev pub RefusesFlat : List ℕ → List ℕ → BootRefusal → Type 0
 RefusesFlat pages wanted (Measure found asked) = (found ≡ measure pages) × (asked ≡ wanted) × (found ≢ wanted)
 RefusesFlat pages wanted (Entry entry) = ⊥
@@ -32,7 +32,7 @@ abbrev pub image_text : KernelImage → List ℕ
 image_text image = text_of (segments_of image)
 
 -- by the measure of its text exactly where that differs; by its entry where the measure is right and the entry isn't
--- permitted; and freely for want of memory
+-- permitted; and freely when out of memory
 abbrev pub RefusesImage : KernelImage → Rules → BootRefusal → Type 0
 RefusesImage image rules (Measure found asked) = RefusesFlat (image_text image) rules.kernel (Measure found asked)
 RefusesImage image rules (Entry entry) =

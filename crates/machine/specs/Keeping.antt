@@ -11,11 +11,11 @@ use Rattle.spec_saved_machine.specs.declared.whole.SavedLoad.{SavedLoad}
 
 -- ---- harts
 
--- the guest-physical address of a host place behind so many bytes of tables
+-- the guest-physical address of a host place after so many bytes of tables
 abbrev pub gpa_after : ℕ → ℕ → ℕ
 gpa_after tables place = gpa_at (place - tables)
 
--- the place lies behind the tables, and its address is a number of 64 bits
+-- the place lies after the tables, and its address is a number of 64 bits
 pub record IsAddressed (tables place : ℕ) : Type 0 where
   pub behind : tables ≤ place
   pub small : gpa_after tables place < 2 ^ 64

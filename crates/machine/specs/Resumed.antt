@@ -6,7 +6,7 @@ use Rattle.snapshot_resume.specs.Judgements.{resume_refusal}
 use Rattle.machine.specs.declared.resume.ResumeFailure.{ResumeFailure}
 use Rattle.machine.specs.declared.resume.ResumeFailure.TheVariants.{Refused, Memory}
 
--- by the first judgement that fails, and freely for want of memory
+-- by the first judgement that fails, and freely when out of memory
 abbrev pub RefusesSnapshot : Rules → Contents → ResumeFailure → Type 0
 RefusesSnapshot rules s (Refused refusal) = resume_refusal rules s ≡ Some refusal
 RefusesSnapshot rules s Memory = Unit {0}

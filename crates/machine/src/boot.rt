@@ -12,7 +12,7 @@ pub enum BootRefusal {
     Measure { found: Digest, wanted: Digest },
     /// The hart would begin at an address that isn't permitted.
     Entry { entry: u64 },
-    /// Memory was wanting.
+    /// Memory ran out.
     Memory,
 }
 

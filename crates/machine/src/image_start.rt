@@ -80,7 +80,7 @@ fn judge_image<R: Threads + Sync>(
 }
 
 // Refuses text whose measure isn't the one that is wanted. It is measured where it lies in the file, or else in a copy, which
-// is given back behind this.
+// is given back after this.
 #[tactic(auto, using(crate::proofs::ImageStarting::text_whole))]
 fn judge_text<R: Threads + Sync>(
     rt: &R,
@@ -128,7 +128,7 @@ struct GuardedMem {
     guard: Guard,
 }
 
-// A region of a policy's RAM with the image's segments, its text approved and all other pages free. Made beside the policy,
+// A region of a policy's RAM with the image's segments, its text approved and all other pages free. Made alongside the policy,
 // which is owned where a machine is assembled.
 fn guarded_mem(
     alloc: Global,

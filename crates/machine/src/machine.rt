@@ -162,7 +162,7 @@ impl Machine {
         self.none_reserved
     }
 
-    // A row of turns of a hart, with the answer to the exit by which it left the guest behind them.
+    // A row of turns of a hart, with the answer to the exit by which it left the guest after them.
     #[inline(always)]
     fn one_row(&mut self, hart: u8, most: u64) -> Batch
         requires may { MayBatch self.old hart }
@@ -239,7 +239,7 @@ impl Machine {
     }
 }
 
-// Whether no hart has a reservation behind an event, where that was known before it.
+// Whether no hart has a reservation after an event, where that was known before it.
 #[inline(always)]
 fn stays_unreserved(known: bool, event: Event) -> bool
     ensures { result ≡ (known && reserves_nothing event) }

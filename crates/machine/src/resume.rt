@@ -35,7 +35,7 @@ use sv_types::Policy;
 pub enum ResumeFailure {
     /// The first judgement that fails.
     Refused(ResumeRefusal),
-    /// Memory was wanting.
+    /// Memory ran out.
     Memory,
 }
 
@@ -98,7 +98,7 @@ fn judge<R: Threads + Sync>(
     }
 }
 
-// What goes on beside the parts of a snapshot: nothing is kept for any hart, and each entry of a policy has its page.
+// What goes on besides the parts of a snapshot: nothing is kept for any hart, and each entry of a policy has its page.
 struct NewHardware {
     caches: Vec<HartCaches>,
     cpu: Cpu,

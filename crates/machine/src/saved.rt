@@ -20,7 +20,7 @@ use spec_saved_machine::{Saved, SavedHart, SavedLoad};
 use std::alloc::{AllocError, Global};
 
 impl Machine {
-    /// The whole machine as plain data. Nothing of it changes. Want of memory is the one refusal.
+    /// The whole machine as plain data. Nothing of it changes. Out of memory is the one refusal.
     pub fn saved(&self, alloc: Global) -> Result<Saved, AllocError>
         ensures state { IfOk result (λ s. (r : State) → StandsFor self.now r → IsSaved r s) }
     {

@@ -106,7 +106,7 @@ pub(crate) fn flat<R: Threads + Sync>(
     Ok(assemble(alloc, pages, wanted)?)
 }
 
-/// What a machine begins with beside its memory and its devices.
+/// What a machine begins with besides its memory and its devices.
 pub(crate) struct Begun {
     pub(crate) entries: Entries,
     pub(crate) slots: Vec<HartSlot>,

@@ -29,7 +29,7 @@ module _ (p : Inside) where
   abbrev whole : Machine
   whole = machine_of_parts p
 
-  -- what happens beside is what a call or a load asks for, by the parts
+  -- what happens besides is what a call or a load asks for, by the parts
   pub given_in : (side_effect : SideEffect) (now : Machine) → whole ≡ now → IsGiven (hw_facts now) now.loading side_effect
       → IsGiven (facts_in [] [] (rules_of p.policy) p.mem.ram p.guard.pages p.modules) (loading_of p.modules) side_effect
   given_in side_effect now same given = subst (λ (m : Machine). IsGiven (hw_facts m) m.loading side_effect) (sym same) given

@@ -32,7 +32,7 @@ nobody = record {
 abbrev pub hart_in : List HwHart → ℕ → HwHart
 hart_in harts h = slice_index_or harts h nobody
 
--- a hart may make an attempt, whose walks lead to RAM and which writes no byte behind it
+-- a hart may make an attempt, whose walks lead to RAM and which writes no byte after it
 pub record IsReady (region : Region) (hw : HwHart) (lines : Lines) : Type 0 where
   pub started : hw.started ≡ true
   pub aligned : hw.core.pc % instruction_size ≡ 0

@@ -65,7 +65,7 @@ after_batch m h n region core = record m {
   attempts = m.attempts + n;
 }
 
--- the same, the attempt behind these turns counted too where it was made
+-- the same, the attempt after these turns counted too where it was made
 abbrev pub after_attempts : Leaving → Machine → ℕ → ℕ → Region → Core → Machine
 after_attempts left m h n region core = record (after_batch m h n region core) { attempts = m.attempts + with_leaving left n }
 
@@ -84,7 +84,7 @@ pub record MayBatch (m : Machine) (h : ℕ) : Type 0 where
   pub free : AreFree m.harts
   pub quiet : pending (hart_in m.harts h).core.hregs (hart_in m.harts h).core.csrs (lines_at m.devices h) ≡ None
 
--- so many turns of hart h were made, and an attempt behind them, where that left the guest
+-- so many turns of hart h were made, and an attempt after them, where that left the guest
 pub record EndsBatch (left : Leaving) (n : ℕ) (m : Machine) (h : ℕ) (after : Machine) : Type 0 where
   pub region : Region
   pub last : Core
@@ -93,7 +93,7 @@ pub record EndsBatch (left : Leaving) (n : ℕ) (m : Machine) (h : ℕ) (after :
   pub leaves : LeavesBy left (attempt region last (lines_at m.devices h)) region last core
   pub same : after ≡ after_attempts left m h n region core
 
--- the turn behind a row, counted; its attempt was counted as it was made
+-- the turn after a row, counted; its attempt was counted as it was made
 abbrev pub counted_leaving : Machine → Machine
 counted_leaving m = record m { journal = with_count count_turn m.journal }
 
@@ -101,7 +101,7 @@ counted_leaving m = record m { journal = with_count count_turn m.journal }
 abbrev pub call_answer : ExitAnswer
 call_answer = Traps (ExitCause.Exception Cause.UserCall) 0
 
--- what SecVisor answers the turn behind a row, where it was made
+-- what SecVisor answers the turn after a row, where it was made
 abbrev pub AnswersLeaving : Leaving → Machine → ℕ → Machine → Type 0
 AnswersLeaving Stays m h after = after ≡ m
 AnswersLeaving Calls m h after = WithTables (counted_leaving m) (answered_exit (counted_leaving m) h call_answer) after

@@ -1,4 +1,4 @@
--- What a turn does beside its attempt. This project's own.
+-- What a turn does besides its attempt. This project's own.
 use Rattle.std.specs.Prelude.{◌≡◌, ◌<◌, ◌%◌, ℕ, Bool, List, length, true, false, IsTrue}
 use Rattle.sv_types.specs.Policies.{rules_within}
 use Rattle.spec_processor.specs.declared.exit.Exit.{Exit}

@@ -162,7 +162,7 @@ impl Parts {
         !self.is_interrupted(hart)
     }
 
-    /// Up to so many turns of a hart, each of which carries out an instruction, and one behind them in which it leaves the
+    /// Up to so many turns of a hart, each of which carries out an instruction, and one after them in which it leaves the
     /// guest. The attempts of all are counted, and the turns of those that carry out instructions.
     #[inline(always)]
     pub fn batch(&mut self, hart: u8, most: u64) -> Batch

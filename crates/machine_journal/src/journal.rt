@@ -246,7 +246,7 @@ impl Journal {
         self.note(Note::Denied { gpa });
     }
 
-    /// What is recorded of what happens beside the answer to a call of a hart's.
+    /// What is recorded of what happens besides the answer to a call of a hart's.
     #[tactic(auto, unfolding(spec_reference::specs::Answers::journal_side_effect))]
     pub fn record(&mut self, hart: u8, side_effect: SideEffect)
         requires room { length self.old.printed < max_printed }

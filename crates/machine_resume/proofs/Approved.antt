@@ -81,7 +81,7 @@ pub guard_free : (rules : Rules) (s : Contents) → is_guarded_right rules s ≡
 unfolding is_guarded_right guard_due
 guard_free rules s right = due_some (take_pages Approved (replicate rules.ram_pages Free) (approved_of rules s)) (load_pages rules s.loading) s.protection right
 
--- text first, and modules behind it
+-- text first, and modules after it
 pub both_taken : (guard mid after : List Protection) (text modules : List ℕ) → Approves guard mid text → Approves mid after modules → Approves guard after (text ++ modules)
 both_taken guard mid after text modules first second = some_after Approved guard mid text modules first ∙ second
 
@@ -97,7 +97,7 @@ load_free rules s mid right is =
     some_due (take_pages Held mid (load_pages rules s.loading)) s.protection
     (subst (λ (x : Option (List Protection)). protections_are_due (then_held x (load_pages rules s.loading)) s.protection ≡ true) is right)
 
--- and the protections behind it are the snapshot's
+-- and the protections after it are the snapshot's
 pub guard_is : (rules : Rules) (s : Contents) (mid after : List Protection) → is_guarded_right rules s ≡ true → Approves (replicate rules.ram_pages Free) mid (approved_of rules s)
     → take_pages Held mid (load_pages rules s.loading) ≡ Some after → after ≡ s.protection
 unfolding is_guarded_right guard_due

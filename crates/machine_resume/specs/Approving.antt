@@ -11,6 +11,6 @@ CanTake protection guard pages = is_some (take_pages protection guard pages) ≡
 abbrev pub CanApprove : List Protection → List ℕ → Type 0
 CanApprove guard pages = CanTake Approved guard pages
 
--- the protections behind all of them
+-- the protections after all of them
 abbrev pub Approves : (old new : List Protection) → List ℕ → Type 0
 Approves old new pages = take_pages Approved old pages ≡ Some new

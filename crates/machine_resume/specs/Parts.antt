@@ -12,7 +12,7 @@ use Rattle.snapshot_resume.specs.ResumedStates.{resumed_state}
 use Rattle.laws_resumed_start.specs.Resuming.{hw_resumed, load_resumed}
 use Rattle.machine_resume.specs.declared.parts.ResumedParts.{ResumedParts}
 
--- RAM and protections are the snapshot's, and the tables follow these; so are the harts behind the tables, the modules with the
+-- RAM and protections are the snapshot's, and the tables follow these; so are the harts after the tables, the modules with the
 -- load whose pages are counted again, devices and records
 pub record AreResumed (rules : Rules) (s : Contents) (p : ResumedParts) : Type 0 where
   pub region : p.mem ≡ with_ram p.mem.tables s.ram

@@ -25,11 +25,11 @@ abbrev pub view_in : Mode → (entry : Option ℕ) → View
 view_in Kernel entry = kernel_view entry
 view_in User entry = View.User
 
--- an address of RAM, whose host place behind so many bytes of tables is a number of 64 bits
+-- an address of RAM, whose host place after so many bytes of tables is a number of 64 bits
 abbrev pub IsReservable : (tables address : ℕ) → Type 0
 IsReservable tables address = (ram_base ≤ address) × (tables + ram_offset address < 2 ^ 64)
 
--- its values are in their ranges, in RAM of some number of pages which ends below 2^63 where it lies behind so many bytes of
+-- its values are in their ranges, in RAM of some number of pages which ends below 2^63 where it lies after so many bytes of
 -- tables, and it may be in its entry
 pub record CanSit (tables : ℕ) (entries : Permitted) (h : SavedHart) : Type 0 where
   pub ram_pages : ℕ

@@ -43,7 +43,7 @@ fn port_of(port: PortState, disk: Vec<u8>) -> Port
     }
 }
 
-// Puts bytes of input behind those that wait.
+// Puts bytes of input after those that wait.
 fn put_input(devices: &mut Devices, input: &[u8])
     requires room { length devices.old.console + length input.now ≤ max_queued }
     ensures { devices.new ≡ record devices.old { console = devices.old.console ++ input.now } }

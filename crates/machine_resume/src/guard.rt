@@ -25,7 +25,7 @@ use sv_types::{ModulePlacement, Policy, Span};
 
 /// The guard before a load under way: the text that isn't retired and the loaded modules are approved, and all other pages are
 /// free. The snapshot is one of the policy's, in which no page is two parties', and RAM has as many pages as the policy says.
-/// `bound` has the page that each entry is bound to. Want of memory is the one refusal.
+/// `bound` has the page that each entry is bound to. Out of memory is the one refusal.
 pub fn approved_guard(
     alloc: Global,
     mem: &mut HostMem,

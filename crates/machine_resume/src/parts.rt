@@ -47,7 +47,7 @@ pub struct ResumedParts {
 }
 
 /// The parts of a machine that goes on from a snapshot that isn't refused, under a policy whose values are within their limits.
-/// `bound` has the page that each of its entries is bound to. Want of memory is the one refusal.
+/// `bound` has the page that each of its entries is bound to. Out of memory is the one refusal.
 pub fn resume_parts(
     alloc: Global,
     snapshot: Snapshot,
@@ -87,7 +87,7 @@ struct CopiedParts {
     gate: Gate,
 }
 
-// The copies, where RAM lies behind so many bytes of tables.
+// The copies, where RAM lies after so many bytes of tables.
 fn copied_parts(
     alloc: Global,
     machine: &Saved,

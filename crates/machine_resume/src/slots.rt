@@ -19,7 +19,7 @@ use spec_processor::{Mode, ram_offset};
 use spec_saved_machine::SavedHart;
 use std::alloc::{AllocError, Global};
 
-/// The harts, each on its side, where RAM lies behind so many bytes of tables. Want of memory is the one refusal.
+/// The harts, each on its side, where RAM lies after so many bytes of tables. Out of memory is the one refusal.
 pub fn slots_of(
     alloc: Global,
     entries: &Entries,

@@ -36,7 +36,7 @@ one_more test first count b before here =
     ∙ any_both test (numbers_from first count) ((first + count) ∷ [])
     ∙ or_later (list_any test (numbers_from first count)) (test (first + count)) b before here
 
--- a number that is picked stays picked with more behind
+-- a number that is picked stays picked with more after
 pub picked_stays : (test : ℕ → Bool) (first count more : ℕ) → list_any test (numbers_from first count) ≡ true → list_any test (numbers_from first (count + more)) ≡ true
 picked_stays test first zero more e = cc
 picked_stays test first (suc count) more e =

@@ -11,7 +11,7 @@ use Rattle.page_guard.specs.Guarded.{AllAre, with_span}
 use Rattle.sv_types.proofs.PageNumbers.{numbers_more}
 use Rattle.sv_types.proofs.SetElements.{set_other}
 
--- a page that is behind those that were freed is as it was
+-- a page that is after those that were freed is as it was
 freed_kept : (picks : ℕ → Protection → Bool) (guard : List Protection) (first count k : ℕ) → count ≤ k → slice_get (freed_by picks guard first count) (first + k) ≡ slice_get guard (first + k)
 unfolding freed_by
 freed_kept picks guard first zero k behind = refl

@@ -25,7 +25,7 @@ approved_where test guard page = if test then slice_set guard page Approved else
 
 -- ---- all pages
 
--- the pages behind it stay as they are
+-- the pages after it stay as they are
 pub after_kept : (test : Bool) (guard : List Protection) (page q : ℕ) → page < q → slice_get (approved_where test guard page) q ≡ slice_get guard q
 after_kept true guard page q before = set_other guard page q Approved (λ same. omega (arith, before, same))
 after_kept false guard page q before = refl

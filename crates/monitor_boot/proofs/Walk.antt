@@ -1,4 +1,4 @@
--- The pages of a segment, one after another, from the first on: each that is free gets an owner, and a skip behind them all.
+-- The pages of a segment, one after another, from the first on: each that is free gets an owner, and a skip after them all.
 use Rattle.std.proofs.Common.{◌≡◌, ℕ, ◌+◌, ◌<◌, ◌≤◌, inl, inr, Bool, true, false, List, length, get_or, set, refl, sym, ap, ◌∙◌, arith}
 use Rattle.std.specs.Prelude.{max, ◌==◌, ◌&&◌, nat_le, nat_lt, if◌then◌else◌}
 use Rattle.std.proofs.lemmas.Bool.Decides.{nat_tests}
@@ -7,7 +7,7 @@ use Rattle.std.proofs.lemmas.List.{get_or-set_same, get_or-set_other, length-set
 use Rattle.laws_processor.proofs.ByteLemmas.{lt_or_le}
 use Rattle.monitor_boot.specs.Whole.{SkipsOwned}
 
--- the pages before this one have owners; their skips may lead behind the last page of the segment already
+-- the pages before this one have owners; their skips may lead after the last page of the segment already
 pub record IsWalk (first end number : ℕ) (owners_old skips_old owners skips : List ℕ) (page : ℕ) : Type 0 where
   pub size : length owners ≡ length owners_old
   pub count : length skips ≡ length skips_old

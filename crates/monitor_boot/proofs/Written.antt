@@ -1,4 +1,4 @@
--- Bytes written one behind the other.
+-- Bytes written one after the other.
 use Rattle.std.proofs.Common.{◌≡◌, ℕ, zero, suc, ◌+◌, ◌-◌, ◌<◌, ◌≤◌, List, [], ◌∷◌, ◌++◌, refl, get_or, inl, inr, Bool, true, false, length-take, length, take, drop, sym, ◌∙◌, ap, arith, length-append, append_assoc, replicate}
 use Rattle.std.proofs.Math.Seq.{drop-append-add}
 use Rattle.std.proofs.lemmas.List.{drop-drop, take-append-drop, length-replicate, take_at}
@@ -9,7 +9,7 @@ use Rattle.spec_processor.specs.Regions.{Region}
 use Rattle.laws_processor.proofs.ByteLemmas.{lt_or_le, length_before, length_overwrite, length_padded}
 use Rattle.elf64_load.proofs.LoadedBytes.{at_before, at_written, at_after, at_padded, at_part}
 
--- what is written behind bytes that were written is written with them
+-- what is written after bytes that were written is written with them
 pub overwrite_joined : (list front rest : List ℕ) (at : ℕ) → at + (length front + length rest) ≤ length list
     → overwrite (overwrite list at front) (at + length front) rest ≡ overwrite list at (front ++ rest)
 unfolding overwrite
@@ -37,7 +37,7 @@ replicate_joined : (m n : ℕ) → ◌++◌ {A = ℕ} (replicate m 0) (replicate
 replicate_joined zero n = let e : 0 + n ≡ n = omega arith in rw e refl
 replicate_joined (suc m) n = let e : suc m + n ≡ suc (m + n) = omega arith in rw e (ap (◌∷◌ 0) (replicate_joined m n))
 
--- zeros behind zeros
+-- zeros after zeros
 pub more_zeros : (list : List ℕ) (at done next : ℕ) → at + (done + next) ≤ length list
     → overwrite (overwrite list at (replicate done 0)) (at + done) (replicate next 0) ≡ overwrite list at (replicate (done + next) 0)
 more_zeros list at done next fits =

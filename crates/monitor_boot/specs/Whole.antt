@@ -8,7 +8,7 @@ use Rattle.sv_types.specs.Kernel.{LoadedSegment, with_segment}
 abbrev pub has_byte : LoadedSegment → ℕ → Bool
 has_byte s at = nat_le (ram_offset s.gpa) at && nat_lt at (ram_offset s.gpa + s.memory)
 
--- the byte there, a zero behind the bytes of the file
+-- the byte there, a zero after the bytes of the file
 abbrev pub byte_of : LoadedSegment → ℕ → ℕ
 byte_of s at = slice_index_or s.bytes (at - ram_offset s.gpa) 0
 
@@ -34,7 +34,7 @@ pub record IsLastWhole (ss : List LoadedSegment) (n page owner : ℕ) : Type 0 w
   pub whole : 0 < owner → covers page (segment_at ss (owner - 1)) ≡ true
   pub behind : (k : ℕ) → owner ≤ k → k < n → covers page (segment_at ss k) ≡ false
 
--- the pages behind each page and before the one that its skip leads to have an owner; 0 is none
+-- the pages after each page and before the one that its skip leads to have an owner; 0 is none
 abbrev pub SkipsOwned : (owners skips : List ℕ) → Type 0
 SkipsOwned owners skips =
     (page between : ℕ) → page < between → between < slice_index_or skips page 0 → between < length owners → 0 < slice_index_or owners between 0

@@ -17,7 +17,7 @@ use host_mem::HostMem;
 use spec_processor::{PAGE_BYTES, PAGE_SIZE, ram_offset};
 use std::alloc::{AllocError, Global};
 
-/// Puts an image's segments into guest RAM, which holds zeros. Fails where memory is wanting.
+/// Puts an image's segments into guest RAM, which holds zeros. Fails where memory runs out.
 #[tactic(auto, unfolding(sv_types::specs::Kernel::segments_ram))]
 pub fn fill_ram(
     alloc: Global,
@@ -39,7 +39,7 @@ pub fn fill_ram(
     Ok(())
 }
 
-// Puts into a page the bytes that a segment has there, and zeros behind them.
+// Puts into a page the bytes that a segment has there, and zeros after them.
 fn put_piece(mem: &mut HostMem, segment: &Segment, page: usize, zeros: &Zeros)
     requires placed { IsPlaced (length mem.old.ram) (segment_of segment.now) }
     requires page { page_size * page + page_size ≤ length mem.old.ram }
@@ -56,7 +56,7 @@ fn put_piece(mem: &mut HostMem, segment: &Segment, page: usize, zeros: &Zeros)
     }
 }
 
-// Puts `count` bytes at a place in RAM: those from `from` on, with zeros behind them.
+// Puts `count` bytes at a place in RAM: those from `from` on, with zeros after them.
 fn put_part(mem: &mut HostMem, place: usize, bytes: &[u8], from: usize, count: usize, zeros: &Zeros)
     requires inside { place + count ≤ length mem.old.ram }
     requires from { from ≤ length mem.old.ram }

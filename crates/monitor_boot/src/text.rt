@@ -14,7 +14,7 @@ use page_guard::Guard;
 use std::alloc::{AllocError, Global};
 use sv_types::Span;
 
-/// Approves the pages of an image's text, where all pages are free. Fails where memory is wanting, and then changes
+/// Approves the pages of an image's text, where all pages are free. Fails where memory runs out, and then changes
 /// nothing.
 pub fn approve_text(
     alloc: Global,

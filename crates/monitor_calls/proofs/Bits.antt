@@ -8,7 +8,7 @@ first_of : (harts mask base i k : ℕ) → all_exist harts mask base i (suc k) �
 unfolding all_exist
 first_of harts mask base i k = refl
 
--- the bit at i, and those behind it
+-- the bit at i, and those after it
 pub at_bit : (harts mask base i : ℕ) → i < 64
     → all_exist harts mask base i (64 - i) ≡ (exists_one harts mask base i && all_exist harts mask base (i + 1) (64 - (i + 1)))
 at_bit harts mask base i below =

@@ -1,4 +1,4 @@
--- What happens beside an answer starts no hart, where it isn't the answer to a call of a hart's state.
+-- What happens besides an answer starts no hart, where it isn't the answer to a call of a hart's state.
 use Rattle.std.proofs.Common.{ℕ, ◌≤◌, Bool, true, false, Option, Some, None, arith}
 use Rattle.std.specs.Prelude.{if◌then◌else◌, ◌==◌, is_some, slice_get}
 use Rattle.sv_types.specs.Policies.{ModuleRule}

@@ -50,7 +50,7 @@ fn change_devices(hart: u8, devices: &mut Devices, side_effect: SideEffect)
     }
 }
 
-/// Does what an answer says, but to pages and modules: what becomes of the hart that called, and what happens beside to other
+/// Does what an answer says, but to pages and modules: what becomes of the hart that called, and what happens besides to other
 /// harts, to devices and in the journal.
 #[tactic(auto, using(crate::proofs::Starting::fewer))]
 pub fn give(

@@ -36,7 +36,7 @@ length_changed change at zero slots = refl
 length_changed change at (suc n) [] = refl
 length_changed change at (suc n) (x ∷ slots) = ap (λ k. suc k) (length_changed change (at + 1) n slots)
 
--- all hosts behind a write
+-- all hosts after a write
 pub all_forgotten : (hpa width at n : ℕ) (slots : List HartSlot) → length slots ≤ n
     → hw_harts_of (first_changed (λ h. slot_after_write hpa width) at n slots) ≡ map (forgets hpa width) (hw_harts_of slots)
 unfolding first_changed
@@ -50,7 +50,7 @@ notified_one : (b : Bool) (x : HartSlot) → hw_at (if b then slot_with_software
 notified_one true x = refl
 notified_one false x = refl
 
--- all hosts behind an interrupt
+-- all hosts after an interrupt
 pub all_notified : (named : ℕ → Bool) (at n : ℕ) (slots : List HartSlot) → length slots ≤ n
     → hw_harts_of (first_changed (notified_by named) at n slots) ≡ interrupted_hw_harts named at (hw_harts_of slots)
 unfolding first_changed interrupted_hw_harts

@@ -1,4 +1,4 @@
--- A slot behind a write, and behind an interrupt, and the first ones of a list changed. This project's own.
+-- A slot after a write, and after an interrupt, and the first ones of a list changed. This project's own.
 use Rattle.std.specs.Prelude.{ℕ, zero, suc, ◌+◌, Bool, List, [], ◌∷◌, if◌then◌else◌}
 use Rattle.spec_processor.specs.Requests.{after_write}
 use Rattle.spec_processor.specs.HypervisorRegisters.{virtual_software_bit}

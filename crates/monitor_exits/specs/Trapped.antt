@@ -15,7 +15,7 @@ in_handler hart from interrupt cause tval = record hart {
   };
 }
 
--- behind its return
+-- after its return
 abbrev pub back_from_handler : Hart → Hart
 back_from_handler hart = record hart {
   core = record hart.core { pc = hart.core.csrs.vsepc; csrs = registers_at_return hart.core.csrs; reservation = None };

@@ -88,7 +88,7 @@ fn return_privilege(privilege: &mut PrivilegeView, to: Mode)
     }
 }
 
-// The hart behind its return from a trap, and the mode that it returns to.
+// The hart after its return from a trap, and the mode that it returns to.
 fn leave_handler(hart: &mut Hart) -> Mode
     ensures hart { hart.new ≡ back_from_handler hart.old }
     ensures mode { result ≡ mode_at_return hart.old.core.csrs.vsstatus }

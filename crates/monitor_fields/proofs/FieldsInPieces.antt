@@ -24,7 +24,7 @@ unfoldable behind : ℕ → List Site → List Site
 behind first [] = []
 behind first (site ∷ sites) = if nat_le first site.offset then site_from first site ∷ behind first sites else behind first sites
 
--- what lies behind a part lies behind its start, and not in it
+-- what lies after a part lies after its start, and not in it
 past : (first size offset : ℕ) (p q : Bool) → nat_le first offset ≡ p → nat_lt (offset - first) size ≡ q → nat_le (first + size) offset ≡ (p && not q)
 past first size offset true true e f = grind (arith, nat_tests)
 past first size offset true false e f = grind (arith, nat_tests)

@@ -8,7 +8,7 @@ use Rattle.spec_reference.specs.Relocations.{masked_text, fields_right}
 use Rattle.monitor_fields.specs.Pieces.{piece_sites, IsAligned}
 use Rattle.spec_processor.specs.Bytes.{page_size}
 
--- a text in pieces of whole pages, one behind the other, and sites whose fields begin in it, each at a multiple of its bytes
+-- a text in pieces of whole pages, one after the other, and sites whose fields begin in it, each at a multiple of its bytes
 pub record IsCut (pieces : List (List ℕ)) (sites : List Site) : Type 0 where
   pub pages : All (λ piece. length piece % page_size ≡ 0) pieces
   pub aligned : All IsAligned sites
@@ -26,7 +26,7 @@ right_from exports bases first [] sites = true
 right_from exports bases first (piece ∷ pieces) sites =
     fields_right exports bases (piece_sites first (length piece) sites) piece && right_from exports bases (first + length piece) pieces sites
 
--- the cleared pieces, one behind the other, are the cleared text
+-- the cleared pieces, one after the other, are the cleared text
 abbrev pub MaskLaw : Type 0
 MaskLaw = (pieces : List (List ℕ)) (sites : List Site) → IsCut pieces sites → concat (cleared_from 0 pieces sites) ≡ masked_text (concat pieces) sites
 

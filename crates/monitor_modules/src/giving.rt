@@ -74,7 +74,7 @@ fn release_load(guard: &mut Guard, mem: &mut HostMem, modules: &mut Modules)
     load.release(&mut modules.gate, guard, mem);
 }
 
-/// Does to pages and modules what happens beside a reply. It is what a call, or the end of the load under way, is answered.
+/// Does to pages and modules what happens besides a reply. It is what a call, or the end of the load under way, is answered.
 /// Says whether it set protections.
 #[tactic(auto, unfolding(spec_hardware::specs::HwCalls::hw_pages_side_effect, crate::specs::Changes::sets_protections))]
 pub fn give_pages(

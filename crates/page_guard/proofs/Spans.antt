@@ -60,7 +60,7 @@ found_more test first count none =
     ∙ find-append test (numbers_from first count) ((first + count) ∷ [])
     ∙ ap (λ (o : Option ℕ). option_or o (find test ((first + count) ∷ []))) none
 
--- a page that is found stays found with more pages behind
+-- a page that is found stays found with more pages after
 pub found_stays : (test : ℕ → Bool) (first count more page : ℕ) → find test (numbers_from first count) ≡ Some page
     → find test (numbers_from first (count + more)) ≡ Some page
 found_stays test first count zero page found =

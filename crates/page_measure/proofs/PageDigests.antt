@@ -15,7 +15,7 @@ one_page_more (suc n) bytes =
     ap (λ (ds : List (List ℕ)). page_digest (take page_size bytes) ∷ ds)
     (step ∙ ap (λ (rest : List ℕ). page_digests n (drop page_size bytes) ++ page_digest (take page_size rest) ∷ []) place)
 
--- whole pages, and more behind them
+-- whole pages, and more after them
 pub more_pages : (n m : ℕ) (pages more : List ℕ) → length pages ≡ page_size * n →
     page_digests (n + m) (pages ++ more) ≡ page_digests n pages ++ page_digests m more
 more_pages zero m [] more whole = ap (λ (n : ℕ). page_digests n more) (omega arith)

@@ -1,4 +1,4 @@
-//! The measure of whole pages: the SHA-256 of the pages' SHA-256 digests, one behind the other. Chunks of 64 pages are
+//! The measure of whole pages: the SHA-256 of the pages' SHA-256 digests, one after the other. Chunks of 64 pages are
 //! digested side by side, each in a thread of its own where one can be made.
 #![tactic(auto)]
 
@@ -22,8 +22,8 @@ const CHUNK_PAGES: usize = 64;
 
 const CHUNK_BYTES: usize = CHUNK_PAGES * PAGE_SIZE;
 
-/// The measure of pages, which lie one behind the other. The meter sees each chunk of 64 pages, of which the last may be
-/// shorter. Want of memory is the one refusal.
+/// The measure of pages, which lie one after the other. The meter sees each chunk of 64 pages, of which the last may be
+/// shorter. Out of memory is the one refusal.
 pub fn measure<R: Threads + Sync, M: Meter + Sync>(
     rt: &R,
     alloc: Global,

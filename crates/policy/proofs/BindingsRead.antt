@@ -13,7 +13,7 @@ use Rattle.policy.proofs.Judging.{bind_ok, after, ok_same, limited_ok}
 use Rattle.policy.proofs.ReadLists.{each_within_read}
 use Rattle.policy_limits.specs.declared.policy_fault.PolicyFault.{PolicyFault}
 
--- a binding beside those before it
+-- a binding alongside those before it
 abbrev pub binding_within : ℕ → List Binding → Binding → Bool
 binding_within ram_pages before b = entry_within b.va && bound_fits ram_pages b.va b.gpa && not (is_bound b.va before)
 

@@ -1,4 +1,4 @@
--- Exports that are read beside the names of those before them.
+-- Exports that are read alongside the names of those before them.
 use Rattle.std.proofs.Common.{◌≡◌, ℕ, Bool, true, false, ◌||◌, List, [], ◌∷◌, ◌++◌, String, Global, string_bytes, refl, sym, ◌∙◌, ap, Ok, if◌then◌else◌}
 use Rattle.std.specs.Str.{bytes_eq}
 use Rattle.std.specs.BTreeSet.{BTreeSet, UpdatesBy}

@@ -32,7 +32,7 @@ is_bound va before = list_any (λ b. b.va == va) before
 abbrev pub unrepeated_entry : List Binding → Binding → Judged Binding
 unrepeated_entry before b = if is_bound b.va before then Err PolicyFault.RepeatedEntry else Ok b
 
--- the entry, its address, the two together, and beside those before it
+-- the entry, its address, the two together, and alongside those before it
 unfoldable pub binding_of_two : ℕ → List Binding → Data → Data → Judged Binding
 binding_of_two ram_pages before va gpa = do
   va_read ← entry_of va

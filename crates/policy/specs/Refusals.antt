@@ -1,4 +1,4 @@
--- Why a policy is refused: its first fault, or want of memory.
+-- Why a policy is refused: its first fault, or out of memory.
 use Rattle.std.specs.Prelude.{◌≡◌, ◌≢◌, Result, Ok, Err}
 use Rattle.policy_limits.specs.declared.policy_fault.PolicyFault.{PolicyFault}
 use Rattle.policy.specs.declared.refusal.PolicyRefusal.{PolicyRefusal}
@@ -13,7 +13,7 @@ abbrev pub as_answer : {A : Type 0} → Judged A → Result A PolicyRefusal
 as_answer (Ok a) = Ok a
 as_answer (Err fault) = Err (Fault fault)
 
--- this is why, unless it is want of memory
+-- this is why, unless it is out of memory
 abbrev pub Refuses : {A : Type 0} → Judged A → PolicyRefusal → Type 0
 Refuses judged refusal = refusal ≢ Memory → as_answer judged ≡ Err refusal
 

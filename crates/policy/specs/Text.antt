@@ -118,7 +118,7 @@ kernel_of members = required_member (codes "kernel") members >>= members_in >>= 
 
 -- ---- modules
 
--- a site that stands behind those before it
+-- a site that stands after those before it
 abbrev pub in_order : List Site → Site → Judged Site
 in_order before site = if is_after before site then Ok site else Err PolicyFault.NotAscending
 
@@ -159,7 +159,7 @@ site_of pages exports before d = items_in d >>= site_of_items pages exports befo
 abbrev pub each_site : ℕ → ℕ → List Site → Items → Judged (List Site)
 each_site pages exports = each_item (site_of pages exports)
 
--- the sites of a module of so many pages, beside so many exports and so many sites of the modules before it
+-- the sites of a module of so many pages, alongside so many exports and so many sites of the modules before it
 abbrev pub sites_in : ℕ → ℕ → ℕ → Data → Judged (List Site)
 sites_in pages exports before d = items_in d >>= λ items. if_within_limit (sites_count_within before (items_length items)) items >>= each_site pages exports []
 
@@ -231,7 +231,7 @@ kernel_rule ram_pages members = do
   init ← init_of ram_pages (get_member (codes "init") kernel)
   Ok (measure, init)
 
--- behind the entries
+-- after the entries
 unfoldable pub rules_after : (format harts ram_pages : ℕ) → List ℕ × List ℕ → Members → Judged Rules
 rules_after format harts ram_pages entries known = do
   exports ← exports_of (get_member (codes "exports") known)

@@ -69,7 +69,7 @@ abbrev pub items_length : Items → ℕ
 items_length no_items = 0
 items_length (item d items) = suc (items_length items)
 
--- each item is judged beside those before it
+-- each item is judged alongside those before it
 abbrev pub each_item : {A : Type 0} → (List A → Data → Judged A) → List A → Items → Judged (List A)
 each_item judged before no_items = Ok before
 each_item judged before (item d items) = judged before d >>= λ a. each_item judged (before ++ a ∷ []) items

@@ -2,7 +2,7 @@
 
 use crate::refusal::PolicyRefusal;
 
-/// Whether it is a refusal, and no want of memory.
+/// Whether it is a refusal, and no lack of memory.
 pub(crate) fn refuses<T: Drop>(judged: &Result<T, PolicyRefusal>) -> bool {
     match judged {
         Err(PolicyRefusal::Fault(_)) => true,

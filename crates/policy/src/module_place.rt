@@ -14,7 +14,7 @@ use std::alloc::{AllocError, Global};
 use sv_types::ModulePolicy;
 use toml::{Table, Value};
 
-/// Where the modules are refused, beside so many exports. None where they aren't.
+/// Where the modules are refused, alongside so many exports. None where they aren't.
 pub(crate) fn modules_place(
     alloc: Global,
     exports: usize,

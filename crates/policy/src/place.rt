@@ -15,7 +15,7 @@ use toml::de::Error;
 use toml::{Table, Value};
 
 /// Where a text is refused, for a person: the line and column where it isn't TOML, and else the key, as
-/// `key module[3].pages`, whose items are counted from 0. None where it isn't refused. Fails where memory is wanting.
+/// `key module[3].pages`, whose items are counted from 0. None where it isn't refused. Fails where memory runs out.
 pub fn refused_place(alloc: Global, bytes: &[u8]) -> Result<Option<String>, AllocError> {
     let Ok(text) = str::from_utf8(bytes) else {
         return Ok(None);
@@ -54,7 +54,7 @@ fn table_place(alloc: Global, table: &Table) -> Result<Option<String>, AllocErro
     lists_place(alloc, ram_pages, table)
 }
 
-// Behind the entries.
+// After the entries.
 fn lists_place(alloc: Global, ram_pages: u32, table: &Table) -> Result<Option<String>, AllocError> {
     let exports = match exports(alloc, optional(table, "exports")) {
         Ok(exports) => exports.len(),

@@ -278,7 +278,7 @@ fn text(alloc: Global, policy: &Policy) -> Result<String, AllocError>
 }
 
 /// Prints a policy as a text, whose table has the policy's values under their keys, and which is read as that policy.
-/// Fails for want of memory alone.
+/// Fails when out of memory alone.
 #[tactic(auto, using(crate::proofs::BindingsBack::binds_of_rules))]
 pub fn write(alloc: Global, policy: &Policy) -> Result<Vec<u8>, AllocError>
     requires { limits.rules_within (limits.rules_of policy.now) ≡ true }

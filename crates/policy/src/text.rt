@@ -92,7 +92,7 @@ fn kernel_rule(ram_pages: u32, table: &Table) -> Result<(Digest, Option<Span>), 
     Ok((measure, init))
 }
 
-// A policy, of what stands behind its entries.
+// A policy, of what stands after its entries.
 #[tactic(auto, unfolding(crate::specs::Text::rules_after), using(crate::proofs::Judging::refused_on))]
 fn read_after(
     alloc: Global,
@@ -157,7 +157,7 @@ fn table(alloc: Global, bytes: &[u8]) -> Result<Table, PolicyRefusal>
 }
 
 /// Reads a policy's text. `Ok` exactly for the texts within the format, and else the first refusal in its order, but
-/// for want of memory, which comes only where the bytes are UTF-8. A policy that is read is within the limits.
+/// when out of memory, which comes only where the bytes are UTF-8. A policy that is read is within the limits.
 #[tactic(auto, using(crate::proofs::Judging::refused_on))]
 pub fn read(alloc: Global, bytes: &[u8]) -> Result<Policy, PolicyRefusal>
     ensures ok { IfOk result (λ policy. spec.rules_of_text bytes.now ≡ Ok (rules_of policy)) }

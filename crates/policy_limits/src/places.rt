@@ -48,7 +48,7 @@ pub fn is_anchor(pages: u32, kind: RelocationKind, offset: u32, anchor: u64) -> 
     is_place(pages, anchor) && (is_low_part(kind) || anchor == u64::from(offset))
 }
 
-/// The byte behind a site's field.
+/// The byte after a site's field.
 pub fn field_end(site: &Site) -> u64
     ensures { result ≡ limits.field_end site.now }
 {
@@ -64,7 +64,7 @@ fn end(sites: &[Site]) -> u64
     }
 }
 
-/// The site begins behind the fields of the sites before it.
+/// The site begins after the fields of the sites before it.
 pub fn is_after(before: &[Site], site: &Site) -> bool
     ensures { result ≡ limits.is_after before.now site.now }
 {

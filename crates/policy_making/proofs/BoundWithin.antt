@@ -182,7 +182,7 @@ of_within : (r : Rules) (ss : List LoadedSegment) (made : Rules) → All (IsInRa
 of_within r ss made all within of =
     subst (λ (x : Rules). rules_within x ≡ true) (sym of.is) (with_places_within r ss of.places all (limits r within) of.bound)
 
--- behind the judgements of the format and of the measure
+-- after the judgements of the format and of the measure
 pub measured_within : (r : Rules) (ss : List LoadedSegment) (made : Rules) (digest : List ℕ) → All (IsInRam r.ram_pages) ss → rules_within r ≡ true
     → measured_bound r ss digest ≡ Ok made → rules_within made ≡ true
 measured_within r ss made digest all within e = of_within r ss made all within (made_measured r ss made digest e)

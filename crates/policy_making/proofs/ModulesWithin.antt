@@ -8,7 +8,7 @@ use Rattle.std.proofs.lemmas.List.Sums.{sum_by-cons}
 use Rattle.sv_types.specs.Policies.{ModuleRule, modules_within, module_within, module_pages_within, sites_count_within, sites_within, sites_of, is_module, each_within}
 use Rattle.sv_types.proofs.PolicyLimits.{sites_of_more}
 
--- a module's own values, beside so many exports
+-- a module's own values, alongside so many exports
 abbrev pub is_within : ℕ → ModuleRule → Bool
 is_within exports m = module_pages_within m.pages && sites_count_within 0 (length m.sites) && sites_within m.pages exports m.sites
 

@@ -70,7 +70,7 @@ with_places r entries places = record r { format = bound_format; entries = entri
 unfoldable pub entries_bound : Rules → List LoadedSegment → Judged Rules
 entries_bound r ss = bound_places ss (each_once r.entries) >>= λ places. Ok (with_places r (each_once r.entries) places)
 
--- behind the format
+-- after the format
 unfoldable pub measured_bound : Rules → List LoadedSegment → (digest : List ℕ) → Judged Rules
 measured_bound r ss digest = if bytes_eq digest r.kernel then entries_bound r ss else Err (Measure digest r.kernel)
 

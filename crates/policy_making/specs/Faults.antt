@@ -1,4 +1,4 @@
--- Why a policy's entries aren't bound: the first fault, or want of memory.
+-- Why a policy's entries aren't bound: the first fault, or out of memory.
 use Rattle.std.specs.Prelude.{◌≡◌, ◌≢◌, ℕ, Result, Ok, Err}
 use Rattle.policy_making.specs.declared.bind_fault.ConvertFault.{ConvertFault}
 use Rattle.policy_making.specs.declared.bind_fault.ConvertFault.TheVariants.{OtherFormat, NoPlace, OtherByte}
@@ -21,6 +21,6 @@ abbrev pub as_answer : {A : Type 0} → Judged A → Result A BindRefusal
 as_answer (Ok a) = Ok a
 as_answer (Err fault) = Err (Fault fault)
 
--- this is why, unless it is want of memory
+-- this is why, unless it is out of memory
 abbrev pub Refuses : {A : Type 0} → Judged A → BindRefusal → Type 0
 Refuses judged refusal = refusal ≢ Memory → as_answer judged ≡ Err refusal

@@ -35,7 +35,7 @@ file_of o = record { name = o.name; bytes = o.bytes.items }
 abbrev pub file_names : List ModuleFile → List (List ℕ)
 file_names objects = map (λ object. object.name) objects
 
--- what a policy says beside its files
+-- what a policy says besides its files
 pub record Terms : Type 0 where
   pub harts : ℕ
   pub ram_pages : ℕ
@@ -57,7 +57,7 @@ kernel_digest kernel ram_pages = digest_after (kernel_refusal kernel ram_pages) 
 
 -- ---- wanted names
 
--- those of an object stand behind those of the objects before it
+-- those of an object stand after those of the objects before it
 unfoldable pub names_with : List (List ℕ) → List ℕ → Judged (List (List ℕ))
 names_with names object = in_module (names_judged object) >>= λ wanted. Ok (names ++ wanted)
 
@@ -117,7 +117,7 @@ few_sites modules = nat_le (sites_of modules) max_sites
 abbrev pub if_few_sites : Rules → Judged Rules
 if_few_sites r = if few_sites r.modules then Ok r else Err TooManySites
 
--- the stages behind those of the kernel and of the wanted names
+-- the stages after those of the kernel and of the wanted names
 unfoldable pub policy_after : Terms → (kernel digest : List ℕ) → List (List ℕ) → List ModuleFile → Judged Rules
 policy_after s kernel digest names objects =
     exports_wanted kernel names >>= λ exports. modules_made exports objects >>= λ modules.

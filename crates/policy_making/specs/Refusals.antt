@@ -1,4 +1,4 @@
--- Why no policy is made: the first fault of the kernel, of an object or of the policy, or want of memory.
+-- Why no policy is made: the first fault of the kernel, of an object or of the policy, or out of memory.
 use Rattle.std.specs.Prelude.{◌≡◌, ◌≢◌, Result, Ok, Err}
 use Rattle.sv_types.specs.declared.image_fault.ImageFault.{ImageFault}
 use Rattle.elf64_load.specs.declared.read.ElfRefusal.{ElfRefusal}
@@ -38,6 +38,6 @@ abbrev pub as_answer : {A : Type 0} → Judged A → Result A MakingRefusal
 as_answer (Ok a) = Ok a
 as_answer (Err fault) = Err (Fault fault)
 
--- this is why, unless it is want of memory
+-- this is why, unless it is out of memory
 abbrev pub Refuses : {A : Type 0} → Judged A → MakingRefusal → Type 0
 Refuses judged refusal = refusal ≢ Memory → as_answer judged ≡ Err refusal

@@ -11,7 +11,7 @@ use crate::places::bound_place;
 use elf64_load::Segment;
 use std::alloc::{AllocError, Global};
 
-// Puts an entry behind those before it, if it isn't one of them.
+// Puts an entry after those before it, if it isn't one of them.
 fn put_entry(entries: &mut Vec<u64>, entry: u64) -> Result<(), AllocError>
     ensures { OnOk result (entries.new.items ≡ spec.with_entry entries.old.items entry) }
 {
@@ -21,7 +21,7 @@ fn put_entry(entries: &mut Vec<u64>, entry: u64) -> Result<(), AllocError>
     Ok(entries.push(entry)?)
 }
 
-/// Each entry once, where it stands first. Fails where memory is wanting.
+/// Each entry once, where it stands first. Fails where memory runs out.
 #[tactic(auto, unfolding(crate::specs::Binding::each_once))]
 pub(crate) fn each_once(alloc: Global, entries: &[u64]) -> Result<Vec<u64>, AllocError>
     ensures { IfOk result (λ once. once.items ≡ spec.each_once entries.now) }
@@ -33,7 +33,7 @@ pub(crate) fn each_once(alloc: Global, entries: &[u64]) -> Result<Vec<u64>, Allo
     Ok(once)
 }
 
-/// The places of entries, in order. Refuses the first that isn't bound, and for want of memory.
+/// The places of entries, in order. Refuses the first that isn't bound, and when out of memory.
 pub(crate) fn bound_places(
     alloc: Global,
     segments: &[Segment],

@@ -54,7 +54,7 @@ fn bind_measured(
 
 /// A policy of format 1 with each entry, once, bound to its place in the kernel's text, in format 2 and else as it was.
 /// Refuses a policy of another format, then a kernel whose text measures to another digest than the policy's, then the
-/// first entry without a place or with one at another byte of its page; and for want of memory. A policy within its limits
+/// first entry without a place or with one at another byte of its page; and when out of memory. A policy within its limits
 /// stays so.
 #[tactic(auto, unfolding(crate::specs::Binding::bound_rules))]
 pub fn bind<R: Threads + Sync>(

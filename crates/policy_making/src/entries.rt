@@ -45,7 +45,7 @@ fn address_or_zero(part: &str) -> u64
     address_of(part).unwrap_or(0)
 }
 
-/// The addresses of a word, 0 for a part that is none. Fails where memory is wanting.
+/// The addresses of a word, 0 for a part that is none. Fails where memory runs out.
 pub fn entries_of(alloc: Global, word: &str) -> Result<Vec<u64>, AllocError>
     ensures { IfOk result (λ entries. entries.items ≡ spec.entries_of word.now) }
 {

@@ -26,7 +26,7 @@ fn exports_for(alloc: Global, kernel: &[u8], names: &[Name]) -> Result<Vec<Expor
 }
 
 /// The exports of the kernel that modules want, each once, in the order of their names' bytes. Where a name is wanted the
-/// image is refused for its header, for its symbols, and for want of memory.
+/// image is refused for its header, for its symbols, and when out of memory.
 #[tactic(auto, using(crate::proofs::FewExports::few_exports))]
 pub fn wanted_exports(
     alloc: Global,

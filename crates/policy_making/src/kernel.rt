@@ -14,7 +14,7 @@ use std::alloc::{AllocError, Global};
 use std::thread::Threads;
 use sv_types::Digest;
 
-/// The digest of a kernel that was read: the measure of its text. Fails where memory is wanting.
+/// The digest of a kernel that was read: the measure of its text. Fails where memory runs out.
 #[tactic(auto, using(crate::proofs::WholePages::text_is_whole))]
 pub fn text_digest<R: Threads + Sync>(
     rt: &R,
@@ -31,7 +31,7 @@ pub fn text_digest<R: Threads + Sync>(
 }
 
 /// The digest of a kernel for a machine of so many pages of RAM: the measure of its text. Refuses an image for its first
-/// fault, and for want of memory.
+/// fault, and when out of memory.
 #[tactic(auto, unfolding(crate::specs::Making::kernel_digest), using(crate::proofs::Refused::image_refused))]
 pub fn kernel_digest<R: Threads + Sync>(
     rt: &R,

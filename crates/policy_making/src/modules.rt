@@ -81,7 +81,7 @@ fn made_module<R: Threads + Sync>(
 
 /// What a policy with these exports says of modules, in the order of their objects: of each its name, its pages, its fields
 /// that relocations change, and the measure of its text with these cleared. Refuses an object for its first fault, and for
-/// want of memory.
+/// out of memory.
 pub fn made_modules<R: Threads + Sync>(
     rt: &R,
     alloc: Global,

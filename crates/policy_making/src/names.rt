@@ -14,8 +14,8 @@ use std::alloc::{AllocError, Global};
 use std::collections::BTreeMap;
 use sv_types::Name;
 
-/// Puts the names that an object wants behind those of the objects before it. Refuses an object for a fault of its header,
-/// its sections, its symbols or a name, and for want of memory; then the names stay as they were.
+/// Puts the names that an object wants after those of the objects before it. Refuses an object for a fault of its header,
+/// its sections, its symbols or a name, and when out of memory; then the names stay as they were.
 #[tactic(auto, unfolding(crate::specs::Making::names_with), using(crate::proofs::Refused::object_refused))]
 pub fn want_names(alloc: Global, names: &mut Vec<Name>, object: &[u8]) -> Result<(), MakingRefusal>
     ensures names { OnOk result (spec.names_with names.old.items object.now ≡ Ok names.new.items) }
@@ -41,7 +41,7 @@ fn put_name<'a>(once: &mut BTreeMap<&'a str, Name>, name: &'a Name) -> Result<()
     }
 }
 
-/// The names, each once, in the order of their bytes. Fails where memory is wanting.
+/// The names, each once, in the order of their bytes. Fails where memory runs out.
 pub(crate) fn each_once(alloc: Global, names: &[Name]) -> Result<Vec<Name>, AllocError>
     ensures { IfOk result (λ once. once.items ≡ spec.each_once names.now) }
 {

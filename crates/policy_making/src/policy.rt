@@ -16,7 +16,7 @@ use std::alloc::Global;
 use std::thread::Threads;
 use sv_types::{Digest, ModulePolicy, Name, PLAIN_FORMAT, Policy, Span};
 
-/// What a policy says beside its files.
+/// What a policy says besides its files.
 #[derive(Drop)]
 pub struct Settings {
     pub harts: u8,
@@ -51,7 +51,7 @@ fn if_few_sites(policy: Policy) -> Result<Policy, MakingRefusal>
 }
 
 /// The policy of a kernel whose digest is known, and of modules, of which these names are wanted. Refuses the exports, the
-/// objects and more than 131,072 sites of all modules, and for want of memory. Where the settings are in their ranges and
+/// objects and more than 131,072 sites of all modules, and when out of memory. Where the settings are in their ranges and
 /// the objects have names of modules, the policy is within its limits. Each parameter comes of a word or a file of its own.
 #[tactic(auto, unfolding(crate::specs::Making::policy_after), using(crate::proofs::Refused::refused_on))]
 pub fn policy_after<R: Threads + Sync>(

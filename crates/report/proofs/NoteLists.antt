@@ -14,7 +14,7 @@ note_lines_more : (notes : List Note) (i : ℕ) (d : Note) → i < length notes 
     note_lines (take (i + 1) notes) ≡ note_lines (take i notes) ++ note_line (slice_index_or notes i d)
 note_lines_more notes i d inside = ap note_lines (take_more notes i d inside) ∙ note_lines_after (take i notes) (slice_index_or notes i d)
 
--- one note's line more behind the lines so far
+-- one note's line more after the lines so far
 pub line_pushed : (notes : List Note) (i : ℕ) (d : Note) (first before after text line : List ℕ) → i < length notes →
     before ≡ first ++ note_lines (take i notes) → after ≡ before ++ text → text ≡ line → line ≡ note_line (slice_index_or notes i d) →
     after ≡ first ++ note_lines (take (i + 1) notes)

@@ -1,4 +1,4 @@
-//! What stands behind a run's console: a line for each note, the counts, and the verdict with its status.
+//! What stands after a run's console: a line for each note, the counts, and the verdict with its status.
 #![tactic(auto)]
 
 mod counts;

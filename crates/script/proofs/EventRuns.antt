@@ -63,7 +63,7 @@ draws_after : (n : ℕ) (event : Event) (old mid new : Schedule) → Some event 
 draws_after zero event old mid new is behind same = (old, (refl, (is, same ∙ behind)))
 draws_after (suc n) event old mid new is behind (last, (drawn, next)) = (last, (draws_after n event old mid last is behind drawn, next))
 
--- an event, and the same one drawn so often behind it
+-- an event, and the same one drawn so often after it
 pub drawn_again : (n : ℕ) (event : Event) (old mid new : Schedule) → Some event ≡ next_event old → mid ≡ after_event old → Draws n event mid new → Draws (n + 1) event old new
 drawn_again n event old mid new is behind drawn =
     subst (λ (k : ℕ). Draws k event old new) (sym (add-one n)) (draws_after n event old mid new is behind drawn)

@@ -6,7 +6,7 @@ use Rattle.script.specs.declared.event_run.EventRun.{EventRun}
 use Rattle.script.specs.declared.said.Said.{Said}
 use Rattle.script.specs.declared.said.Said.TheVariants.{This, Drawn}
 
--- the first events of a schedule are those of a run, and behind them stand those of the schedule that is left
+-- the first events of a schedule are those of a run, and after them stand those of the schedule that is left
 abbrev pub BeginsWith : (old : Schedule) → EventRun → (new : Schedule) → Type 0
 BeginsWith old run new = (later : ℕ) → first_events (run.count + later) old ≡ replicate run.count run.event ++ first_events later new
 

@@ -14,7 +14,7 @@ pub trait EventSource {
     // what is still to come
     ghost schedule: { Self → Schedule };
 
-    /// The next event and those behind it that are the same, at most `most`, which leave the source. None exactly at the end.
+    /// The next event and those after it that are the same, at most `most`, which leave the source. None exactly at the end.
     fn draw(&mut self, most: u64) -> Option<EventRun>
         requires { 0 < most }
         ensures event { option_map (λ run. run.event) result ≡ next_event (schedule self.old) }

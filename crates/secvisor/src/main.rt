@@ -21,7 +21,7 @@ use std::io::{ErrorKind, IsTerminal};
 use std::process::ExitCode;
 use std::thread::Threads;
 
-// Every end has its status, want of memory before the program is called too.
+// Every end has its status, out of memory before the program is called too.
 fn main(rt: HostRuntime) -> ExitCode {
     let Ok(words) = words(&rt) else {
         return ExitCode::from(Status::Memory.number());
@@ -80,7 +80,7 @@ fn explain<R: Threads + Sync>(rt: &HostRuntime, threads: &R, words: &[String], s
     }
 }
 
-// The words behind the program's name. Where one is no UTF-8 text they are none, which are of no command. It is
+// The words after the program's name. Where one is no UTF-8 text they are none, which are of no command. It is
 // out of line for where that lays the loop over the events (docs/SPEED.md).
 #[inline(never)]
 fn words(rt: &HostRuntime) -> Result<Vec<String>, AllocError> {

@@ -133,7 +133,7 @@ ran_writes first start m events old mid new (Err e) ran w =
       memory = λ is. w.memory is ∙ ap (λ (k : SinkState). k.faults) ran.taken;
     }
 
--- a write that failed, and want of memory before any
+-- a write that failed, and out of memory before any
 pub broken_writes : (due : Status) (bytes : List ℕ) (old new : SinkState) → TookPrefix old new bytes → old.faults < new.faults → Writes due bytes old new (Err Write)
 broken_writes due bytes old new prefix rose = record {
   status = tt;
@@ -154,7 +154,7 @@ wanting_writes due bytes sink = record {
   memory = λ _. refl;
 }
 
--- a run's end under another word for want of memory
+-- a run's end under another word when out of memory
 pub runs_under : (P Q : Type 0) (start : State) (events : List Event) (m : Machine) (old new : SinkState) → (Q → P) → RunsTo P start events m old new → RunsTo Q start events m old new
 runs_under P Q start events m old new back r = record {
   done = r.done;
@@ -168,7 +168,7 @@ runs_under P Q start events m old new back r = record {
   quiet = λ q. r.quiet (back q);
 }
 
--- the status of a run is neither a write fault nor want of memory
+-- the status of a run is neither a write fault nor out of memory
 pub run_is_answer : (v : Verdict) → IsTrue (is_answer (run_status v))
 run_is_answer Running = refl
 run_is_answer Shutdown = refl

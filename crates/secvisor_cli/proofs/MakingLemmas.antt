@@ -141,14 +141,14 @@ unfolding module_part
 module_unread name before old now stop it = λ next.
     made_unread Part.Module name max_object_bytes (names_with before.names) (λ f n. next (with_module before name f n)) old now stop it
 
--- the module's object behind those before it
+-- the module's object after those before it
 pub files_with : (objects : List ObjectFile) (o : ObjectFile) → map file_of (objects ++ o ∷ []) ≡ map file_of objects ++ file_of o ∷ []
 files_with [] o = refl
 files_with (x ∷ xs) o = ap (λ (fs : List ModuleFile). file_of x ∷ fs) (files_with xs o)
 
 -- ---- the modules
 
--- from one stage the plan goes on at another, whatever stands behind both
+-- from one stage the plan goes on at another, whatever stands after both
 pub record GoesOn {A : Type 0} (from to : (A → Plan) → Plan) (old now : FilesState) : Type 0 where
   pub follows : (next : A → Plan) (last : FilesState) (reached : Option Due) → Follows (to next) now last reached → Follows (from next) old last reached
   pub may : (next : A → Plan) → MayFollow (from next) old → MayFollow (to next) now

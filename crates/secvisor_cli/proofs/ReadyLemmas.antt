@@ -53,7 +53,7 @@ judge_ready plan old new result p = record { reached = p.reached; follows = inr 
 pub judge_wants : (plan : Plan) (files : FilesState) → Prepares (Judge plan) files files (Err Memory)
 judge_wants plan files = record { reached = None; follows = inl (refl, refl); ready = refl }
 
--- what is due is made ready, for which memory may be wanting
+-- what is due is made ready, for which memory may run out
 pub judge_end : (due : Due) (files : FilesState) (result : Result Ready Stop) → IsReady due result → Prepares (Judge (End due)) files files result
 judge_end due files (Ok ready) it = judge_ready (End due) files files (Ok ready) (end_ready due files (Ok ready) it)
 judge_end due files (Err (Refused refusal)) it = judge_ready (End due) files files (Err (Refused refusal)) (end_ready due files (Err (Refused refusal)) it)
@@ -152,7 +152,7 @@ pub booted_ready : (pages wanted : List ℕ) (events : List Event) (result : Res
     IsReady (measure_judged pages wanted events) result
 booted_ready pages wanted events result same ready = subst (λ (d : Due). IsReady d result) (sym (measured_run pages wanted events same)) ready
 
--- the boot is refused, or memory was wanting
+-- the boot is refused, or memory ran out
 boot_wants : (pages wanted : List ℕ) (events : List Event) → IsReady (measure_judged pages wanted events) (Err Memory)
 unfolding measure_judged
 boot_wants pages wanted events =

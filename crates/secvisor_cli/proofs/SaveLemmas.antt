@@ -109,7 +109,7 @@ saved_err None old new status trouble it = absurd it
 saved_err (Some s) old new status Write it = inr (it, refl)
 saved_err (Some s) old new status Memory it = absurd it
 
--- a save never wants memory
+-- a save never runs out of memory
 pub save_wants_none : (asked : Option Saving) (old new : FilesState) (status : Status) (trouble : Trouble) → SavedAfter asked old new (Ok status) (Err trouble) → IsErrOf {T = Status} (Err trouble) Memory → ⊥
 save_wants_none None old new status trouble it wanting = cc it.1
 save_wants_none (Some s) old new status trouble (inl it) wanting = cc it.1

@@ -35,7 +35,7 @@ use Rattle.secvisor_cli.proofs.ReadyLemmas.{end_ready, judge_ready, judge_wants,
 
 -- ---- any stage
 
--- what is ready behind a stage that passes
+-- what is ready after a stage that passes
 pub pass_ready : {A : Type 0} (stage : (A → Plan) → Plan) (value : A) (next : A → Plan) (old now new : FilesState) (result : Result Ready Stop) →
     Passes stage value old now → Prepares (next value) now new result → Prepares (stage next) old new result
 pass_ready stage value next old now new result pass p = record { reached = p.reached; follows = pass.follows next new p.reached p.follows; ready = p.ready }
@@ -47,7 +47,7 @@ unfolding plan_of
 words_refused asked refusal files is =
     subst (λ (j : Result Command Refusal). Prepares (plan_of j) files files (Err (Refused refusal))) (sym is) (end_ready (Refuse refusal) files _ refl)
 
--- memory was wanting for reading them by their names
+-- memory ran out for reading them by their names
 pub words_want : (asked : Result Command Refusal) (files : FilesState) → IsTrue (is_ok asked) → Prepares (plan_of asked) files files (Err Memory)
 unfolding plan_of
 words_want (Ok command) files good = judge_wants (command_plan command) files
@@ -196,7 +196,7 @@ bursts_pass harts number script files is = record {
   faults = refl;
 }
 
--- the plan behind a script's text
+-- the plan after a script's text
 abbrev text_next : (harts : ℕ) → (Schedule → Plan) → List ℕ → Plan
 text_next harts next bytes = Judge (part_judged FileFault.ScriptLine (next (Schedule.Listed (events_of_text harts bytes))) (first_refused bytes))
 
@@ -288,7 +288,7 @@ boot_stopped kind rules file disk events save image (BootRefusal.Entry entry) of
     (ap (λ (e : ℕ). Entry e) is))
 boot_stopped kind rules file disk events save image BootRefusal.Memory of it = boot_wants kind rules file disk events save
 
--- ---- what stands behind the image
+-- ---- what stands after the image
 
 abbrev after_script : RunWords → Rules → (file disk : List ℕ) → Schedule → Plan
 after_script words rules file disk schedule = Judge (End (boot_judged words.kind rules file disk (first_events words.events schedule) words.save))

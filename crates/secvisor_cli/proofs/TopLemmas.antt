@@ -36,7 +36,7 @@ use Rattle.cli_plans.proofs.PlanLemmas.{HasFoundFaults, HasFault, Keeps, follows
 use Rattle.secvisor_cli.proofs.SaveLemmas.{Changes, Wrote, changes, changes_saved, changes_broke, unchanged, no_memory, wrote, meets_saves, meets_faults, ChangesOut}
 use Rattle.cli_plans.proofs.FoundFaults.{judged_found_faults}
 
--- ---- want of memory
+-- ---- out of memory
 
 pub wanting_answers : (reached : Option Due) (files : FilesState) (sink : SinkState) (bench : Option Machine) → IsReadyWhere reached (Err stop.Memory) →
     AnswersReached reached (outside files sink bench) (outside files sink bench) (Err Memory)
@@ -372,7 +372,7 @@ effect_reached plan (Some due) old read sink bench new result follows a =
 pub effect : (plan : Plan) (old new : Outside) (result : Result Status Trouble) → Performs plan old new result → Effect plan old.files new.files
 effect plan old new result p = effect_reached plan p.reached old.files p.read old.sink old.bench new result p.follows p.answers
 
--- the count of reads behind the reading
+-- the count of reads after the reading
 read_count : (reached : Option Due) (read : FilesState) (sink : SinkState) (bench : Option Machine) (new : Outside) (result : Result Status Trouble) →
     AnswersReached reached (outside read sink bench) new result → new.files.read_faults ≡ read.read_faults
 read_count None read sink bench new result a = ap (λ (o : Outside). o.files.read_faults) a.1

@@ -47,7 +47,7 @@ pub record RunsTo (wanting : Type 0) (start : State) (events : List Event) (mach
       × TookPrefix (after_taking old cleared) new (machine_output machine))
       ⊎ ((length machine.journal.printed ≤ max_printed) × IsTrue (flush_is_due machine.journal.printed)
       × BreaksOff (after_taking old cleared) new machine.journal.printed)
-  -- nothing is written where memory was wanting
+  -- nothing is written where memory ran out
   pub quiet : wanting → new ≡ after_taking old cleared
 
 -- The bench: as it was where nothing is to be booted, and else the machine that the run left.
@@ -63,7 +63,7 @@ may_want (Refuse refusal) = takes_memory refusal
 may_want (RunFrom start events save) = true
 may_want (Make name rules line) = false
 
--- Where memory is wanting for a refusal's line, nothing of it is written. What a run wrote before stands with its bench.
+-- Where memory runs out for a refusal's line, nothing of it is written. What a run wrote before stands with its bench.
 abbrev pub StaysQuiet : Due → SinkState → SinkState → Type 0
 StaysQuiet (Refuse refusal) old new = new ≡ old
 StaysQuiet (RunFrom start events save) old new = Unit {0}
@@ -71,7 +71,7 @@ StaysQuiet (Make name rules line) old new = new ≡ old
 
 -- ---- the answer
 
--- a status that is neither a write fault nor want of memory
+-- a status that is neither a write fault nor out of memory
 abbrev pub is_answer : Status → Bool
 is_answer Status.Done = true
 is_answer Status.Stopped = true
@@ -82,7 +82,7 @@ is_answer Status.WriteFault = false
 is_answer Status.Memory = false
 is_answer Status.Ended = true
 
--- within the program: this status and all of these bytes; else a write failed, or memory was wanting
+-- within the program: this status and all of these bytes; else a write failed, or memory ran out
 pub record Writes (due : Status) (bytes : List ℕ) (old new : SinkState) (result : Result Status Trouble) : Type 0 where
   pub status : IfOk result (λ s. s ≡ due)
   pub proper : IfOk result (λ s. IsTrue (is_answer s))
@@ -99,7 +99,7 @@ AfterSave (Some saving) old new (Ok _) = Saved saving old new
 AfterSave (Some saving) old new (Err Write) = SaveBroke saving old new
 AfterSave (Some saving) old new (Err Memory) = ⊥
 
--- Saving, behind what was to be written: nothing is saved after a write that failed, or where memory was wanting.
+-- Saving, after what was to be written: nothing is saved after a write that failed, or where memory ran out.
 abbrev pub SavedAfter : Option Saving → FilesState → FilesState → (written result : Result Status Trouble) → Type 0
 SavedAfter None old new written result = (new ≡ old) × (result ≡ written)
 SavedAfter (Some saving) old new (Err trouble) result = (new ≡ old) × (result ≡ Err trouble)
@@ -133,7 +133,7 @@ pub record WritesAndSaves (due : Due) (old new : Outside) (result : Result Statu
   pub quiet : IsErrOf result Memory → StaysQuiet due old.sink new.sink
   pub bench : BenchAfter (IsErrOf result Memory) due old.sink new.sink old.bench new.bench
 
--- a policy is saved before its line is written, and a disk behind the report
+-- a policy is saved before its line is written, and a disk after the report
 abbrev pub Answers : Due → Outside → Outside → Result Status Trouble → Type 0
 Answers (Refuse refusal) old new result = WritesAndSaves (Refuse refusal) old new result
 Answers (RunFrom start events save) old new result = WritesAndSaves (RunFrom start events save) old new result
@@ -141,7 +141,7 @@ Answers (Make name rules line) old new result =
     SavesAndWrites (policy_saving name rules) line old.files new.files old.sink new.sink result
     × (new.bench ≡ old.bench)
 
--- the same where memory was wanting for a read, or before what is due was ready: nothing happened
+-- the same where memory ran out for a read, or before what is due was ready: nothing happened
 abbrev pub AnswersReached : Option Due → Outside → Outside → Result Status Trouble → Type 0
 AnswersReached None old new result = IsErrOf result Memory × (new ≡ old)
 AnswersReached (Some due) old new result = Answers due old new result
@@ -155,7 +155,7 @@ pub record Performs (plan : Plan) (old new : Outside) (result : Result Status Tr
   pub answers : AnswersReached reached (outside read old.sink old.bench) new result
 
 -- Saved where the status is that of the end; else a write fault is the sink's or that of the save, which comes when all
--- bytes are written; nothing is saved where memory was wanting.
+-- bytes are written; nothing is saved where memory ran out.
 pub record MeetsSaving (saving : Saving) (bytes : List ℕ) (old new : Outside) (answer : Status) : Type 0 where
   pub saved : IsTrue (is_answer answer) → Saved saving old.files new.files
   pub broke : answer ≡ Status.WriteFault →
@@ -170,7 +170,7 @@ MeetsSavesAfter None bytes old new answer =
 MeetsSavesAfter (Some saving) bytes old new answer = MeetsSaving saving bytes old new answer
 
 -- Saved where the status is that of the end; else a write fault is that of the save, before which nothing is written, or
--- the sink's, behind it.
+-- the sink's, after it.
 pub record MeetsSavingFirst (saving : Saving) (old new : Outside) (answer : Status) : Type 0 where
   pub saved : IsTrue (is_answer answer) → Saved saving old.files new.files
   pub broke : answer ≡ Status.WriteFault →
@@ -183,7 +183,7 @@ MeetsSaves (RunFrom start events save) old new answer =
     MeetsSavesAfter (saves_due (RunFrom start events save)) (output (run start events)) old new answer
 MeetsSaves (Make name rules line) old new answer = MeetsSavingFirst (policy_saving name rules) old new answer
 
--- The status and all bytes that are due, unless a write failed or memory was wanting.
+-- The status and all bytes that are due, unless a write failed or memory ran out.
 pub record Meets (due : Due) (old new : Outside) (answer : Status) : Type 0 where
   pub status : IsTrue (is_answer answer) → answer ≡ status_due due
   pub whole : IsTrue (is_answer answer) → new.sink ≡ after_taking old.sink (bytes_due due)
@@ -191,9 +191,9 @@ pub record Meets (due : Due) (old new : Outside) (answer : Status) : Type 0 wher
   pub prefix : TookPrefix old.sink new.sink (bytes_due due)
   pub saves : MeetsSaves due old new answer
   pub no_write : answer ≢ Status.WriteFault → new.sink.faults ≡ old.sink.faults
-  -- words that are refused never want memory, nor does a policy that is made
+  -- words that are refused never run out of memory, nor does a policy that is made
   pub wants : answer ≡ Status.Memory → IsTrue (may_want due)
-  -- nothing of a refusal's line is written where memory was wanting for it
+  -- nothing of a refusal's line is written where memory ran out for it
   pub quiet : answer ≡ Status.Memory → StaysQuiet due old.sink new.sink
   pub bench : BenchAfter (answer ≡ Status.Memory) due old.sink new.sink old.bench new.bench
 

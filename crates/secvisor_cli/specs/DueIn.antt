@@ -36,7 +36,7 @@ pub record AreReadWhole (old new : FilesState) : Type 0 where
   pub tells : IsTrue old.tells
   pub unfailed : new.read_faults ≡ old.read_faults
 
--- with this status; or a write or a save failed, which is counted; or memory was wanting
+-- with this status; or a write or a save failed, which is counted; or memory ran out
 abbrev pub EndsAs : (due : Status) → Outside → Outside → (answer : Status) → Type 0
 EndsAs due old new answer =
     (answer ≡ due)

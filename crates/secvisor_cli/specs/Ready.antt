@@ -85,12 +85,12 @@ pub record IsRunnable (ready : PreparedRun) : Type 0 where
   pub counts : CountsAtMost max_events ready.machine.journal.counts
   pub console : ready.machine.journal.printed ≡ []
 
--- the events are drawn behind a number, for as many harts as the machine has
+-- the events are drawn after a number, for as many harts as the machine has
 abbrev pub DrawsFrom : (number : ℕ) → Ready → Type 0
 DrawsFrom number (Run booted) = booted.script ≡ Schedule.Auto booted.machine.rules.harts number
 DrawsFrom number (Save made) = ⊥
 
--- a text that reads as the policy, under its name, and the line that is printed behind it
+-- a text that reads as the policy, under its name, and the line that is printed after it
 pub record IsMade (name : List ℕ) (rules : Rules) (line : List ℕ) (made : Made) : Type 0 where
   pub name_is : made.name.now ≡ name
   pub reads : rules_of_text made.text.items ≡ Ok rules
@@ -102,7 +102,7 @@ pub record MaySaveRun (machine : Machine) (events : List Event) (save : Option (
   pub new : IsNew machine start
   pub may : MaySave (saves_due (RunFrom start events save)) files
 
--- what is due is ready, or refused, or memory was wanting
+-- what is due is ready, or refused, or memory ran out
 abbrev pub IsReady : Due → Result Ready Stop → Type 0
 IsReady (RunFrom start events save) (Ok (Run booted)) =
     IsNew booted.machine start × (first_events booted.events booted.script ≡ events) × (option_copied booted.save ≡ save) × IsFresh booted
@@ -121,7 +121,7 @@ pub record MayCarryOut (ready : Ready) (files : FilesState) : Type 0 where
   pub ready_is : IsReady due (Ok ready)
   pub may : MaySave (saves_due due) files
 
--- where memory was wanting, the end of the plan wasn't reached
+-- where memory ran out, the end of the plan wasn't reached
 abbrev pub IsReadyWhere : Option Due → Result Ready Stop → Type 0
 IsReadyWhere None result = IsErrOf result Memory
 IsReadyWhere (Some due) (Ok ready) = IsReady due (Ok ready)
@@ -133,9 +133,9 @@ pub record Prepares (plan : Plan) (old new : FilesState) (result : Result Ready 
   pub follows : Follows plan old new reached
   pub ready : IsReadyWhere reached result
 
--- ---- stages of a plan, each from what it gives to the plan behind it
+-- ---- stages of a plan, each from what it gives to the plan after it
 
--- it gave this, and whatever plan stands behind it goes on there
+-- it gave this, and whatever plan stands after it goes on there
 pub record Passes {A : Type 0} (stage : (A → Plan) → Plan) (value : A) (old new : FilesState) : Type 0 where
   pub follows : (next : A → Plan) → (last : FilesState) → (reached : Option Due) →
       Follows (next value) new last reached → Follows (stage next) old last reached

@@ -268,7 +268,7 @@ fn run_and_report<O: Sink>(
     finish(alloc, machine, out)
 }
 
-/// Writes the rest of the console, and the report. Where memory is wanting, nothing is written.
+/// Writes the rest of the console, and the report. Where memory runs out, nothing is written.
 pub fn finish<O: Sink>(alloc: Global, machine: &Machine, out: &mut O) -> Result<Status, Trouble>
     requires sink { MayWrite (O.state out.old) }
     ensures writes { Writes (run_status machine.now.journal.verdict) (machine_output machine.now) (O.state out.old) (O.state out.new) result }

@@ -21,7 +21,7 @@ pub fn law_due()
 {}
 
 /// Of a command that is due a run in such files nothing is refused: it ends with the status of the run's verdict, or a write
-/// or a save failed, or memory was wanting.
+/// or a save failed, or memory ran out.
 pub fn law_run_ends()
     ensures { RunEnds }
 {}

@@ -100,7 +100,7 @@ fn read_modules<F: Files>(
     Ok(modules)
 }
 
-// A module's object is read, and the names that it wants stand behind those before it.
+// A module's object is read, and the names that it wants stand after those before it.
 fn read_module<F: Files>(
     alloc: Global,
     word: &str,
@@ -151,7 +151,7 @@ fn make_ready<'a, R: Threads + Sync>(
     Ok(Ready::Save(made))
 }
 
-// What the words say of a policy beside its files.
+// What the words say of a policy alongside its files.
 fn settings(alloc: Global, terms: &Terms<'_>) -> Result<Settings, AllocError>
     ensures { IfOk result (λ settings. terms_of settings ≡ terms_value terms.now) }
 {

@@ -18,7 +18,7 @@ pub enum Ready<'a> {
     Save(Made<'a>),
 }
 
-/// A policy that was made: its name and its text, and the line that is printed behind it.
+/// A policy that was made: its name and its text, and the line that is printed after it.
 #[derive(Drop)]
 pub struct Made<'a> {
     pub name: &'a str,
@@ -32,7 +32,7 @@ pub struct PreparedRun<'a> {
     pub machine: Machine,
     pub script: Script,
     pub events: u64,
-    /// The name under which the disk is saved behind the report, where it is.
+    /// The name under which the disk is saved after the report, where it is.
     pub save: Option<&'a str>,
 }
 
@@ -40,7 +40,7 @@ pub struct PreparedRun<'a> {
 #[derive(Clone, Copy, Drop)]
 pub enum Stop {
     Refused(Refusal),
-    /// Memory was wanting.
+    /// Memory ran out.
     Memory,
 }
 

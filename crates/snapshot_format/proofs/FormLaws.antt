@@ -139,7 +139,7 @@ within_is {A = A} good f F = record {
       subst (λ (y : A × List ℕ). (bytes ≡ f.encode y.0 ++ y.1) × ((f.has y.0 && good y.0) ≡ true)) g.1 (p.0, both_true _ _ p.1 g.0);
 }
 
--- ---- one behind the other
+-- ---- one after the other
 
 pub and_then_is : {A B : Type 0} (f : Form A) (g : A → Form B) → IsForm f → ((a : A) → f.has a ≡ true → IsForm (g a)) → IsForm (and_then f g)
 and_then_is {A = A} {B = B} f g F G = record {

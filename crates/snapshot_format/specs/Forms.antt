@@ -8,7 +8,7 @@ use Rattle.snapshot_format.specs.declared.refusal.SnapRefusal.{SnapRefusal}
 
 -- ---- reading, from left to right, with the first refusal that is met
 
--- a value and the bytes behind it, or why there is none
+-- a value and the bytes after it, or why there is none
 abbrev pub Taken : Type 0 → Type 0
 Taken A = Result (A × List ℕ) SnapRefusal
 
@@ -67,7 +67,7 @@ within good f = record {
   taken = λ bytes. f.taken bytes >>= if_in_range good;
 }
 
--- a value, and behind it another, whose form may depend on the first
+-- a value, and after it another, whose form may depend on the first
 abbrev pub pair_with : {A B : Type 0} → A → B × List ℕ → Taken (A × B)
 pair_with a x = Ok ((a, x.0), x.1)
 

@@ -195,7 +195,7 @@ retire_parts (Note.Retire h turn c) = (h, (turn, c))
 unfoldable pub retire : ℕ → Form Note
 retire harts = map_form retire_of retire_parts (is_kind retire_kind) (hart_number harts ⨾ (number ⨾ code))
 
--- the fields behind a kind
+-- the fields after a kind
 unfoldable pub note_after : ℕ → ℕ → Form Note
 note_after harts kind =
     if kind == demote_kind then demote_form harts

@@ -1,4 +1,4 @@
--- The bytes of a snapshot: a machine's parts one behind the other, RAM last. This project's own.
+-- The bytes of a snapshot: a machine's parts one after the other, RAM last. This project's own.
 use Rattle.std.specs.Prelude.{ℕ, ◌*◌, ◌^◌, List, length, take, drop, Bool, Option, Result, Ok, Err, codes, nat_lt, nat_le, ◌==◌, if◌then◌else◌}
 use Rattle.std.specs.Str.{bytes_eq}
 use Rattle.spec_saved_machine.specs.declared.harts.SavedHart.{SavedHart}
@@ -164,7 +164,7 @@ snapshot = map_form whole_of (λ s. (whole_header s, whole_body s)) always (and_
 abbrev pub max_snapshot_bytes : ℕ
 max_snapshot_bytes = 1300 * 2 ^ 20
 
--- nothing stands behind it
+-- nothing stands after it
 abbrev pub if_at_end : Contents × List ℕ → Result Contents SnapRefusal
 if_at_end x = if length x.1 == 0 then Ok x.0 else Err OtherLength
 

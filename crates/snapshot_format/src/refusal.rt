@@ -11,7 +11,7 @@ pub enum SnapRefusal {
     /// There are more than 1,300 MiB.
     #[error("the snapshot is longer than 1300 MiB")]
     TooLong,
-    /// A value passes the end, or bytes stand behind the last one.
+    /// A value passes the end, or bytes stand after the last one.
     #[error("the snapshot is shorter or longer than its own counts say")]
     OtherLength,
     /// The first eight bytes aren't those of a snapshot.

@@ -24,7 +24,7 @@ pub regroup : {A : Type 0} (front : List A) (a : A) (read : Taken (List A)) → 
 regroup {A = A} front a (Ok x) = ap (λ (values : List A). values_and_rest values x.1) (sym (append_assoc front (a ∷ []) x.0))
 regroup front a (Err e) = refl
 
--- ---- a loop that reads so many values: before it, at a step, at a refusal, behind it
+-- ---- a loop that reads so many values: before it, at a step, at a refusal, after it
 
 pub goes_on : {A : Type 0} (f : List A → Form A) (front : List A) (count i : ℕ) (bytes : List ℕ) (a : A) (after : List ℕ) (total : Taken (List A)) → i < count
     → (f front).taken bytes ≡ Ok (a, after)

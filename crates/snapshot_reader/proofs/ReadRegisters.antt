@@ -1,4 +1,4 @@
--- Registers 1 to 31, read into an array behind register 0.
+-- Registers 1 to 31, read into an array after register 0.
 use Rattle.std.proofs.Common.{◌≡◌, ℕ, ◌+◌, ◌-◌, ◌≤◌, ◌<◌, List, [], ◌∷◌, ◌++◌, length, take, drop, set, Ok, ap, ◌∙◌, arith}
 use Rattle.std.proofs.lemmas.List.{take_all, take_more_set, drop-append-le, length-take}
 use Rattle.snapshot_format.specs.Forms.{Taken, number, number_at, all_taken}

@@ -41,7 +41,7 @@ row_done f size i row bytes total le same so_far =
     let whole : take i row ≡ row = take_all i row (omega (arith, same)) in
     is_done f (take i row) size i bytes total le so_far ∙ ap (λ (l : List ℕ). Ok (l, bytes)) whole
 
--- ---- the values behind one another of a form are those of its row
+-- ---- the values after one another of a form are those of its row
 
 bind_assoc : {A B C E : Type 0} (r : Result A E) (f : A → Result B E) (g : B → Result C E) → ((r >>= f) >>= g) ≡ (r >>= λ a. f a >>= g)
 bind_assoc (Ok a) f g = refl

@@ -9,7 +9,7 @@ abbrev pub Gives : {X A : Type 0} → (X → A) → Result X SnapRefusal → Res
 Gives view (Ok x) read = read ≡ Ok (view x)
 Gives view (Err e) read = read ≡ Err e
 
--- this is why, unless it is want of memory
+-- this is why, unless it is out of memory
 abbrev pub Refuses : {A : Type 0} → Result A SnapRefusal → ReadError → Type 0
 Refuses read (Refused e) = read ≡ Err e
 Refuses read Memory = Unit {0}

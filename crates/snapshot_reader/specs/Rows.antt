@@ -1,4 +1,4 @@
--- Values from the numbers that are read for them, one behind the other. This project's own.
+-- Values from the numbers that are read for them, one after the other. This project's own.
 use Rattle.std.specs.Prelude.{ℕ, Option, ◌%◌, ◌^◌, nat_le, List, [], ◌∷◌, length, Bool, true, Ok, ◌||◌, nat_lt, slice_index, ◌==◌, if◌then◌else◌}
 use Rattle.spec_processor.specs.Bytes.{instruction_size, page_size}
 use Rattle.spec_processor.specs.Regions.{max_ram_pages}

@@ -119,7 +119,7 @@ fn read_mode(bytes: &[u8]) -> Result<(Mode, &[u8]), SnapRefusal>
     }
 }
 
-// Registers 1 to 31, behind register 0.
+// Registers 1 to 31, after register 0.
 fn read_registers(bytes: &[u8]) -> Result<([u64; REGISTERS], &[u8]), SnapRefusal>
     ensures values { Gives (λ x. (drop 1 x.0, x.1.now)) result (registers.taken bytes.now) }
     ensures zero { IfOk result (λ x. x.0 ≡ 0 ∷ drop 1 x.0) }

@@ -59,7 +59,7 @@ fn read_note(bytes: &[u8], harts: u8) -> Result<(Note, &[u8]), SnapRefusal>
     read_note_after(rest, harts, kind)
 }
 
-// The fields behind a kind.
+// The fields after a kind.
 #[tactic(auto, unfolding(snapshot_format::specs::JournalForms::note_after, snapshot_format::specs::JournalForms::denied_note))]
 fn read_note_after(bytes: &[u8], harts: u8, kind: u64) -> Result<(Note, &[u8]), SnapRefusal>
     ensures { Gives (λ x. (x.0, x.1.now)) result ((note_after harts kind).taken bytes.now) }

@@ -1,4 +1,4 @@
-// The bytes of numbers that stand one behind the other, each in a range of its own.
+// The bytes of numbers that stand one after the other, each in a range of its own.
 
 ghost use Rattle.std.specs.Prelude.{◌≡◌};
 ghost use Rattle.snapshot_reader.specs.Reading.{Gives};

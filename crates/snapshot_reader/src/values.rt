@@ -1,4 +1,4 @@
-// A value at the front of some bytes, and the bytes behind it.
+// A value at the front of some bytes, and the bytes after it.
 
 ghost use Rattle.std.specs.Prelude.{nat_le};
 ghost use Rattle.spec_processor.specs.Bytes.{instruction_size};

@@ -17,7 +17,7 @@ pub(crate) fn read_verdict(bytes: &[u8], harts: u8) -> Result<(Verdict, &[u8]), 
     read_verdict_after(rest, harts, kind)
 }
 
-// The fields behind a kind.
+// The fields after a kind.
 #[tactic(auto, unfolding(snapshot_format::specs::JournalForms::verdict_after))]
 fn read_verdict_after(bytes: &[u8], harts: u8, kind: u64) -> Result<(Verdict, &[u8]), SnapRefusal>
     ensures { Gives (λ x. (x.0, x.1.now)) result ((verdict_after harts kind).taken bytes.now) }

@@ -25,7 +25,7 @@ use sv_types::{MAX_EVENTS, MAX_HARTS, PortState};
 pub const MAX_SNAPSHOT_BYTES: usize = 1300 << 20;
 
 /// The snapshot that some bytes are. What is read is spelled so, and each snapshot is read from its spelling; else the first
-/// refusal from left to right is answered, or want of memory.
+/// refusal from left to right is answered, or out of memory.
 pub fn read(alloc: Global, bytes: &[u8]) -> Result<Snapshot, ReadError>
     ensures read { Reads contents result (snapshot_read bytes.now) }
     ensures encoded { IfOk result (λ s. bytes.now ≡ snapshot.encode (contents s)) }
@@ -157,7 +157,7 @@ fn read_magic(bytes: &[u8]) -> Result<&[u8], SnapRefusal>
     Ok(rest)
 }
 
-/// What stands behind the header.
+/// What stands after the header.
 #[derive(Drop)]
 struct Body {
     harts: Vec<SavedHart>,

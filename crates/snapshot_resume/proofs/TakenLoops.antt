@@ -13,7 +13,7 @@ use Rattle.snapshot_resume.specs.Judgements.{is_retired, loaded_pages, take_page
 use Rattle.snapshot_resume.specs.Taking.{IsTaken, Takes, left_of}
 use Rattle.snapshot_resume.proofs.TakenSpans.{then_taken, taken_after}
 
--- ---- some pages, and the rest behind them
+-- ---- some pages, and the rest after them
 
 -- where one of some wasn't free, all are none
 pub none_behind : (p : Protection) (guard : List Protection) (some rest : List ℕ) → take_pages p guard some ≡ None → take_pages p guard (some ++ rest) ≡ None
@@ -22,7 +22,7 @@ none_behind p guard some rest none = taken_after p guard some rest ∙ ap (λ (g
 pub some_after : (p : Protection) (guard next : List Protection) (some rest : List ℕ) → take_pages p guard some ≡ Some next → take_pages p guard (some ++ rest) ≡ take_pages p next rest
 some_after p guard next some rest is = taken_after p guard some rest ∙ ap (λ (g : Option (List Protection)). then_taken p g rest) is
 
--- a loop goes on behind some that were taken, and breaks off where one wasn't free
+-- a loop goes on after some that were taken, and breaks off where one wasn't free
 goes_on : (p : Protection) (due : Option (List Protection)) (guard next : List Protection) (some rest : List ℕ) (done : Bool) → done ≡ true → Takes p guard next some done
     → due ≡ take_pages p guard (some ++ rest) → due ≡ take_pages p next rest
 goes_on p due guard next some rest true is takes before = before ∙ some_after p guard next some rest takes
@@ -41,7 +41,7 @@ next_number first count i below =
     let place : first + i + 1 ≡ first + (i + 1) = omega arith in
     ap (numbers_from (first + i)) more ∙ ap (λ (n : ℕ). (first + i) ∷ numbers_from n (count - (i + 1))) place
 
--- what is left of a span behind its first pages
+-- what is left of a span after its first pages
 abbrev pub span_left : (first count i : ℕ) → List ℕ
 span_left first count i = numbers_from (first + i) (count - i)
 
@@ -120,7 +120,7 @@ pub modules_end : (rules : Rules) (modules : List ModulePlacement) (i : ℕ) (du
     → due ≡ take_pages Approved guard (loaded_pages rules (drop i modules)) → due ≡ Some guard
 modules_end rules modules i due guard past before = before ∙ ap (λ (ms : List ModulePlacement). take_pages Approved guard (loaded_pages rules ms)) (drop_all i modules past)
 
--- ---- text, modules and the load, one behind the other
+-- ---- text, modules and the load, one after the other
 
 pub were_taken : (due : Option (List Protection)) (new : List Protection) (done : Bool) → done ≡ true → IsTaken due new done → due ≡ Some new
 were_taken due new true is taken = taken

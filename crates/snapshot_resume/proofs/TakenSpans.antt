@@ -1,4 +1,4 @@
--- Pages that are taken in order: a span of free ones, a page that isn't free, and some behind others.
+-- Pages that are taken in order: a span of free ones, a page that isn't free, and some after others.
 use Rattle.std.proofs.Common.{◌≡◌, ℕ, zero, suc, ◌+◌, ◌<◌, ◌≤◌, List, [], ◌∷◌, ◌++◌, length, refl, ◌∙◌, ap, subst, Bool, true, false, not, ◌||◌, arith, slice_set}
 use Rattle.std.specs.Prelude.{Option, Some, None, find, if◌then◌else◌, ◌==◌}
 use Rattle.std.proofs.lemmas.Bool.{eqb-true, eq-eqb, or_right}
@@ -49,7 +49,7 @@ span_twice guard first (suc count) p q =
     ∙ set-set (with_pages (with_pages guard first count p) first count q) (first + count) p q
     ∙ ap (λ (g : List Protection). slice_set g (first + count) q) (span_twice guard first count p q)
 
--- ---- some, and others behind them
+-- ---- some, and others after them
 
 abbrev pub then_taken : Protection → Option (List Protection) → List ℕ → Option (List Protection)
 then_taken p None pages = None

@@ -147,7 +147,7 @@ resume_refusal rules s =
     else if not (has_modules rules s) then Some OtherModule
     else None
 
--- the numbers by which they are printed, behind those of a snapshot's bytes
+-- the numbers by which they are printed, after those of a snapshot's bytes
 abbrev pub refusal_number : ResumeRefusal → ℕ
 refusal_number OtherPolicy = 4
 refusal_number OtherPages = 5

@@ -16,7 +16,7 @@ IsTaken due new false = due ≡ None
 abbrev pub Takes : Protection → (old new : List Protection) → List ℕ → (done : Bool) → Type 0
 Takes protection old new pages done = IsTaken (take_pages protection old pages) new done
 
--- the protections behind all parties of a snapshot
+-- the protections after all parties of a snapshot
 abbrev pub taken_from : List Protection → Rules → Contents → Option (List Protection)
 taken_from guard rules s = then_held (take_pages Approved guard (approved_of rules s)) (load_pages rules s.loading)
 

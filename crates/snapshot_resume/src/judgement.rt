@@ -17,7 +17,7 @@ use std::thread::Threads;
 use sv_types::Policy;
 
 /// Why a machine can't go on from a snapshot under a policy whose values are within their limits: the first judgement that
-/// fails, none where it can. RAM has the bytes of all pages. Want of memory is the one refusal.
+/// fails, none where it can. RAM has the bytes of all pages. Out of memory is the one refusal.
 #[tactic(auto, unfolding(crate::specs::Judgements::resume_refusal))]
 pub fn resume_refusal<R: Threads + Sync>(
     rt: &R,

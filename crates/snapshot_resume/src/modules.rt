@@ -19,7 +19,7 @@ use std::thread::Threads;
 use sv_types::{Bases, ModulePlacement, ModulePolicy, Policy, Site};
 
 /// Whether each loaded module of a snapshot is as it was measured, with its fields right for its addresses. The snapshot is of
-/// a machine under this policy, whose values are within their limits. Want of memory is the one refusal.
+/// a machine under this policy, whose values are within their limits. Out of memory is the one refusal.
 #[tactic(auto, unfolding(crate::specs::Judgements::has_modules))]
 pub fn has_modules<R: Threads + Sync>(
     rt: &R,

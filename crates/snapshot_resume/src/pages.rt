@@ -21,7 +21,7 @@ use std::alloc::{AllocError, Global};
 use sv_types::{ModulePlacement, Policy, Protection};
 
 /// Whether no two of a snapshot's unretired text, loaded modules and load share a page, and each page has the protection that
-/// these give. Want of memory is the one refusal.
+/// these give. Out of memory is the one refusal.
 #[tactic(auto, unfolding(crate::specs::Judgements::is_guarded_right, crate::specs::Judgements::guard_due))]
 pub fn is_guarded_right(
     alloc: Global,

@@ -16,7 +16,7 @@ use spec_processor::PAGE_SIZE;
 use std::alloc::{AllocError, Global};
 use sv_types::{Digest, Policy, Span};
 
-/// Whether the digests of the text join to the policy's kernel digest. Want of memory is the one refusal.
+/// Whether the digests of the text join to the policy's kernel digest. Out of memory is the one refusal.
 #[tactic(auto, unfolding(crate::specs::Judgements::joins))]
 pub fn joins(alloc: Global, snapshot: &Snapshot, policy: &Policy) -> Result<bool, AllocError>
     ensures { IfOk result (λ joined. joined ≡ joins (rules_of policy.now) (contents snapshot.now)) }

@@ -16,7 +16,7 @@ encoded_one f before (x ∷ values) a =
     let rest = encoded_one f (before ++ x ∷ []) values a in
     rw (rest, append_assoc before (x ∷ []) values) (sym (append_assoc ((f before).encode x) (encode_all f (before ++ x ∷ []) values) ((f (before ++ (x ∷ values))).encode a)))
 
--- ---- a loop over values: before it, at a step, behind it. The bytes before stand in front
+-- ---- a loop over values: before it, at a step, after it. The bytes before stand in front
 
 pub nothing_yet : {A : Type 0} (f : List A → Form A) (front : List ℕ) → front ≡ front ++ encode_all f [] []
 unfolding encode_all
@@ -37,7 +37,7 @@ pub all_written : {A : Type 0} (f : List A → Form A) (values : List A) (i : �
     → out ≡ front ++ encode_all f [] (take i values) → out ≡ front ++ encode_all f [] values
 all_written f values i front out le so_far = so_far ∙ ap (λ taken. front ++ encode_all f [] taken) (take_all i values le)
 
--- behind the number of values
+-- after the number of values
 pub all_counted : {A : Type 0} (f : List A → Form A) (values : List A) (i : ℕ) (front count out : List ℕ) → length values ≤ i
     → out ≡ (front ++ count) ++ encode_all f [] (take i values) → out ≡ front ++ (count ++ encode_all f [] values)
 all_counted f values i front count out le so_far = all_written f values i (front ++ count) out le so_far ∙ append_assoc front count (encode_all f [] values)

@@ -44,7 +44,7 @@ fn write_privilege(out: &mut Vec<u8>, h: &SavedHart) -> Result<(), AllocError>
     write_bit(out, h.entry)
 }
 
-// Registers 1 to 31, behind register 0.
+// Registers 1 to 31, after register 0.
 fn write_registers(out: &mut Vec<u8>, register_file: &[u64; REGISTERS]) -> Result<(), AllocError>
     ensures encoded { OnOk result (out.new.items ≡ out.old.items ++ registers.encode (drop 1 register_file.now)) }
     ensures typed { are_registers register_file.now ≡ true }

@@ -16,7 +16,7 @@ use crate::values::write_number;
 use snapshot_format::{MAGIC, Snapshot};
 use std::alloc::{AllocError, Global};
 
-/// The bytes of a snapshot, of a machine with a block device. Want of memory is the one refusal.
+/// The bytes of a snapshot, of a machine with a block device. Out of memory is the one refusal.
 #[tactic(auto, unfolding(snapshot_format::specs::Snapshots::snapshot))]
 pub fn write(alloc: Global, s: &Snapshot) -> Result<Vec<u8>, AllocError>
     requires { is_block s.now.machine.port ≡ true }

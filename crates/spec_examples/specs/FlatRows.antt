@@ -10,7 +10,7 @@ nothing_denied = codes "denied 0 dropped 0 loads 0 unloads 0 refused 0"
 abbrev pub prints_a : List ℕ
 prints_a = words (0x04100513 ∷ 0x00100893 ∷ 0x00000073 ∷ 0x00800893 ∷ 0x00000073 ∷ [])
 
--- it sets stvec to 0x80000100, and falls into the zeros behind its text
+-- it sets stvec to 0x80000100, and falls into the zeros after its text
 abbrev pub enters_at_its_vector : (second : ℕ) → List ℕ
 enters_at_its_vector second = words (0x00000297 ∷ second ∷ 0x10529073 ∷ 0x7F50006F ∷ [])
 

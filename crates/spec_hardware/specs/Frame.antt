@@ -22,7 +22,7 @@ pub record LeavesRest (before after : Machine) (h : ℕ) : Type 0 where
   pub table_size : length after.region.tables ≡ length before.region.tables
   pub rules : after.rules ≡ before.rules
   pub time : after.devices.clock.time ≡ before.devices.clock.time
-  -- bytes are printed behind those that were
+  -- bytes are printed after those that were
   pub more : List ℕ
   pub printed : after.journal.printed ≡ before.journal.printed ++ more
   pub cleared : after.cleared ≡ before.cleared

@@ -1,4 +1,4 @@
--- What happens beside an answer that is given: a call is answered so, or the end of a load. This project's own.
+-- What happens besides an answer that is given: a call is answered so, or the end of a load. This project's own.
 use Rattle.std.specs.Prelude.{◌≡◌, ℕ, ◌⊎◌, Bool, List, [], Option, Some, slice_get}
 use Rattle.sv_types.specs.Policies.{Rules}
 use Rattle.spec_reference.specs.Calls.{Asked, Facts}

@@ -56,7 +56,7 @@ pub record Answer : Type 0 where
   pub console : List ℕ
   pub disk : Disk
   pub timers : List ℕ
-  -- bytes that are printed behind those that were
+  -- bytes that are printed after those that were
   pub printed : List ℕ
   pub notes : List Note
   pub counts : Counts

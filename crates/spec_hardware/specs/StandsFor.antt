@@ -50,7 +50,7 @@ hregs_in Kernel entry =
     record { mode = Kernel; hgatp = view_hgatp (kernel_view entry); hedeleg = kernel_hedeleg entry; hideleg = hideleg_in Kernel; vtsr = true }
 hregs_in User entry = record { mode = User; hgatp = view_hgatp View.User; hedeleg = 0; hideleg = hideleg_in User; vtsr = true }
 
--- RAM lies behind so many bytes of tables
+-- RAM lies after so many bytes of tables
 abbrev pub hw_reservation : ℕ → Option ℕ → Option ℕ
 hw_reservation tables reservation = option_map (λ place. tables + place) reservation
 

@@ -29,7 +29,7 @@ overwrite list at bytes = take at list ++ (bytes ++ drop (at + length bytes) lis
 abbrev pub write_word : List ℕ → ℕ → ℕ → ℕ → List ℕ
 write_word list at n value = overwrite list at (low_bytes n value)
 
--- bytes, and zeros behind them up to a size
+-- bytes, and zeros after them up to a size
 abbrev pub with_padding : List ℕ → ℕ → List ℕ
 with_padding bytes size = bytes ++ replicate (size - length bytes) 0
 

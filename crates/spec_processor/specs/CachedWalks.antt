@@ -1,4 +1,4 @@
--- A cache of second-stage translations, and when it agrees with the tables.
+-- A cache of G-stage translations, and when it agrees with the tables.
 -- RISC-V Privileged manual, H extension: "Hypervisor Guest Address Translation and Protection (hgatp) Register" for the
 -- VMID, "Hypervisor Memory-Management Fence Instructions" for what a cache may keep of the tables.
 use Rattle.std.specs.Prelude.{◌≡◌, ℕ, ◌+◌, ◌*◌, ◌<◌, ◌⊎◌, Bool, if◌then◌else◌, List, replicate, Option, Some, None, slice_index_or}
@@ -20,7 +20,7 @@ line_permits line Store = line.store
 abbrev pub line_leads : CacheLine → Access → ℕ → Destination
 line_leads line access place = if line_permits line access then At (line.host + place) else PageFault
 
--- its page is within reach of the second stage, and from each place in it every access leads where a walk of the tables
+-- its page is within reach of the G-stage, and from each place in it every access leads where a walk of the tables
 -- under the line's hgatp leads
 pub record LineAgrees (tables : List ℕ) (line : CacheLine) : Type 0 where
   pub reach : line.page < guest_pages

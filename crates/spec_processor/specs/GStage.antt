@@ -1,4 +1,4 @@
--- The second stage of translation, and both stages together.
+-- The G-stage of translation, and both stages together.
 -- RISC-V Privileged manual, H extension: "Two-Stage Address Translation", "Guest Physical Address Translation",
 -- "Hypervisor Guest Address Translation and Protection (hgatp) Register"; Sv39x4.
 use Rattle.std.specs.Prelude.{◌≡◌, ℕ, ◌+◌, ◌-◌, ◌*◌, ◌/◌, ◌^◌, ◌<◌, ◌≤◌, Bool, true, false, ◌&&◌, List, [], ◌∷◌, length, ◌==◌, if◌then◌else◌, nat_le, Option, Some, None, Result, Ok, Err}
@@ -12,7 +12,7 @@ use Rattle.spec_processor.specs.declared.mode.Mode.{Mode}
 use Rattle.spec_processor.specs.declared.translation.Place.{Place}
 use Rattle.spec_processor.specs.declared.translation.Fault.{Fault}
 
--- ---- the second stage
+-- ---- the G-stage
 
 -- the bits of a guest-physical address
 abbrev pub guest_address_bits : ℕ
@@ -66,7 +66,7 @@ abbrev pub entry_there : Region → Option ℕ → Option ℕ
 entry_there r None = None
 entry_there r (Some at) = Some (host_word r at entry_size)
 
--- a first-stage entry is read where the second stage leads as a load
+-- a first-stage entry is read where the G-stage leads as a load
 unfoldable pub entry_through : Region → ℕ → ℕ → Option ℕ
 entry_through r hgatp gpa = entry_there r (walk_guest r hgatp gpa Load)
 
@@ -74,7 +74,7 @@ abbrev pub place_through : ℕ → Option ℕ → Result Place Fault
 place_through gpa None = Err (Fault.Guest gpa false)
 place_through gpa (Some hpa) = Ok (record { gpa = gpa; hpa = hpa })
 
--- the second stage behind what the first one gave
+-- the G-stage after what the first one gave
 unfoldable pub after_first_stage : Region → ℕ → Access → Destination → Result Place Fault
 after_first_stage r hgatp access (At gpa) = place_through gpa (walk_guest r hgatp gpa access)
 after_first_stage r hgatp access PageFault = Err Fault.Page
@@ -94,7 +94,7 @@ pub record WalksInside (r : Region) (hgatp : ℕ) : Type 0 where
 unfoldable pub entry_in_tables : List ℕ → ℕ → Option ℕ
 entry_in_tables tables at = if nat_le (at + entry_size) (length tables) then Some (word tables at entry_size) else None
 
--- where a second-stage walk over a reader of entries leads
+-- where a G-stage walk over a reader of entries leads
 abbrev pub guest_destination : (ℕ → Option ℕ) → ℕ → ℕ → Access → Destination
 guest_destination read hgatp gpa access = walk read (permits_guest access) (sv39x4_indices gpa) (root_of hgatp) gpa
 

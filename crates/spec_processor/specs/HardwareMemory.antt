@@ -79,7 +79,7 @@ aligned_translation r core access address width htinst =
 
 -- ---- going on
 
--- the hart goes on behind an instruction that is done, with the bytes that it wrote
+-- the hart goes on after an instruction that is done, with the bytes that it wrote
 abbrev pub retire : Core → Option Wrote → Step
 retire core wrote = record { core = record core { pc = next_pc core.pc }; outcome = Outcome.Retired wrote }
 

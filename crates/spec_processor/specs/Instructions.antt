@@ -166,7 +166,7 @@ hyper_store op word = Instr.Hyper op 0 (rs1 word) (rs2 word)
 abbrev pub plain : Instr → ℕ → Instr
 plain instr word = instr
 
--- ---- rows: by opcode; by opcode and funct3; by funct7, funct6 or funct5 beside them; with rs2 fixed or rd zero; and
+-- ---- rows: by opcode; by opcode and funct3; by funct7, funct6 or funct5 alongside them; with rs2 fixed or rd zero; and
 -- of one word alone
 
 abbrev pub by_opcode : ℕ → (ℕ → Instr) → Row

@@ -1,4 +1,4 @@
--- A region of host memory, byte by byte: the table part, where page tables lie, and behind it guest RAM.
+-- A region of host memory, byte by byte: the table part, where page tables lie, and after it guest RAM.
 -- RISC-V Privileged manual, "Two-Stage Address Translation": host places are supervisor-physical addresses.
 use Rattle.std.specs.Prelude.{◌≡◌, ℕ, ◌+◌, ◌-◌, ◌*◌, ◌≤◌, ◌<◌, ◌%◌, ◌^◌, ◌⊎◌, List, ◌++◌, length, take, drop, nat_lt, if◌then◌else◌, refl}
 use Rattle.std.specs.Coded.{Coded, code_by, coded×, coded_list, coded_ℕ}
@@ -19,7 +19,7 @@ host_bytes r = r.tables ++ r.ram
 abbrev pub region_of : ℕ → List ℕ → Region
 region_of tables bytes = record { tables = take tables bytes; ram = drop tables bytes }
 
--- the word of n bytes at a host place, which lies in the tables or behind them in RAM
+-- the word of n bytes at a host place, which lies in the tables or after them in RAM
 unfoldable pub host_word : Region → ℕ → ℕ → ℕ
 host_word r at n = if nat_lt at (length r.tables) then word r.tables at n else word r.ram (at - length r.tables) n
 

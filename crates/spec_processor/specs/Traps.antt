@@ -36,7 +36,7 @@ guest_number (ExitCause.Interrupt interrupt) = interrupt_number interrupt
 
 -- ---- a trap
 
--- stvec's base, or an interrupt's own instruction behind it where bit 0 is set
+-- stvec's base, or an interrupt's own instruction after it where bit 0 is set
 unfoldable pub trap_target : ℕ → Bool → ℕ → ℕ
 trap_target stvec interrupt cause =
     if interrupt && bit stvec 0 then (legal_epc stvec + instruction_size * cause) % 2 ^ 64 else legal_epc stvec

@@ -1,6 +1,6 @@
-// What a cache of second-stage translations keeps.
+// What a cache of G-stage translations keeps.
 
-/// The second-stage translation of a page of guest-physical addresses, as a cache keeps it: the `hgatp` value under which
+/// The G-stage translation of a page of guest-physical addresses, as a cache keeps it: the `hgatp` value under which
 /// it was walked, the page's number, the host place of its first byte, and the accesses that it permits.
 #[derive(Clone, Copy, Drop)]
 pub struct CacheLine {

@@ -44,12 +44,12 @@ pub struct Place {
 pub enum Fault {
     /// The first stage refuses the access.
     Page,
-    /// The second stage refuses an access to a guest-physical address: that of a first-stage entry where `implicit`
+    /// The G-stage refuses an access to a guest-physical address: that of a first-stage entry where `implicit`
     /// is true, else the one that the first stage gave.
     Guest { gpa: u64, implicit: bool },
 }
 
-/// The guest-physical address that the second stage refuses.
+/// The guest-physical address that the G-stage refuses.
 #[derive(Clone, Copy, Drop)]
 pub struct GuestFault {
     pub gpa: u64,

@@ -44,7 +44,7 @@ asked_by registers = record {
   a3 = register registers abi.a3;
 }
 
--- what an answer depends on beside
+-- what an answer depends on besides
 pub record Facts : Type 0 where
   pub rules : Rules
   -- of each hart, whether it is started

@@ -17,7 +17,7 @@ get_version = 2
 abbrev pub probe : ℕ
 probe = 3
 
--- from the vendor, behind `probe`, to the machine they tell who made it
+-- from the vendor, after `probe`, to the machine they tell who made it
 abbrev pub get_machine : ℕ
 get_machine = 6
 

@@ -49,7 +49,7 @@ pub data Disk : Type 0 where
   BlockDisk : (device : BlockDevice) → Disk
   VirtioDisk : (device : VirtioDevice) → Disk
 
--- what stands beside harts and memory
+-- what stands alongside harts and memory
 pub record Devices : Type 0 where
   -- input that waits
   pub console : List ℕ

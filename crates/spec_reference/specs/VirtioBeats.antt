@@ -74,7 +74,7 @@ put_last d next gpa bytes ram may_write =
 abbrev pub finish_request : VirtioDevice → VirtioDevice
 finish_request d = record d { request = None; interrupt = bit_or d.interrupt request_done }
 
--- a move, where the request has the moves behind it
+-- a move, where the request has the moves after it
 unfoldable pub make : VirtioDevice → Request → VirtioMove → List ℕ → (ℕ → Bool) → VirtioBeat
 make d q (VirtioMove.ToMemory gpa place size) ram may_write = to_memory d q gpa place size ram may_write
 make d q (VirtioMove.ToDisk gpa place size) ram may_write = to_disk d q gpa place size ram

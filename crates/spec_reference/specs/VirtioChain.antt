@@ -39,7 +39,7 @@ descriptor_at ram at = record {
 
 -- ---- chains
 
--- what a descriptor says, and behind it what those say that it leads to; none where it has a table of its own
+-- what a descriptor says, and after it what those say that it leads to; none where it has a table of its own
 unfoldable pub with_rest : VirtioDescriptor → Option (List VirtioPart) → Option (List VirtioPart)
 with_rest d rest =
     if d.is_indirect then None

@@ -1,4 +1,4 @@
-// What a call from kernel mode is answered: what becomes of the hart that called, and what happens beside.
+// What a call from kernel mode is answered: what becomes of the hart that called, and what happens besides.
 
 ghost use Rattle.std.specs.Prelude.{◌≡◌};
 ghost use Rattle.spec_reference.specs.Calls.{code, value, plain, extension_of};
@@ -80,7 +80,7 @@ impl Reply {
     }
 }
 
-/// What happens beside.
+/// What happens besides.
 #[derive(Clone, Copy, Drop)]
 pub enum SideEffect {
     Nothing,
@@ -122,7 +122,7 @@ pub struct Answer {
 }
 
 impl Answer {
-    /// A reply with nothing beside.
+    /// A reply with nothing besides.
     pub fn plain(reply: Reply) -> Answer
         ensures { result ≡ plain reply }
     {

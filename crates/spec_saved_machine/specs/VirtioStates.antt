@@ -17,7 +17,7 @@ abbrev pub behind : ℕ → List VirtioPart → List VirtioPart
 behind offset [] = []
 behind offset (part ∷ parts) = record part { gpa = part.gpa + offset; len = part.len - offset } ∷ parts
 
--- the place of the result in the chain, behind the data
+-- the place of the result in the chain, after the data
 abbrev pub last_place : VirtioRequest → ℕ
 last_place q = q.count - 1
 

@@ -2,7 +2,7 @@
 
 use spec_processor::{Mode, REGISTERS};
 
-/// A hart: its mode, its registers as the guest sees them, and what is kept beside them.
+/// A hart: its mode, its registers as the guest sees them, and what is kept alongside them.
 #[derive(Clone, Copy, Drop)]
 pub struct SavedHart {
     pub started: bool,

@@ -1,4 +1,4 @@
--- Where the second stage maps an address, whichever the access. This project's own.
+-- Where the G-stage maps an address, whichever the access. This project's own.
 use Rattle.std.specs.Prelude.{ℕ, if◌then◌else◌, Option, Some, None}
 use Rattle.spec_processor.specs.Translation.{is_leaf, leaf_address}
 use Rattle.spec_processor.specs.GStage.{permits_guest}

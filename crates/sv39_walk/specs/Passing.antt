@@ -1,4 +1,4 @@
--- A walk that goes through a second stage. This project's own.
+-- A walk that goes through a G-stage. This project's own.
 use Rattle.std.specs.Prelude.{ℕ}
 use Rattle.spec_processor.specs.Regions.{Region}
 use Rattle.spec_processor.specs.GStage.{WalksInside}

@@ -1,4 +1,4 @@
-// The second stage: Sv39x4.
+// The G-stage: Sv39x4.
 
 ghost use Rattle.std.specs.Prelude.{◌≡◌, ◌+◌, ◌*◌, ◌/◌, ◌%◌, ◌^◌, ◌<◌, ◌≤◌, Some, None};
 ghost use Rattle.std.specs.Option.{ok_or};
@@ -21,7 +21,7 @@ use spec_processor::{
 use std::marker::Brand;
 use std::sync::ledger::{Blank, Ledger};
 
-/// The leaf at which a second-stage walk ends, and the host place to which it maps the address.
+/// The leaf at which a G-stage walk ends, and the host place to which it maps the address.
 #[derive(Clone, Copy, Drop)]
 pub struct Mapping {
     pub leaf: PteBits,
@@ -37,7 +37,7 @@ impl Mapping {
     }
 }
 
-/// The host place of a guest-physical address under the second-stage root that `hgatp` names.
+/// The host place of a guest-physical address under the G-stage root that `hgatp` names.
 ///
 /// A `GuestFault` with the address comes exactly where the address has more than 41 bits, or an entry of the walk or the
 /// leaf refuses the access. `hgatp` has mode 8 (Sv39x4).
@@ -110,7 +110,7 @@ fn walk_counted<L: Ledger>(
     }
 }
 
-/// The leaf that the second-stage walk of an address finds, whichever the access, and where it maps the address. Reads at
+/// The leaf that the G-stage walk of an address finds, whichever the access, and where it maps the address. Reads at
 /// most three table words, and counts them.
 pub fn find_mapping<L: Ledger>(
     mem: &HostMem,

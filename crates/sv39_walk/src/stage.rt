@@ -1,4 +1,4 @@
-// The second stage, as a translation goes through it.
+// The G-stage, as a translation goes through it.
 
 ghost use Rattle.std.specs.Prelude.{◌≡◌, ℕ};
 ghost use Rattle.spec_processor.specs.Regions.{Region};
@@ -9,7 +9,7 @@ use crate::g_stage::walk_from_root;
 use host_mem::HostMem;
 use spec_processor::Access;
 
-/// A second stage of translation: the tables themselves, or a cache in front of them.
+/// A G-stage of translation: the tables themselves, or a cache in front of them.
 pub trait GStage {
     // that it may be asked under an hgatp value
     ghost serves: { Self → Region → ℕ → Type 0 };

@@ -1,4 +1,4 @@
--- Checks, one behind the other, and what those of a kernel's image find.
+-- Checks, one after the other, and what those of a kernel's image find.
 use Rattle.std.proofs.Common.{◌≡◌, ℕ, ◌+◌, ◌≤◌, Bool, true, false, List, [], ◌∷◌, ◌++◌, length, flat_map, None, refl, sym, ◌∙◌}
 use Rattle.std.specs.Prelude.{nat_lt, not, ◌==◌, ◌&&◌, ◌%◌}
 use Rattle.std.proofs.lemmas.Bool.{ltb-false, not-false, eqb-true}
@@ -7,7 +7,7 @@ use Rattle.sv_types.specs.Kernel.{first_refusal, header_checks, segment_checks, 
 use Rattle.sv_types.specs.declared.image_fault.ImageFault.{ImageFault}
 use Rattle.sv_types.specs.declared.kernel.ProgramHeader.{ProgramHeader}
 
--- checks that find no fault leave it to those behind them
+-- checks that find no fault leave it to those after them
 pub passed : {F : Type 0} (xs ys : List (F × Bool)) → first_refusal xs ≡ None → first_refusal (xs ++ ys) ≡ first_refusal ys
 passed [] ys none = refl
 passed ((n, true) ∷ xs) ys none = cc

@@ -1,4 +1,4 @@
--- Numbers of pages, one behind the other.
+-- Numbers of pages, one after the other.
 use Rattle.std.proofs.Common.{◌≡◌, ℕ, zero, suc, ◌+◌, List, [], ◌∷◌, ◌++◌, length, refl, ◌∙◌, ap, arith}
 use Rattle.sv_types.specs.ApprovedPages.{numbers_from}
 

@@ -1,4 +1,4 @@
--- What is found in a list behind a change of one of its elements.
+-- What is found in a list after a change of one of its elements.
 use Rattle.std.proofs.Common.{◌≡◌, ℕ, zero, suc, ◌⊎◌, inl, inr, List, [], ◌∷◌, refl, ap, slice_get, slice_set}
 use Rattle.std.specs.Prelude.{Some}
 

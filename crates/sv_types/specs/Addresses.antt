@@ -16,6 +16,6 @@ is_hexadecimal digits = nat_le 1 (length digits) && nat_le (length digits) addre
 abbrev pub hexadecimal_number : List ℕ → Option ℕ
 hexadecimal_number digits = if is_hexadecimal digits then Some (digits_value 16 digits) else None
 
--- the digits of an address stand behind `0x`
+-- the digits of an address stand after `0x`
 unfoldable pub address_of : List ℕ → Option ℕ
 address_of text = if bytes_eq (take 2 text) (codes "0x") then hexadecimal_number (drop 2 text) else None

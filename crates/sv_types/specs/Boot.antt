@@ -26,7 +26,7 @@ no_counts = record {
 abbrev pub flat_ram_pages : ℕ
 flat_ram_pages = 16
 
--- where its kernel may be entered beside its begin, from the start of RAM on
+-- where its kernel may be entered alongside its begin, from the start of RAM on
 abbrev pub flat_trap_offset : ℕ
 flat_trap_offset = 0x100
 

@@ -11,7 +11,7 @@ max_queued = 256
 abbrev pub has_room : List ℕ → Bool
 has_room queue = nat_lt (length queue) max_queued
 
--- a byte of input waits behind the others, or is dropped
+-- a byte of input waits after the others, or is dropped
 abbrev pub after_key : List ℕ → ℕ → List ℕ
 after_key queue byte = if has_room queue then queue ++ byte ∷ [] else queue
 
@@ -58,7 +58,7 @@ after_register_load queue None = queue
 after_register_load queue (Some Data) = without_first queue
 after_register_load queue (Some Status) = queue
 
--- what a load gives, none where there is no such register, and the queue behind it
+-- what a load gives, none where there is no such register, and the queue after it
 abbrev pub console_load : List ℕ → ℕ → ℕ → Option ℕ
 console_load queue offset width = option_map (register_value queue) (loaded_register offset width)
 

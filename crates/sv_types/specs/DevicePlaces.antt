@@ -1,4 +1,4 @@
--- Where the devices' registers lie, as guest-physical addresses: the console's, and behind them those of the disk's device.
+-- Where the devices' registers lie, as guest-physical addresses: the console's, and after them those of the disk's device.
 -- This project's own.
 use Rattle.std.specs.Prelude.{ℕ, ◌+◌}
 

@@ -215,7 +215,7 @@ r_sym = 12
 abbrev pub r_addend : ℕ
 r_addend = 16
 
--- a call by an AUIPC and the JALR behind it, twice; and the leave to shorten code
+-- a call by an AUIPC and the JALR after it, twice; and the leave to shorten code
 abbrev pub r_riscv_call : ℕ
 r_riscv_call = 18
 

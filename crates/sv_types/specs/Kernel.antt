@@ -123,7 +123,7 @@ kernel_refusal file ram_pages =
 
 -- ---- what a good image holds
 
--- a segment with its bytes in the file, behind which its memory has zeros
+-- a segment with its bytes in the file, after which its memory has zeros
 pub record LoadedSegment : Type 0 where
   pub va : ℕ
   pub gpa : ℕ
@@ -166,7 +166,7 @@ text_pages ss = filter (λ page. list_any (is_text_of page) ss) (numbers_from 0 
 abbrev pub filled_part : ℕ → LoadedSegment → List ℕ
 filled_part page s = part s.bytes (page_size * (page - page_of s.gpa)) page_size
 
--- a page of text, with zeros behind the file's bytes; nothing where the page is none
+-- a page of text, with zeros after the file's bytes; nothing where the page is none
 abbrev pub text_page_in : ℕ → Option LoadedSegment → List ℕ
 text_page_in page None = []
 text_page_in page (Some s) = with_padding (filled_part page s) page_size
@@ -174,6 +174,6 @@ text_page_in page (Some s) = with_padding (filled_part page s) page_size
 abbrev pub text_page : List LoadedSegment → ℕ → List ℕ
 text_page ss page = text_page_in page (find (is_text_of page) ss)
 
--- the pages of text, one behind the other
+-- the pages of text, one after the other
 unfoldable pub text_of : List LoadedSegment → List ℕ
 text_of ss = flat_map (text_page ss) (numbers_from 0 max_ram_pages)

@@ -22,7 +22,7 @@ page_digests (suc n) bytes = page_digest (take page_size bytes) ∷ page_digests
 abbrev pub digests_of : List ℕ → List (List ℕ)
 digests_of bytes = page_digests (length bytes / page_size) bytes
 
--- the digest of digests, one behind the other
+-- the digest of digests, one after the other
 abbrev pub joined_digests : List (List ℕ) → List ℕ
 joined_digests digests = sha256 (concat digests)
 

@@ -1,4 +1,4 @@
--- Names: 1 to 64 bytes of text, kept in 64 bytes with zeros behind.
+-- Names: 1 to 64 bytes of text, kept in 64 bytes with zeros after.
 -- The Unicode Standard, "UTF-8".
 use Rattle.std.specs.Prelude.{◌≡◌, ◌<◌, ◌≤◌, ℕ, List, Bool, ◌&&◌, nat_le, length, take, IsUtf8}
 use Rattle.std.proofs.Common.{◌∙◌, ap}

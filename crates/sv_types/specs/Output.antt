@@ -70,7 +70,7 @@ verdict_line (Stopped rule hart turn) = stop_head rule hart turn ++ rule_places 
 
 -- ---- the whole
 
--- the report's lines behind those of the notes
+-- the report's lines after those of the notes
 unfoldable pub report_lines : Verdict → Counts → List ℕ
 report_lines verdict counts = notes_line counts ++ events_line counts ++ retired_line counts ++ denied_line counts ++ verdict_line verdict
 

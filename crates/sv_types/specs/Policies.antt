@@ -77,7 +77,7 @@ module_pages_within = is_between 1 max_module_pages
 abbrev pub sites_count_within : ℕ → ℕ → Bool
 sites_count_within before n = nat_le n max_module_sites && nat_le (before + n) max_sites
 
--- ---- lists, each of whose items is judged beside those before it
+-- ---- lists, each of whose items is judged alongside those before it
 
 abbrev pub each_within : {A : Type 0} → (List A → A → Bool) → List A → List A → Bool
 each_within fits before [] = true
@@ -165,7 +165,7 @@ site_within pages exports site =
     place_within pages site.offset && is_aligned site.kind site.offset && base_within exports site.base &&
     anchor_within pages site.kind site.offset site.anchor
 
--- the byte behind a site's field
+-- the byte after a site's field
 abbrev pub field_end : Site → ℕ
 field_end site = site.offset + site_size site.kind
 
@@ -173,11 +173,11 @@ abbrev pub site_end : Option Site → ℕ
 site_end None = 0
 site_end (Some site) = field_end site
 
--- the byte behind the field of the last of the sites
+-- the byte after the field of the last of the sites
 abbrev pub sites_end : List Site → ℕ
 sites_end sites = site_end (slice_get sites (length sites - 1))
 
--- it begins behind the sites before it
+-- it begins after the sites before it
 abbrev pub is_after : List Site → Site → Bool
 is_after before site = nat_le (sites_end before) site.offset
 

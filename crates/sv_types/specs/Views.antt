@@ -1,4 +1,4 @@
--- What a root of the second stage lets a hart see of memory, whatever RAM holds. This project's own, over the second stage of
+-- What a root of the G-stage lets a hart see of memory, whatever RAM holds. This project's own, over the G-stage of
 -- the RISC-V Privileged manual, H extension, "Two-Stage Address Translation".
 use Rattle.std.specs.Prelude.{◌≡◌, ℕ, ◌+◌, ◌*◌, ◌^◌, ◌<◌, Bool, true, false, ◌&&◌, List, length, ◌==◌, if◌then◌else◌, nat_le, nat_lt, Option, Some, None, option_map, slice_get, Result, Err}
 use Rattle.spec_processor.specs.Bytes.{ram_base, ram_offset, page_of, page_size}
@@ -43,7 +43,7 @@ view_permits (OfEntry bound) page Held Fetch = false
 abbrev pub page_in_ram : ℕ → ℕ → Bool
 page_in_ram ram_pages gpa = nat_le ram_base gpa && nat_lt (page_of gpa) ram_pages
 
--- the host place of a gpa in RAM, behind the table part; nothing outside RAM
+-- the host place of a gpa in RAM, after the table part; nothing outside RAM
 unfoldable pub view_answer : ℕ → ℕ → Sight → (ℕ → Protection) → ℕ → Access → Option ℕ
 view_answer table_bytes ram_pages sight protections gpa access =
     if page_in_ram ram_pages gpa && view_permits sight (page_of gpa) (protections (page_of gpa)) access
@@ -67,7 +67,7 @@ under_view table_bytes ram_pages sight protections access (Unreadable entry) = E
 
 -- ---- the roots
 
--- the hgatp values: each view has a VMID of its own, from 1 on, and the roots lie one behind the other from host page 0 on
+-- the hgatp values: each view has a VMID of its own, from 1 on, and the roots lie one after the other from host page 0 on
 abbrev pub view_hgatp : View → ℕ
 view_hgatp Kernel = guest_root 1 0
 view_hgatp User = guest_root 2 root_pages

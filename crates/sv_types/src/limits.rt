@@ -21,7 +21,7 @@ pub const MAX_NOTES: usize = 4096;
 /// The pages of RAM of a machine that is made from plain pages.
 pub const FLAT_PAGES: usize = 16;
 
-/// Where the kernel of such a machine may be entered beside its begin, from the start of RAM on.
+/// Where the kernel of such a machine may be entered alongside its begin, from the start of RAM on.
 pub const FLAT_TRAP_OFFSET: u64 = 0x100;
 
 /// The format of a policy that lists entries alone.

@@ -17,7 +17,7 @@ pub enum Status {
     ReadFault,
     /// A write or a save failed.
     WriteFault,
-    /// Memory was wanting.
+    /// Memory ran out.
     Memory,
     /// The events ran out while the guest was running.
     Ended,

@@ -1,6 +1,6 @@
-// Which second-stage tree a hart looks through.
+// Which G-stage tree a hart looks through.
 
-/// Which second-stage tree a hart looks through.
+/// Which G-stage tree a hart looks through.
 #[derive(Clone, Copy, Drop)]
 pub enum View {
     Kernel,

@@ -206,7 +206,7 @@ pub fn print_writes<R: Threads + Sync + AllocGlobal + Print>(
     Ok(())
 }
 
-// Says where the call goes on when the write behind these bytes fails.
+// Says where the call goes on when the write after these bytes fails.
 fn stop_after<R: Threads + Sync + AllocGlobal + Print>(
     rt: &R,
     case: &Case,
@@ -227,7 +227,7 @@ fn stop_after<R: Threads + Sync + AllocGlobal + Print>(
     }
 }
 
-// The call has ended with a write that failed behind these bytes.
+// The call has ended with a write that failed after these bytes.
 fn has_stopped(left: &Left, before: &[u8]) -> bool {
     left.status == Status::WriteFault
         && left.taken.as_slice() == before

@@ -23,7 +23,7 @@ pub fn edit(
     Ok(true)
 }
 
-// Puts values of so many bytes each at a place and behind it.
+// Puts values of so many bytes each at a place and after it.
 fn put(bytes: &mut Vec<u8>, words: &str) -> Result<(), AllocError> {
     let (width, words) = first_word(words);
     let (place, words) = first_word(words);
@@ -64,7 +64,7 @@ fn fill(bytes: &mut Vec<u8>, words: &str) -> Result<(), AllocError> {
     bytes.resize(number(count) as usize, (number(byte) % 256) as u8)
 }
 
-// Puts a text behind the bytes, in which the measure stands for its name.
+// Puts a text after the bytes, in which the measure stands for its name.
 fn add_text(
     alloc: Global,
     bytes: &mut Vec<u8>,
@@ -75,7 +75,7 @@ fn add_text(
     bytes.extend_from_slice(text.as_str().as_bytes())
 }
 
-// Puts such a text behind the bytes, and a line feed.
+// Puts such a text after the bytes, and a line feed.
 fn add_line(
     alloc: Global,
     bytes: &mut Vec<u8>,
@@ -92,7 +92,7 @@ fn text_of_order(alloc: Global, text: &str) -> Result<String, AllocError> {
     text.as_str().replace(alloc, "{empty}", "")
 }
 
-// Puts a line behind the bytes so many times. In it `{place}` is four times its number, from 0 on.
+// Puts a line after the bytes so many times. In it `{place}` is four times its number, from 0 on.
 fn repeat(alloc: Global, bytes: &mut Vec<u8>, words: &str) -> Result<(), AllocError> {
     let (count, text) = first_word(words);
     let line = text_of_order(alloc, text)?;

@@ -43,7 +43,7 @@ fn put_generated(alloc: Global, case: &mut Case, calls: u64) -> Result<(), Alloc
 
 static BODY: [u8; 8192] = [0; 8192];
 
-// Puts the image of a kernel that has a page of text and two pages behind it, all zeros.
+// Puts the image of a kernel that has a page of text and two pages after it, all zeros.
 fn put_image(alloc: Global, case: &mut Case) -> Result<(), AllocError> {
     case.handed.image = image(alloc, &[], &BODY)?;
     Ok(())

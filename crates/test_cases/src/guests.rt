@@ -87,7 +87,7 @@ fn compare_policy<R: Threads + Sync + Files + AllocGlobal + Print>(
     print_comparison(rt, name, &left)
 }
 
-// The name at the start of a line, and the words behind it. A remark has none.
+// The name at the start of a line, and the words after it. A remark has none.
 fn named_words(line: &str) -> Option<(&str, &str)> {
     if line.starts_with('#') {
         None

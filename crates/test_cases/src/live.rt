@@ -83,7 +83,7 @@ fn live_with_keys<R: Threads + Wait + Sync>(
     live(rt, alloc, case, line, &mut keys, &Still)
 }
 
-/// Makes a live call, behind the number of keys that are typed and the number of the read that fails; prints its status and
+/// Makes a live call, after the number of keys that are typed and the number of the read that fails; prints its status and
 /// all that it prints.
 pub fn print_live<R: Threads + Wait + Sync + AllocGlobal + Print>(
     rt: &R,

@@ -57,7 +57,7 @@ pub struct Answer {
     pub is_booted: bool,
 }
 
-// The number of the failing save, behind those that put the files there.
+// The number of the failing save, after those that put the files there.
 fn save_number(outside: Outside) -> u64 {
     if outside.failing_save == 0 {
         0

@@ -38,7 +38,7 @@ fn follow<R: Threads + Wait + Sync + AllocGlobal + Print>(
     }
 }
 
-// Follows the orders behind a part's name, up to the next part.
+// Follows the orders after a part's name, up to the next part.
 fn use_part<R: Threads + Wait + Sync + AllocGlobal + Print>(
     rt: &R,
     parts: &str,

@@ -3,7 +3,7 @@
 use std::alloc::{AllocError, Global};
 use text_numbers::{address_of, number_within};
 
-/// The number that a word writes, in decimal digits or in hexadecimal ones behind `0x`; 0 where it writes none.
+/// The number that a word writes, in decimal digits or in hexadecimal ones after `0x`; 0 where it writes none.
 pub fn number(word: &str) -> u64 {
     match address_of(word) {
         Some(value) => value,
@@ -11,7 +11,7 @@ pub fn number(word: &str) -> u64 {
     }
 }
 
-/// The first word of a line, and what stands behind it.
+/// The first word of a line, and what stands after it.
 pub fn first_word(line: &str) -> (&str, &str) {
     line.split_once(' ').unwrap_or((line, ""))
 }

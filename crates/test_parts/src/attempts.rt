@@ -1,4 +1,4 @@
-// Attempts on 16 pages of RAM behind two trees of tables, with page 0 approved.
+// Attempts on 16 pages of RAM after two trees of tables, with page 0 approved.
 
 ghost use Rattle.std.specs.Prelude.{◌≡◌, ◌*◌, [], length, IfOk};
 ghost use Rattle.sv_types.specs.Views.{AreViews, protect, all_free};

@@ -1,4 +1,4 @@
-// The hypervisor's registers beside each mode of a guest.
+// The hypervisor's registers alongside each mode of a guest.
 
 ghost use Rattle.std.specs.Prelude.{◌≡◌, ◌⊎◌};
 ghost use Rattle.spec_processor.specs.Roots.{IsSv39x4};

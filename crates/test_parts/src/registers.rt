@@ -11,7 +11,7 @@ static LINES: Lines = Lines {
     timer: false,
 };
 
-// A read in a mode, behind a write if there is one, and its answer.
+// A read in a mode, after a write if there is one, and its answer.
 struct Access {
     mode: Mode,
     number: u16,

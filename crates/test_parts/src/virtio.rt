@@ -382,7 +382,7 @@ impl Driver {
         }
     }
 
-    // The line before and behind the beat that follows so many others, what that one tells, and the next.
+    // The line before and after the beat that follows so many others, what that one tells, and the next.
     fn end(&mut self, beats: usize) -> (bool, DmaStep, bool, DmaStep) {
         self.beats(beats);
         let before = self.device.line();
@@ -401,7 +401,7 @@ impl Driver {
         })
     }
 
-    // The line behind an acknowledgement, the status behind that of a driver that is ready, and behind a reset.
+    // The line after an acknowledgement, the status after that of a driver that is ready, and after a reset.
     fn mend(&mut self, interrupt: u64) -> (bool, Option<u64>, Option<u64>) {
         self.store(INTERRUPT_ACKNOWLEDGE, interrupt);
         let line = self.device.line();
@@ -455,7 +455,7 @@ fn requests_and_their_ends(rt: HostRuntime) -> Result<(), Fail> {
     Ok(())
 }
 
-// Stores by a driver, each with a register that is read behind it.
+// Stores by a driver, each with a register that is read after it.
 static STORES: [(u64, u64, u64, u64); 26] = [
     // What is only read, or only written.
     (0x000, 1, 0x000, 0x7472_6976),

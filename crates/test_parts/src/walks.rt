@@ -1,4 +1,4 @@
-// Walks from a root of four pages, with one page of RAM behind it.
+// Walks from a root of four pages, with one page of RAM after it.
 
 ghost use Rattle.std.specs.Prelude.{◌≡◌, ◌%◌};
 ghost use Rattle.spec_processor.specs.Bytes.{page_size};

@@ -30,7 +30,7 @@ last j n acc none = record {
       ∙ sym (append_assoc (hexadecimal j (n / 16)) (digit_char (n % 16) ∷ []) acc);
 }
 
--- the last digit stands behind the others
+-- the last digit stands after the others
 more : (j n : ℕ) (acc shown : List ℕ) → Filled j (n / 16) (digit_glyph false (n % 16) ∷ acc) shown → Filled (suc j) n acc shown
 unfolding hexadecimal
 more j n acc shown front = record {

@@ -13,7 +13,7 @@ use Rattle.virtio_blk.proofs.DataMoves.{between_none, behind_none, data_moves_no
 use Rattle.sv_types.specs.VirtioResults.{is_done}
 use Rattle.sv_types.specs.declared.virtio.VirtioResult.{VirtioResult}
 
--- ---- the parts with empty ones behind them
+-- ---- the parts with empty ones after them
 
 pub between_padded : (parts : List VirtioPart) (from to : ℕ) → from ≤ to → to ≤ length parts → between (padded_parts parts) from to ≡ between parts from to
 between_padded parts from to order inside =

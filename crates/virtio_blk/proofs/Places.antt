@@ -121,7 +121,7 @@ piece_on_disk disk_size q n placed before most on =
     let there = on before in
     omega (arith, old, there, most)
 
--- ---- behind all data
+-- ---- after all data
 
 pub last_moves_left : (accepted : ℕ) (q : VirtioRequest) → q.part ≡ last_place q → moves_left accepted q ≡ last_left accepted q
 unfolding moves_left

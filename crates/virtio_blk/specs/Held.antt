@@ -43,7 +43,7 @@ state_at_reset = record {
 
 -- ---- what holds at each moment
 
--- the moves behind the data: the result, and three of the used ring
+-- the moves after the data: the result, and three of the used ring
 abbrev pub tail_moves : ℕ
 tail_moves = 4
 
@@ -104,7 +104,7 @@ CanBeMade disk_size (VirtioMove.PutIndex gpa index) = gpa % page_size + ring_ind
 
 -- ---- the next request
 
--- the parts of a chain, with empty ones behind them
+-- the parts of a chain, with empty ones after them
 abbrev pub padded_parts : List VirtioPart → List VirtioPart
 padded_parts parts = parts ++ replicate (max_parts - length parts) no_part
 

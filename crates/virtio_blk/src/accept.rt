@@ -27,7 +27,7 @@ const SECTOR_OFFSET: usize = 8;
 pub(crate) const INDICES: u64 = 1 << 16;
 /// The flags and the index of a ring. Virtio 1.2, 2.7.6 and 2.7.8.
 pub(crate) const RING_HEADER_BYTES: u64 = 4;
-/// Where the index stands in a ring, behind the flags.
+/// Where the index stands in a ring, after the flags.
 pub(crate) const RING_INDEX_OFFSET: u64 = 2;
 /// The bytes of that index.
 pub(crate) const RING_INDEX_WIDTH: u8 = 2;
@@ -47,7 +47,7 @@ fn empty_parts() -> [VirtioPart; MAX_VIRTIO_PARTS]
     }; MAX_VIRTIO_PARTS]
 }
 
-// The parts of a chain, with empty ones behind them.
+// The parts of a chain, with empty ones after them.
 fn padded_parts(parts: &[VirtioPart]) -> [VirtioPart; MAX_VIRTIO_PARTS]
     requires { length parts.now ≤ max_parts }
     ensures { result ≡ padded_parts parts.now }

@@ -14,7 +14,7 @@ use crate::requests::bytes_in;
 use spec_processor::PAGE_BYTES;
 use sv_types::{BEAT_BYTES, SECTOR_BYTES, VirtioMove, VirtioRequest};
 
-/// Where the length stands in an entry of the used ring, behind the head.
+/// Where the length stands in an entry of the used ring, after the head.
 const USED_LENGTH_OFFSET: u64 = 4;
 
 // Passes over parts of which nothing is left.
@@ -124,7 +124,7 @@ fn last_move(q: &VirtioRequest, accepted: u64) -> Option<VirtioMove>
     }
 }
 
-// The next move behind all data, if there is one.
+// The next move after all data, if there is one.
 fn take_last(q: &mut VirtioRequest, accepted: u64) -> Option<VirtioMove>
     requires placed { IsPlaced q.old }
     requires ends { q.old.part ≡ last_place q.old }

@@ -14,7 +14,7 @@ use Rattle.elf64_load.specs.declared.read.ElfRefusal.TheVariants.{Fault, Memory}
 use Rattle.elf64_load.proofs.exports.exports_in.Goals as goal
 
 module _ (tables : Tables) (exports : List Export) (names : List (List ℕ)) (i : ℕ) (look : List ℕ → Option ℕ) where
-  -- what is found behind the next export
+  -- what is found after the next export
   abbrev after_next : Export → Judged (List Export)
   after_next export = each (export_of tables) (exports ++ export ∷ []) (drop (i + 1) names)
 

@@ -5,7 +5,7 @@ use Rattle.page_guard.specs.Guarded.{TablesStayMatched}
 use Rattle.snapshot_resume.specs.Judgements.{loaded_pages, take_pages}
 use Rattle.machine_resume.proofs.guard.approve_modules.Given as goal
 
--- the rest is to be approved behind those that were
+-- the rest is to be approved after those that were
 abbrev pub invariant-modules : goal.invariant-modules
 invariant-modules l =
     (take_pages Approved l.fn.guard.pages (loaded_pages (rules_of l.policy) l.modules) ≡ take_pages Approved l.guard.pages (loaded_pages (rules_of l.policy) (drop l.about-index l.modules)))

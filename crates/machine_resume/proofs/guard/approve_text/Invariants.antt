@@ -6,7 +6,7 @@ use Rattle.snapshot_resume.specs.Judgements.{take_pages}
 use Rattle.snapshot_resume.specs.Taking.{left_of}
 use Rattle.machine_resume.proofs.guard.approve_text.Given as goal
 
--- the rest is to be approved behind those that were
+-- the rest is to be approved after those that were
 abbrev pub invariant-pages : goal.invariant-pages
 invariant-pages l =
     (take_pages Approved l.fn.guard.pages (left_of (rules_of l.policy) l.retired l.text) ≡ take_pages Approved l.guard.pages (left_of (rules_of l.policy) l.retired (drop l.page-index l.text)))

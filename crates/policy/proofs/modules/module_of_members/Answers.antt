@@ -24,7 +24,7 @@ module _ (exports : ℕ) (before : List ModuleRule) (ms : Members) where
   unfolding module_of_members
   no_measure name pages fault named paged bad = then_ok (key_name ms) _ name _ named (then_ok (key_pages ms) _ pages _ paged (then_err (key_measure ms) _ fault bad))
 
-  -- behind the digest
+  -- after the digest
   by_sites : (name : List ℕ) (pages : ℕ) (measure : List ℕ) (judged : Judged (List Site)) → key_name ms ≡ Ok name → key_pages ms ≡ Ok pages → key_measure ms ≡ Ok measure →
       (required_member (codes "sites") ms >>= sites_in pages exports (sites_of before)) ≡ judged →
       module_of_members exports before ms ≡ (judged >>= λ sites. unrepeated_module before (module_rule_of name pages measure sites))

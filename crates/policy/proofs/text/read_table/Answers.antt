@@ -29,7 +29,7 @@ module _ (ms : Members) where
   no_pages format known harts fault formed listed run bad =
       then_ok (format_of ms) _ format _ formed (then_ok (known_keys ms) _ known _ listed (then_ok (key_harts known) _ harts _ run (then_err (key_ram_pages known) _ fault bad)))
 
-  -- behind the pages of RAM
+  -- after the pages of RAM
   by_entries : (format : ℕ) (known : Members) (harts ram_pages : ℕ) (judged : Judged (List ℕ × List ℕ)) → format_of ms ≡ Ok format → known_keys ms ≡ Ok known → key_harts known ≡ Ok harts
       → key_ram_pages known ≡ Ok ram_pages → key_entries format ram_pages known ≡ judged → rules_of_members ms ≡ (judged >>= λ entries. rules_after format harts ram_pages entries known)
   unfolding rules_of_members

@@ -15,11 +15,11 @@ use Rattle.policy_making.proofs.Refused.{refused_on}
 use Rattle.policy_making.proofs.modules.made_modules.Goals as goal
 
 module _ (exports : List Export) (before : List ModulePolicy) (objects : List ObjectFile) (i : ℕ) where
-  -- what is made of the objects from the i-th on, behind what was made before
+  -- what is made of the objects from the i-th on, after what was made before
   abbrev behind : List ModulePolicy → List ObjectFile → Judged (List ModuleRule)
   behind made files = each (module_made exports) (map module_rule made) (map file_of files)
 
-  -- what is made behind the next one
+  -- what is made after the next one
   abbrev after_next : ModuleRule → Judged (List ModuleRule)
   after_next rule = each (module_made exports) (map module_rule before ++ rule ∷ []) (map file_of (drop (i + 1) objects))
 
