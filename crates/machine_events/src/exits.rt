@@ -20,13 +20,12 @@ ghost use Rattle.machine_events.specs.Turns.{IsGuarded, MayServe, MayTrap, answe
 
 use crate::parts::Parts;
 use hw_tlb::fence;
+use module_gate::{give_pages, module_answer};
 use monitor_calls::law_starts;
 use monitor_exits::{
-    Load, Store, device_load, device_store, exit_answer, guest_demotion, guest_return, guest_trap,
-    leave_entry, stop_at_write,
+    Asked, Load, Store, Trap, device_load, device_store, exit_answer, guest_demotion, guest_return,
+    guest_trap, leave_entry, stop_at_write,
 };
-use monitor_exits::{Asked, Trap};
-use monitor_modules::{give_pages, module_answer};
 use spec_hardware::ExitAnswer;
 use spec_processor::Exit;
 use spec_reference::Answer;

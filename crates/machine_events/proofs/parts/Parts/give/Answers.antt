@@ -6,7 +6,7 @@ use Rattle.monitor_exits.specs.declared.slots.HartSlot.{HartSlot}
 use Rattle.spec_hardware.specs.HwCalls.{hw_given, hw_replied, hw_harts_side_effect}
 use Rattle.spec_hardware.specs.Machine.{Machine, update}
 use Rattle.spec_hardware.specs.Steps.{WithTables}
-use Rattle.monitor_modules.specs.Conditions.{AreGuarded}
+use Rattle.module_gate.specs.Conditions.{AreGuarded}
 use Rattle.spec_reference.specs.Counting.{MayCount}
 use Rattle.sv_types.specs.Limits.{max_printed}
 use Rattle.sv_types.specs.Policies.{rules_within}
