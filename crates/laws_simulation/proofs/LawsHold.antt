@@ -16,7 +16,7 @@ use Rattle.spec_reference.specs.Soundness.{IsSound}
 use Rattle.spec_hardware.specs.Served.{seen_of, exit_answer, exit_answered, serve_exit, is_again}
 use Rattle.spec_reference.specs.Turn.{turn, outside_entry, leave_entry}
 use Rattle.spec_reference.specs.Counting.{count, count_turn}
-use Rattle.laws_attempt.specs.Agree.{IsAt, AgreesBy, region_at, core_at, one_attempt_more}
+use Rattle.laws_attempt.specs.Agree.{IsAt, AgreesBy, IsNotLoading, region_at, core_at, one_attempt_more}
 use Rattle.laws_simulation.specs.Laws.{MakesAttempt, IsQuiet, QuietLaw, ExitLaw}
 use Rattle.spec_hardware.specs.HardwareEvent.{attempt_of}
 use Rattle.laws_attempt.proofs.HwOfSlots.{hw_harts_get, hw_harts_exit, hw_harts_update}

@@ -16,7 +16,7 @@ use sv_types::{DIGEST_BYTES, Protection};
 /// What pages are, and the kernel's text.
 #[derive(Drop)]
 pub(crate) struct Pages {
-    pub(crate) protection_form: Vec<Protection>,
+    pub(crate) protection: Vec<Protection>,
     pub(crate) text: Vec<TextPage>,
 }
 
@@ -28,15 +28,9 @@ pub(crate) fn read_pages(
 ) -> Result<(Pages, &[u8]), ReadError>
     ensures { Reads (λ x. (pages_parts x.0, x.1.now)) result ((pages ram_pages).taken bytes.now) }
 {
-    let (protection_form, rest) = read_protections(alloc, bytes, ram_pages)?;
+    let (protection, rest) = read_protections(alloc, bytes, ram_pages)?;
     let (text, rest) = read_text(alloc, rest, ram_pages)?;
-    Ok((
-        Pages {
-            protection_form,
-            text,
-        },
-        rest,
-    ))
+    Ok((Pages { protection, text }, rest))
 }
 
 fn read_protections(

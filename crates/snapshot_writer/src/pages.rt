@@ -14,29 +14,29 @@ use sv_types::Protection;
 #[tactic(auto, unfolding(snapshot_format::specs::PageForms::pages))]
 pub(crate) fn write_pages(
     out: &mut Vec<u8>,
-    protection_form: &[Protection],
+    protection: &[Protection],
     kernel_text: &[TextPage],
 ) -> Result<(), AllocError>
-    ensures encoded { (ram_pages : ℕ) → OnOk result (out.new.items ≡ out.old.items ++ (pages ram_pages).encode (protection_form.now, kernel_text.now)) }
+    ensures encoded { (ram_pages : ℕ) → OnOk result (out.new.items ≡ out.old.items ++ (pages ram_pages).encode (protection.now, kernel_text.now)) }
     ensures typed { OnOk result (list_all is_typed_page kernel_text.now ≡ true) }
 {
-    write_protections(out, protection_form)?;
+    write_protections(out, protection)?;
     write_text(out, kernel_text)
 }
 
-fn write_protections(out: &mut Vec<u8>, protection_form: &[Protection]) -> Result<(), AllocError>
-    ensures { (ram_pages : ℕ) → OnOk result (out.new.items ≡ out.old.items ++ (protections ram_pages).encode protection_form.now) }
+fn write_protections(out: &mut Vec<u8>, protection: &[Protection]) -> Result<(), AllocError>
+    ensures { (ram_pages : ℕ) → OnOk result (out.new.items ≡ out.old.items ++ (protections ram_pages).encode protection.now) }
 {
-    'pages: for page in protection_form {
+    'pages: for page in protection {
         out.push(protection_byte(*page))?;
     }
     Ok(())
 }
 
-fn protection_byte(protection_form: Protection) -> u8
-    ensures { result ≡ protection_number protection_form }
+fn protection_byte(protection: Protection) -> u8
+    ensures { result ≡ protection_number protection }
 {
-    match protection_form {
+    match protection {
         Protection::Free => FREE,
         Protection::Held => HELD,
         Protection::Approved => APPROVED,

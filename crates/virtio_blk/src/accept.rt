@@ -15,7 +15,7 @@ ghost use Rattle.spec_reference.specs.VirtioDevice.{index_values};
 
 use crate::Virtio;
 use crate::chain::{DESCRIPTOR_BYTES, read_chain};
-use crate::requests::{is_good, lies_in_ram, result_by};
+use crate::requests::{is_good_chain, lies_in_ram, result_by};
 use dma_guard::DmaStep;
 use host_mem::{HostMem, word_at};
 use spec_processor::ram_offset;
@@ -212,7 +212,7 @@ impl Virtio {
             return DmaStep::Range;
         };
         let parts = parts.as_slice();
-        if !is_good(ram, parts) {
+        if !is_good_chain(ram, parts) {
             self.break_down();
             return DmaStep::Range;
         }

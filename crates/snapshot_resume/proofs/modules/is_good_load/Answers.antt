@@ -4,7 +4,7 @@ use Rattle.std.proofs.lemmas.Option.{slice_get_read, slice_get-map}
 use Rattle.sv_types.specs.Policies.{module_rule, rules_of}
 use Rattle.sv_types.specs.declared.policy.ModulePolicy.{ModulePolicy}
 use Rattle.snapshot_resume.proofs.ModuleSites.{policy_sites}
-use Rattle.snapshot_resume.proofs.modules.is_good.Goals as goal
+use Rattle.snapshot_resume.proofs.modules.is_good_load.Goals as goal
 
 pub is_as_ruled-requires-clause-sites : goal.is_as_ruled-requires-clause-sites
 is_as_ruled-requires-clause-sites g c κs within =
