@@ -11,8 +11,8 @@ use Rattle.spec_hardware.specs.StandsFor.{StandsFor, Unseen, IsRightFor, machine
 use Rattle.spec_saved_machine.specs.SavedStates.{gpa_at, saved_hart, saved_harts, saved_load, IsSaved}
 use Rattle.spec_saved_machine.specs.declared.harts.SavedHart.{SavedHart}
 use Rattle.spec_saved_machine.specs.declared.whole.Saved.{Saved}
-use Rattle.monitor_harts.specs.HwOfSlots.{hw_at, hw_harts_of}
-use Rattle.monitor_harts.specs.declared.slots.HartSlot.{HartSlot}
+use Rattle.monitor_exits.specs.HwOfSlots.{hw_at, hw_harts_of}
+use Rattle.monitor_exits.specs.declared.slots.HartSlot.{HartSlot}
 use Rattle.machine.specs.Machines.{HasAddress, HaveAddresses}
 use Rattle.machine_events.proofs.HwOfSlots.{hw_there}
 use Rattle.machine.specs.Keeping.{AreKeepable, IsKeepable, gpa_after, kept_hart, kept_harts, kept_load, IsKept}

@@ -36,7 +36,7 @@ use Rattle.laws_simulation.proofs.TurnsServed.{again_law, step_law, loading_by, 
 use Rattle.laws_standing.proofs.Standings.{hart_in_may_attempt, in_order}
 use Rattle.laws_standing.proofs.Loads.{loaded_approved, loading_held}
 use Rattle.laws_standing.specs.Laws.{HoldsItsPages}
-use Rattle.monitor_modules.specs.Conditions.{IsHeld}
+use Rattle.module_gate.specs.Conditions.{IsHeld}
 use Rattle.machine_events.proofs.Turns.{hart_there, left_below, quiet_served, turn_served}
 use Rattle.machine_events.specs.Attempts.{hart_in, nobody}
 use Rattle.machine_events.specs.Turns.{Attempts, Finished, IsGuarded, IsReadyAt, MayTurn, asked_of}

@@ -20,8 +20,8 @@ use Rattle.laws_resumed_start.proofs.SnapHolds.{nothing_printed}
 use Rattle.laws_resumed_start.specs.Resuming.{hw_resumed, load_resumed, resumed_machine}
 use Rattle.machine_resume.specs.Parts.{AreResumed}
 use Rattle.machine_resume.specs.declared.parts.ResumedParts.{ResumedParts}
-use Rattle.monitor_harts.specs.HwOfSlots.{hw_harts_of}
-use Rattle.monitor_modules.specs.Parts.{loading_of}
+use Rattle.monitor_exits.specs.HwOfSlots.{hw_harts_of}
+use Rattle.module_gate.specs.Parts.{loading_of}
 use Rattle.machine.specs.Machines.{HasAddress, HaveAddresses, IsFit}
 use Rattle.machine.proofs.NewFit.{without_reservations}
 

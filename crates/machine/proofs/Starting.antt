@@ -3,12 +3,12 @@ use Rattle.std.proofs.Common.{◌≡◌, ℕ, zero, suc, ◌+◌, ◌-◌, ◌�
 use Rattle.std.specs.Prelude.{find, is_some, Option, Some, None, IfSome, slice_get}
 use Rattle.std.proofs.lemmas.List.{drop-replicate, replicate_more, length-replicate}
 use Rattle.page_guard.specs.Guarded.{first_taken}
-use Rattle.monitor_harts.specs.HwOfSlots.{hw_at, hw_harts_of}
-use Rattle.monitor_harts.specs.declared.slots.HartSlot.{HartSlot}
+use Rattle.monitor_exits.specs.HwOfSlots.{hw_at, hw_harts_of}
+use Rattle.monitor_exits.specs.declared.slots.HartSlot.{HartSlot}
 use Rattle.spec_hardware.specs.Machine.{Machine, HwHart}
-use Rattle.monitor_modules.specs.Conditions.{AreJoined, TakesItsPages}
-use Rattle.monitor_modules.specs.declared.modules.Modules.{Modules}
-use Rattle.monitor_modules.specs.declared.modules.PendingLoad.{PendingLoad}
+use Rattle.module_gate.specs.Conditions.{AreJoined, TakesItsPages}
+use Rattle.module_gate.specs.declared.modules.Modules.{Modules}
+use Rattle.module_gate.specs.declared.modules.PendingLoad.{PendingLoad}
 use Rattle.module_gate.specs.Gates.{Records, no_modules}
 use Rattle.sv_types.specs.Protections.{is_free}
 use Rattle.spec_reference.specs.Protections.{protection_at}

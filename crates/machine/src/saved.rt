@@ -4,8 +4,8 @@ ghost use Rattle.std.specs.Prelude.{◌≡◌, ◌≤◌, length, IfOk, option_m
 ghost use Rattle.sv_types.specs.Limits.{max_harts};
 ghost use Rattle.spec_reference.specs.States.{State};
 ghost use Rattle.spec_hardware.specs.StandsFor.{StandsFor};
-ghost use Rattle.monitor_harts.specs.HwOfSlots.{hw_at, hw_harts_of};
-ghost use Rattle.monitor_modules.specs.Parts.{loading_of};
+ghost use Rattle.monitor_exits.specs.HwOfSlots.{hw_at, hw_harts_of};
+ghost use Rattle.module_gate.specs.Parts.{loading_of};
 ghost use Rattle.spec_saved_machine.specs.SavedStates.{IsSaved};
 ghost use Rattle.machine.specs.Keeping.{gpa_after, AreKeepable, IsKeepable, kept_hart, kept_harts, kept_load, IsKept};
 
@@ -13,8 +13,8 @@ use crate::machine::Machine;
 use csr_file::at_guest_places;
 use hw_devices::Devices;
 use machine_events::Parts;
-use monitor_harts::HartSlot;
-use monitor_modules::Modules;
+use module_gate::Modules;
+use monitor_exits::HartSlot;
 use spec_processor::RAM_BASE;
 use spec_saved_machine::{Saved, SavedHart, SavedLoad};
 use std::alloc::{AllocError, Global};

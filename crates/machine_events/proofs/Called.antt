@@ -6,9 +6,9 @@ use Rattle.spec_reference.specs.ModuleCalls.{answer_of}
 use Rattle.spec_reference.specs.declared.answers.Answer.{Answer}
 use Rattle.spec_hardware.specs.HwCalls.{hw_facts}
 use Rattle.spec_hardware.specs.Machine.{Machine, HwHart}
-use Rattle.monitor_harts.proofs.HwOfSlots.{hw_harts_length}
-use Rattle.monitor_harts.specs.HwOfSlots.{hw_harts_of}
-use Rattle.monitor_harts.specs.declared.slots.HartSlot.{HartSlot}
+use Rattle.monitor_exits.proofs.HwOfSlots.{hw_harts_length}
+use Rattle.monitor_exits.specs.HwOfSlots.{hw_harts_of}
+use Rattle.monitor_exits.specs.declared.slots.HartSlot.{HartSlot}
 use Rattle.machine_events.proofs.HwOfSlots.{hw_there}
 use Rattle.machine_events.specs.Attempts.{hart_in}
 use Rattle.machine_events.specs.Parts.{machine_of_parts}

@@ -17,10 +17,10 @@ use Rattle.spec_hardware.specs.Machine.{Machine, HwHart, update}
 use Rattle.spec_hardware.specs.StandsFor.{bound_pages}
 use Rattle.spec_hardware.specs.Steps.{WithTables}
 use Rattle.page_guard.specs.Guarded.{Guarded, TablesMatchGuard, TablesStayMatched}
-use Rattle.monitor_harts.specs.HwOfSlots.{hw_harts_of}
-use Rattle.monitor_harts.specs.declared.slots.HartSlot.{HartSlot}
-use Rattle.monitor_modules.specs.Parts.{loading_of, facts_in, with_modules}
-use Rattle.monitor_modules.specs.declared.modules.Modules.{Modules}
+use Rattle.monitor_exits.specs.HwOfSlots.{hw_harts_of}
+use Rattle.monitor_exits.specs.declared.slots.HartSlot.{HartSlot}
+use Rattle.module_gate.specs.Parts.{loading_of, facts_in, with_modules}
+use Rattle.module_gate.specs.declared.modules.Modules.{Modules}
 use Rattle.machine_events.proofs.Turns.{stays, views_shown}
 use Rattle.machine_events.specs.Parts.{machine_of_parts}
 use Rattle.machine_events.specs.declared.parts.Parts.TheInside.{Inside}

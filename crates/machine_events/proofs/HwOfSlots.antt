@@ -4,9 +4,9 @@ use Rattle.std.specs.Prelude.{Some, None, slice_get, slice_index_or}
 use Rattle.spec_processor.specs.Hardware.{Core}
 use Rattle.spec_processor.specs.declared.outcome.Outcome.{Outcome}
 use Rattle.spec_hardware.specs.Machine.{HwHart, forgets, all_forget, update, with_core}
-use Rattle.monitor_harts.proofs.HwOfSlots.{hw_harts_set, hw_harts_updated}
-use Rattle.monitor_harts.specs.HwOfSlots.{hw_at, hw_harts_of}
-use Rattle.monitor_harts.specs.declared.slots.HartSlot.{HartSlot}
+use Rattle.monitor_exits.proofs.HwOfSlots.{hw_harts_set, hw_harts_updated}
+use Rattle.monitor_exits.specs.HwOfSlots.{hw_at, hw_harts_of}
+use Rattle.monitor_exits.specs.declared.slots.HartSlot.{HartSlot}
 use Rattle.machine_events.specs.Attempts.{hart_in}
 use Rattle.hw_tlb.specs.Usable.{IsUsable, AreUsable}
 use Rattle.hw_tlb.specs.declared.caches.HartCaches.{HartCaches}

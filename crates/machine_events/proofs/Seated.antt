@@ -14,9 +14,9 @@ use Rattle.spec_hardware.specs.Steps.{WithTables}
 use Rattle.spec_hardware.specs.declared.exits.ExitAnswer.{ExitAnswer}
 use Rattle.page_guard.specs.Guarded.{TablesMatchGuard}
 use Rattle.page_guard.specs.Privileges.{entry_of, mode_of}
-use Rattle.monitor_harts.proofs.HwOfSlots.{hw_harts_length, hw_harts_set, hw_harts_same}
-use Rattle.monitor_harts.specs.HwOfSlots.{hw_at, hw_harts_of}
-use Rattle.monitor_harts.specs.declared.slots.HartSlot.{HartSlot}
+use Rattle.monitor_exits.proofs.HwOfSlots.{hw_harts_length, hw_harts_set, hw_harts_same}
+use Rattle.monitor_exits.specs.HwOfSlots.{hw_at, hw_harts_of}
+use Rattle.monitor_exits.specs.declared.slots.HartSlot.{HartSlot}
 use Rattle.monitor_exits.specs.Accessed.{with_devices}
 use Rattle.monitor_exits.specs.Answered.{with_hart}
 use Rattle.monitor_exits.specs.Possible.{IsPossible}

@@ -6,9 +6,9 @@ use Rattle.sv_types.specs.Protections.{is_free}
 use Rattle.spec_hardware.specs.Machine.{Machine}
 use Rattle.spec_hardware.specs.StandsFor.{bound_pages}
 use Rattle.page_guard.specs.Guarded.{TablesMatchGuard}
-use Rattle.monitor_harts.specs.HwOfSlots.{hw_harts_of}
-use Rattle.monitor_modules.specs.Conditions.{AreJoined}
-use Rattle.monitor_modules.specs.Parts.{loading_of}
+use Rattle.monitor_exits.specs.HwOfSlots.{hw_harts_of}
+use Rattle.module_gate.specs.Conditions.{AreJoined}
+use Rattle.module_gate.specs.Parts.{loading_of}
 use Rattle.hw_tlb.specs.Usable.{AreUsable}
 use Rattle.machine_events.specs.declared.parts.Parts.TheInside.{Inside}
 

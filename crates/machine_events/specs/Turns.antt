@@ -14,7 +14,7 @@ use Rattle.spec_hardware.specs.Machine.{HwHart, Machine}
 use Rattle.spec_hardware.specs.Served.{exit_answer, is_again}
 use Rattle.spec_hardware.specs.Steps.{AttemptServed, WithTables}
 use Rattle.spec_hardware.specs.declared.exits.ExitAnswer.{ExitAnswer}
-use Rattle.monitor_modules.specs.Conditions.{AreGuarded}
+use Rattle.module_gate.specs.Conditions.{AreGuarded}
 use Rattle.machine_events.specs.Attempts.{hart_in, IsReady}
 use Rattle.spec_processor.specs.Bytes.{instruction_size}
 

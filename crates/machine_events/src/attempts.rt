@@ -4,7 +4,7 @@ ghost use Rattle.std.specs.Prelude.{◌≡◌, ◌+◌, ◌%◌, length};
 ghost use Rattle.spec_processor.specs.Counters.{CanCount};
 ghost use Rattle.spec_processor.specs.HardwareAttempt.{attempt};
 ghost use Rattle.spec_hardware.specs.Machine.{with_core, update, all_forget};
-ghost use Rattle.monitor_harts.specs.HwOfSlots.{hw_at, hw_harts_of};
+ghost use Rattle.monitor_exits.specs.HwOfSlots.{hw_at, hw_harts_of};
 ghost use Rattle.machine_events.specs.Attempts.{hart_in, IsReady, KeepsTurns, MayTakeTurns};
 ghost use Rattle.hw_tlb.specs.Usable.{IsUsable};
 ghost use Rattle.spec_processor.specs.Bytes.{instruction_size};
@@ -12,7 +12,7 @@ ghost use Rattle.spec_processor.specs.Bytes.{instruction_size};
 use hart::{Cpu, InterruptLines};
 use host_mem::HostMem;
 use hw_tlb::HartCaches;
-use monitor_harts::{HartSlot, forget};
+use monitor_exits::{HartSlot, forget};
 use spec_processor::Outcome;
 
 // An attempt of a hart on its side, with its caches.

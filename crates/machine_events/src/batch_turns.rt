@@ -8,7 +8,7 @@ ghost use Rattle.spec_processor.specs.declared.mode.Mode.TheVariants.{Kernel};
 ghost use Rattle.spec_reference.specs.Counting.{CountsAtMost, MayCount};
 ghost use Rattle.spec_reference.specs.Devices.{lines_at};
 ghost use Rattle.spec_hardware.specs.Machine.{with_core, update};
-ghost use Rattle.monitor_harts.specs.HwOfSlots.{hw_at, hw_harts_of};
+ghost use Rattle.monitor_exits.specs.HwOfSlots.{hw_at, hw_harts_of};
 ghost use Rattle.hw_fast_path.specs.Ends.{turns_of};
 ghost use Rattle.hw_fast_path.specs.Batches.{EndsBy};
 ghost use Rattle.hw_fast_path.specs.declared.leaving.Leaving.TheVariants.{Returns};
@@ -25,7 +25,7 @@ use host_mem::HostMem;
 use hw_fast_path::{Batch, Leaving, MicroOpCache, quick_turns};
 use hw_tlb::HartCaches;
 use machine_journal::Journal;
-use monitor_harts::{HartSlot, Trap};
+use monitor_exits::{HartSlot, Trap};
 use spec_processor::{Cause, ExitCause};
 use sv_types::Verdict;
 

@@ -20,13 +20,12 @@ ghost use Rattle.machine_events.specs.Turns.{IsGuarded, MayServe, MayTrap, answe
 
 use crate::parts::Parts;
 use hw_tlb::fence;
+use module_gate::{give_pages, module_answer};
 use monitor_calls::law_starts;
 use monitor_exits::{
-    Load, Store, device_load, device_store, exit_answer, guest_demotion, guest_return, guest_trap,
-    leave_entry, stop_at_write,
+    Asked, Load, Store, Trap, device_load, device_store, exit_answer, guest_demotion, guest_return,
+    guest_trap, leave_entry, stop_at_write,
 };
-use monitor_harts::{Asked, Trap};
-use monitor_modules::{give_pages, module_answer};
 use spec_hardware::ExitAnswer;
 use spec_processor::Exit;
 use spec_reference::Answer;
@@ -41,7 +40,7 @@ pub(crate) fn is_again(answer: ExitAnswer) -> bool
 
 impl Parts {
     // What an exit of a hart is answered.
-    #[tactic(auto, using(monitor_harts::proofs::HwOfSlots::hw_harts_length))]
+    #[tactic(auto, using(monitor_exits::proofs::HwOfSlots::hw_harts_length))]
     #[inline(always)]
     pub(crate) fn exit_answer(&self, hart: u8, exit: &Exit) -> ExitAnswer
         requires hart { MayTrap self.now.harts hart }
@@ -52,7 +51,7 @@ impl Parts {
     }
 
     // A hart traps.
-    #[tactic(auto, using(monitor_harts::proofs::HwOfSlots::hw_harts_length))]
+    #[tactic(auto, using(monitor_exits::proofs::HwOfSlots::hw_harts_length))]
     #[inline(always)]
     pub(crate) fn guest_trap(&mut self, hart: u8, trap: Trap)
         requires hart { MayTrap self.old.harts hart }
@@ -64,7 +63,7 @@ impl Parts {
     }
 
     // It returns from its trap.
-    #[tactic(auto, using(monitor_harts::proofs::HwOfSlots::hw_harts_length))]
+    #[tactic(auto, using(monitor_exits::proofs::HwOfSlots::hw_harts_length))]
     #[inline(always)]
     pub(crate) fn guest_return(&mut self, hart: u8)
         requires there { hart < length self.old.harts }
@@ -77,7 +76,7 @@ impl Parts {
     }
 
     // It leaves kernel mode.
-    #[tactic(auto, using(monitor_harts::proofs::HwOfSlots::hw_harts_length))]
+    #[tactic(auto, using(monitor_exits::proofs::HwOfSlots::hw_harts_length))]
     fn guest_demotion(&mut self, hart: u8, gpa: u64)
         requires there { hart < length self.old.harts }
         requires counts { MayCount self.old.journal.counts }
@@ -88,7 +87,7 @@ impl Parts {
     }
 
     // It leaves its entry.
-    #[tactic(auto, using(monitor_harts::proofs::HwOfSlots::hw_harts_length))]
+    #[tactic(auto, using(monitor_exits::proofs::HwOfSlots::hw_harts_length))]
     pub(crate) fn leave_entry(&mut self, hart: u8)
         requires there { hart < length self.old.harts }
         ensures left { self.new ≡ left_entry self.old hart }
@@ -100,7 +99,7 @@ impl Parts {
     }
 
     // It stops the machine by a store into a protected page.
-    #[tactic(auto, using(monitor_harts::proofs::HwOfSlots::hw_harts_length))]
+    #[tactic(auto, using(monitor_exits::proofs::HwOfSlots::hw_harts_length))]
     fn stop_at_write(&mut self, hart: u8, gpa: u64)
         requires there { hart < length self.old.harts }
         ensures { WithTables self.old (answered_exit self.old hart (StopsAtWrite gpa)) self.new }
@@ -109,7 +108,7 @@ impl Parts {
     }
 
     // It loads from a device's register.
-    #[tactic(auto, using(monitor_harts::proofs::HwOfSlots::hw_harts_length))]
+    #[tactic(auto, using(monitor_exits::proofs::HwOfSlots::hw_harts_length))]
     fn device_load(&mut self, hart: u8, load: Load)
         requires hart { MayTrap self.old.harts hart }
         requires counts { MayCount self.old.journal.counts }
@@ -128,7 +127,7 @@ impl Parts {
     }
 
     // It stores into a device's register.
-    #[tactic(auto, using(monitor_harts::proofs::HwOfSlots::hw_harts_length))]
+    #[tactic(auto, using(monitor_exits::proofs::HwOfSlots::hw_harts_length))]
     fn device_store(&mut self, hart: u8, store: Store)
         requires hart { MayTrap self.old.harts hart }
         requires counts { MayCount self.old.journal.counts }
@@ -147,7 +146,7 @@ impl Parts {
     }
 
     // What its call is answered.
-    #[tactic(auto, using(monitor_harts::proofs::HwOfSlots::hw_harts_length, crate::proofs::Called::registers_there))]
+    #[tactic(auto, using(monitor_exits::proofs::HwOfSlots::hw_harts_length, crate::proofs::Called::registers_there))]
     fn call_answer(&self, hart: u8) -> Answer
         requires there { hart < length self.now.harts }
         requires guarded { IsGuarded self.now }

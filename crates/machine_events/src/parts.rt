@@ -31,9 +31,9 @@ use hw_devices::Devices;
 use hw_fast_path::MicroOpCache;
 use hw_tlb::HartCaches;
 use machine_journal::Journal;
+use module_gate::{Modules, load_turn};
 use monitor_calls::law_starts;
-use monitor_harts::{HartSlot, forget};
-use monitor_modules::{Modules, load_turn};
+use monitor_exits::{HartSlot, forget};
 use page_guard::{Entries, Guard};
 use spec_processor::{Exit, Mode, Outcome, ram_offset};
 use std::marker::Model;
@@ -71,7 +71,7 @@ impl Model for Parts {
 impl Parts {
     // An attempt of a hart, which SecVisor's answer follows where it gives an exit.
     #[inline(always)]
-    #[tactic(auto, using(monitor_harts::proofs::HwOfSlots::hw_harts_length))]
+    #[tactic(auto, using(monitor_exits::proofs::HwOfSlots::hw_harts_length))]
     fn attempt(&mut self, hart: u8) -> Outcome
         requires there { hart < length self.old.harts }
         requires count { CanCount self.old.attempts }
@@ -340,7 +340,7 @@ impl Parts {
     }
 
     /// Drops the parts; a load under way frees its pages.
-    #[tactic(auto, using(monitor_modules::proofs::Joined::ends))]
+    #[tactic(auto, using(module_gate::proofs::Joined::ends))]
     pub fn end(self)
         requires { IsGuarded self }
     {

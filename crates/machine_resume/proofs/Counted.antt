@@ -21,7 +21,7 @@ use Rattle.laws_simulation.proofs.LoadsMirrored.{about_is, left_is, kept_next}
 use Rattle.spec_saved_machine.specs.declared.whole.SavedLoad.{SavedLoad}
 use Rattle.page_guard.specs.Guarded.{with_span}
 use Rattle.module_gate.specs.Gates.{PageTurns, new_load, hw_load, is_good_place, load_span, next_counted}
-use Rattle.monitor_modules.proofs.LoadTurns.{counted_is}
+use Rattle.module_gate.proofs.LoadTurns.{counted_is}
 use Rattle.snapshot_resume.specs.Judgements.{fits, take_pages}
 use Rattle.snapshot_resume.proofs.TakenSpans.{taken_none, taken_span}
 use Rattle.laws_resume.proofs.ResumedPages.{fits_is, place_aligned}

@@ -5,9 +5,9 @@ use Rattle.sv_types.specs.Views.{with_ram}
 use Rattle.spec_hardware.specs.StandsFor.{bound_pages}
 use Rattle.snapshot_format.specs.Snapshots.{Contents}
 use Rattle.page_guard.specs.Guarded.{TablesMatchGuard}
-use Rattle.monitor_harts.specs.HwOfSlots.{hw_harts_of}
-use Rattle.monitor_modules.specs.Conditions.{AreJoined}
-use Rattle.monitor_modules.specs.Parts.{loading_of}
+use Rattle.monitor_exits.specs.HwOfSlots.{hw_harts_of}
+use Rattle.module_gate.specs.Conditions.{AreJoined}
+use Rattle.module_gate.specs.Parts.{loading_of}
 use Rattle.snapshot_resume.specs.ResumedStates.{resumed_state}
 use Rattle.laws_resumed_start.specs.Resuming.{hw_resumed, load_resumed}
 use Rattle.machine_resume.specs.declared.parts.ResumedParts.{ResumedParts}

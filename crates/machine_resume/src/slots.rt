@@ -6,13 +6,13 @@ ghost use Rattle.spec_processor.specs.Bytes.{ram_offset};
 ghost use Rattle.spec_processor.specs.HypervisorRegisters.{IsLegal};
 ghost use Rattle.sv_types.specs.declared.view.View.TheVariants.{Entry};
 ghost use Rattle.spec_hardware.specs.StandsFor.{hw_reservation};
-ghost use Rattle.monitor_harts.specs.HwOfSlots.{hw_at, hw_harts_of};
+ghost use Rattle.monitor_exits.specs.HwOfSlots.{hw_at, hw_harts_of};
 ghost use Rattle.laws_resumed_start.specs.Resuming.{csrs_resumed, hw_resumed};
 ghost use Rattle.machine_resume.specs.Seating.{CanAllSit, CanSit, IsEntered, IsReservable, MayBeIn, view_in};
 
 use csr_file::{Csrs, at_hypervisor_places};
 use hart::{Core, Hart};
-use monitor_harts::HartSlot;
+use monitor_exits::HartSlot;
 use page_guard::{Entries, PrivilegeView};
 use rv64_exec::Regs;
 use spec_processor::{Mode, ram_offset};

@@ -1,3 +1,7 @@
+pub mod Given
+pub mod Joined
+pub mod LoadTurns
+pub mod PagesGiven
 pub mod GoodPlaces
 pub mod Lists
 pub mod LoadDecisions

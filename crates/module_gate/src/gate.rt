@@ -13,7 +13,7 @@ ghost use Rattle.module_gate.specs.Gates.{no_modules, new_load, is_good_place, l
 
 use crate::init::free_pages;
 use crate::load::Load;
-use crate::modules::{find_module, place_of, remove_module};
+use crate::loaded::{find_module, place_of, remove_module};
 use crate::rules::{module_pages, pages_at, rule_of};
 use host_mem::HostMem;
 use page_guard::Guard;

@@ -2,7 +2,7 @@
 use Rattle.std.proofs.Common.{◌≡◌, ℕ, zero, suc, ◌<◌, List, [], ◌∷◌, length, refl, ◌∙◌, ap, arith, get_or, slice_get}
 use Rattle.std.specs.Prelude.{Some, option_map}
 use Rattle.monitor_calls.specs.Known.{started_of}
-use Rattle.monitor_harts.specs.declared.slots.HartSlot.{HartSlot}
+use Rattle.monitor_exits.specs.declared.slots.HartSlot.{HartSlot}
 
 pub started_at : (slots : List HartSlot) (i : ℕ) → slice_get (started_of slots) i ≡ option_map (λ (slot : HartSlot). slot.hart.started) (slice_get slots i)
 started_at [] i = refl

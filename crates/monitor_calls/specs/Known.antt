@@ -3,8 +3,8 @@ use Rattle.std.specs.Prelude.{ℕ, ◌<◌, Bool, List, map, ⊤}
 use Rattle.spec_reference.specs.declared.answers.SideEffect.{SideEffect}
 use Rattle.spec_reference.specs.declared.answers.SideEffect.TheVariants.{StartsHart}
 use Rattle.spec_hardware.specs.Machine.{HwHart}
-use Rattle.monitor_harts.specs.HwOfSlots.{hw_harts_of}
-use Rattle.monitor_harts.specs.declared.slots.HartSlot.{HartSlot}
+use Rattle.monitor_exits.specs.HwOfSlots.{hw_harts_of}
+use Rattle.monitor_exits.specs.declared.slots.HartSlot.{HartSlot}
 
 abbrev pub started_of : List HartSlot → List Bool
 started_of slots = map (λ (hw : HwHart). hw.started) (hw_harts_of slots)

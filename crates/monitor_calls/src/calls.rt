@@ -6,17 +6,17 @@ ghost use Rattle.spec_reference.specs.Answers.{devices_side_effect, journal_side
 ghost use Rattle.spec_reference.specs.Counting.{MayCount};
 ghost use Rattle.spec_hardware.specs.HwCalls.{hw_replied, hw_harts_side_effect};
 ghost use Rattle.spec_hardware.specs.Machine.{update};
-ghost use Rattle.monitor_harts.specs.HwOfSlots.{hw_harts_of};
+ghost use Rattle.monitor_exits.specs.HwOfSlots.{hw_harts_of};
 ghost use Rattle.monitor_calls.specs.Known.{StartsOneOf};
 
 use crate::places::{reply_at, start_at};
 use hw_devices::{Devices, NEVER};
 use machine_journal::Journal;
-use monitor_harts::{HartSlot, interrupt};
+use monitor_exits::{HartSlot, interrupt};
 use spec_reference::{Answer, SideEffect};
 
 // What happens to other harts; the hart that called may be among those that are interrupted.
-#[tactic(auto, using(monitor_harts::proofs::HwOfSlots::hw_harts_length), unfolding(spec_hardware::specs::HwCalls::hw_harts_side_effect))]
+#[tactic(auto, using(monitor_exits::proofs::HwOfSlots::hw_harts_length), unfolding(spec_hardware::specs::HwCalls::hw_harts_side_effect))]
 fn change_harts(slots: &mut [HartSlot], side_effect: SideEffect)
     requires starts { StartsOneOf (length slots.old) side_effect }
     ensures hw_all { hw_harts_of slots.new ≡ hw_harts_side_effect side_effect (hw_harts_of slots.old) }

@@ -4,11 +4,11 @@ ghost use Rattle.std.specs.Prelude.{◌≡◌, ◌<◌, ◌≤◌, ℕ, length, 
 ghost use Rattle.sv_types.specs.Limits.{max_harts};
 ghost use Rattle.spec_reference.specs.Calls.{Facts, first_input, base_call, timer_call, ipi_call, fence_call, start_other, status_of_hart, hart_call, shut_down, reset_call};
 ghost use Rattle.spec_reference.specs.ModuleCalls.{answer_of};
-ghost use Rattle.monitor_harts.specs.Asking.{is_about_modules};
+ghost use Rattle.monitor_exits.specs.Asking.{is_about_modules};
 ghost use Rattle.monitor_calls.specs.Known.{started_of, StartsOneOf};
 
 use crate::masks::mask_exists;
-use monitor_harts::{Asked, HartSlot};
+use monitor_exits::{Asked, HartSlot};
 use page_guard::Entries;
 use spec_reference::{Answer, Extension, Reply, SideEffect};
 use sv_types::{IMPLEMENTATION, SbiCode};

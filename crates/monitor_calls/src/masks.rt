@@ -5,7 +5,7 @@ ghost use Rattle.spec_reference.specs.Calls.{mask_exists};
 ghost use Rattle.monitor_calls.specs.Masks.{all_exist, exists_one};
 ghost use Rattle.spec_reference.specs.SbiFunctions.{mask_width};
 
-use monitor_harts::{ALL_HARTS, MASK_WIDTH};
+use monitor_exits::{ALL_HARTS, MASK_WIDTH};
 use spec_processor::has_bit;
 
 /// Whether each hart that a mask and a base name exists.

@@ -4,10 +4,10 @@ ghost use Rattle.std.specs.Prelude.{◌≡◌, ◌<◌, length};
 ghost use Rattle.spec_hardware.specs.HwHarts.{hw_started};
 ghost use Rattle.spec_hardware.specs.HwCalls.{hw_replied};
 ghost use Rattle.spec_hardware.specs.Machine.{update};
-ghost use Rattle.monitor_harts.specs.HwOfSlots.{hw_at, hw_harts_of};
+ghost use Rattle.monitor_exits.specs.HwOfSlots.{hw_at, hw_harts_of};
 
 use hart::Hart;
-use monitor_harts::{HartSlot, answer, set, start, stay, stop};
+use monitor_exits::{HartSlot, answer, set, start, stay, stop};
 use spec_processor::A0;
 use spec_reference::Reply;
 

@@ -1,3 +1,7 @@
+pub mod HwOfSlots
+mod Changes
+mod Modules
+mod HartTraps
 pub mod DeviceAnswers
 pub mod Entered
 pub mod Places

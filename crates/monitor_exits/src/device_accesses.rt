@@ -9,15 +9,16 @@ ghost use Rattle.spec_reference.specs.Devices.{device_load, device_store};
 ghost use Rattle.spec_hardware.specs.HwHarts.{hw_device_load, hw_device_store};
 ghost use Rattle.spec_hardware.specs.Machine.{Machine};
 ghost use Rattle.page_guard.specs.Privileges.{mode_of};
-ghost use Rattle.monitor_harts.specs.HwOfSlots.{hw_at};
+ghost use Rattle.monitor_exits.specs.HwOfSlots.{hw_at};
 ghost use Rattle.monitor_exits.specs.Accessed.{with_devices};
 ghost use Rattle.spec_processor.specs.Bytes.{instruction_size};
 
+use crate::answers::{Trap, pass, set};
+use crate::slots::HartSlot;
 use crate::traps::guest_trap;
 use crate::values::loaded_value;
 use hw_devices::Devices;
 use machine_journal::Journal;
-use monitor_harts::{HartSlot, Trap, pass, set};
 use page_guard::Entries;
 use spec_processor::{Cause, ExitCause};
 

@@ -8,12 +8,13 @@ ghost use Rattle.spec_hardware.specs.Machine.{Machine};
 ghost use Rattle.spec_reference.specs.Counting.{MayCount};
 ghost use Rattle.spec_reference.specs.States.{Journal as Records};
 ghost use Rattle.page_guard.specs.Privileges.{mode_of};
-ghost use Rattle.monitor_harts.specs.HwOfSlots.{hw_at};
+ghost use Rattle.monitor_exits.specs.HwOfSlots.{hw_at};
 ghost use Rattle.monitor_exits.specs.Answered.{with_hart};
 ghost use Rattle.spec_processor.specs.Bytes.{instruction_size};
 
+use crate::answers::{Trap, demote, return_from_trap, send_again, take_trap};
+use crate::slots::HartSlot;
 use machine_journal::Journal;
-use monitor_harts::{HartSlot, Trap, demote, return_from_trap, send_again, take_trap};
 use page_guard::Entries;
 use sv_types::Rule;
 

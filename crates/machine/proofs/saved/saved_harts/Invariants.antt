@@ -1,5 +1,5 @@
 use Rattle.std.proofs.Common.{◌≡◌, ◌++◌, drop}
-use Rattle.monitor_harts.specs.HwOfSlots.{hw_harts_of}
+use Rattle.monitor_exits.specs.HwOfSlots.{hw_harts_of}
 use Rattle.machine.specs.Keeping.{kept_harts}
 use Rattle.machine.proofs.saved.saved_harts.Given as goal
 

@@ -1,7 +1,7 @@
 use Rattle.std.proofs.Common.{arith, ◌+◌, ◌∙◌, ap, List, length}
 use Rattle.std.proofs.lemmas.List.{length_push}
-use Rattle.monitor_harts.specs.HwOfSlots.{hw_harts_of}
-use Rattle.monitor_harts.specs.declared.slots.HartSlot.{HartSlot}
+use Rattle.monitor_exits.specs.HwOfSlots.{hw_harts_of}
+use Rattle.monitor_exits.specs.declared.slots.HartSlot.{HartSlot}
 use Rattle.machine.proofs.Starting.{next_seated}
 use Rattle.machine.proofs.start.slots_at_boot.Goals as goal
 

@@ -1,5 +1,5 @@
 use Rattle.std.proofs.Common.{◌≡◌, ◌≤◌, length}
-use Rattle.monitor_harts.specs.HwOfSlots.{hw_harts_of}
+use Rattle.monitor_exits.specs.HwOfSlots.{hw_harts_of}
 use Rattle.laws_standing.specs.Starts.{hw_harts_at_boot}
 use Rattle.machine.proofs.start.slots_at_boot.Given as goal
 

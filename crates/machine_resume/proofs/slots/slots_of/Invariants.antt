@@ -1,5 +1,5 @@
 use Rattle.std.proofs.Common.{◌≡◌, ◌++◌, drop, length, map}
-use Rattle.monitor_harts.specs.HwOfSlots.{hw_harts_of}
+use Rattle.monitor_exits.specs.HwOfSlots.{hw_harts_of}
 use Rattle.laws_resumed_start.specs.Resuming.{hw_resumed}
 use Rattle.machine_resume.proofs.slots.slots_of.Given as goal
 

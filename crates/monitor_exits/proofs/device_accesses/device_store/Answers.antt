@@ -1,6 +1,6 @@
 use Rattle.std.proofs.Common.{◌∙◌, sym}
 use Rattle.spec_reference.specs.Devices.{device_store}
-use Rattle.monitor_harts.specs.HwOfSlots.{hw_at}
+use Rattle.monitor_exits.specs.HwOfSlots.{hw_at}
 use Rattle.page_guard.specs.Privileges.{mode_of}
 use Rattle.monitor_exits.proofs.DeviceAnswers.{stored_there, not_stored}
 use Rattle.monitor_exits.proofs.device_accesses.device_store.Goals as goal

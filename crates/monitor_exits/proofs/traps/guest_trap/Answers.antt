@@ -1,7 +1,7 @@
 use Rattle.std.proofs.Common.{refl}
 use Rattle.spec_processor.specs.Traps.{is_interrupt, guest_number}
 use Rattle.spec_hardware.specs.HwHarts.{hw_at_trap}
-use Rattle.monitor_harts.specs.HwOfSlots.{hw_at}
+use Rattle.monitor_exits.specs.HwOfSlots.{hw_at}
 use Rattle.monitor_exits.proofs.Places.{update_there}
 use Rattle.monitor_exits.proofs.traps.guest_trap.Goals as goal
 

@@ -1,6 +1,6 @@
 use Rattle.std.proofs.Common.{List, length, sym, ◌∙◌, ap, arith, subst}
-use Rattle.monitor_harts.specs.HwOfSlots.{hw_harts_of}
-use Rattle.monitor_harts.specs.declared.slots.HartSlot.{HartSlot}
+use Rattle.monitor_exits.specs.HwOfSlots.{hw_harts_of}
+use Rattle.monitor_exits.specs.declared.slots.HartSlot.{HartSlot}
 use Rattle.spec_hardware.specs.Machine.{Machine}
 use Rattle.spec_reference.specs.Devices.{lines_at}
 use Rattle.machine_events.proofs.Called.{harts_number}

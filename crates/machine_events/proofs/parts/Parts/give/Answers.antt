@@ -1,12 +1,12 @@
 use Rattle.std.proofs.Common.{ℕ, ◌<◌, ◌≤◌, IsTrue, List, length, sym, ◌∙◌, ap, subst}
 use Rattle.std.proofs.lemmas.List.{with_items_is}
 use Rattle.monitor_calls.specs.Known.{StartsOneOf}
-use Rattle.monitor_harts.specs.HwOfSlots.{hw_harts_of}
-use Rattle.monitor_harts.specs.declared.slots.HartSlot.{HartSlot}
+use Rattle.monitor_exits.specs.HwOfSlots.{hw_harts_of}
+use Rattle.monitor_exits.specs.declared.slots.HartSlot.{HartSlot}
 use Rattle.spec_hardware.specs.HwCalls.{hw_given, hw_replied, hw_harts_side_effect}
 use Rattle.spec_hardware.specs.Machine.{Machine, update}
 use Rattle.spec_hardware.specs.Steps.{WithTables}
-use Rattle.monitor_modules.specs.Conditions.{AreGuarded}
+use Rattle.module_gate.specs.Conditions.{AreGuarded}
 use Rattle.spec_reference.specs.Counting.{MayCount}
 use Rattle.sv_types.specs.Limits.{max_printed}
 use Rattle.sv_types.specs.Policies.{rules_within}

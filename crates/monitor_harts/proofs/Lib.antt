@@ -1,4 +1,0 @@
-pub mod HwOfSlots
-mod Changes
-mod Modules
-mod Traps

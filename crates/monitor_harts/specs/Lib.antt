@@ -1,4 +1,0 @@
-pub mod Asking
-pub mod HwOfSlots
-pub mod Slots
-pub mod Trapped

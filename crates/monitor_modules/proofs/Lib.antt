@@ -1,4 +1,0 @@
-pub mod Given
-pub mod Joined
-pub mod LoadTurns
-pub mod PagesGiven

@@ -1,3 +1,0 @@
-pub mod Changes
-pub mod Conditions
-pub mod Parts
