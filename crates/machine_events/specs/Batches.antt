@@ -27,10 +27,6 @@ use Rattle.machine_events.specs.Attempts.{hart_in}
 use Rattle.machine_events.specs.Turns.{Attempts, answered_exit}
 use Rattle.spec_processor.specs.Bytes.{instruction_size}
 
--- no hart has a reservation
-abbrev pub AreFree : List HwHart → Type 0
-AreFree harts = (h : ℕ) → (hart_in harts h).core.reservation ≡ None
-
 -- no hart has one, where that is known
 abbrev pub AreFreeWhere : (known : Bool) → List HwHart → Type 0
 AreFreeWhere true harts = AreFree harts
@@ -43,13 +39,6 @@ reserves_nothing Beat = true
 reserves_nothing (Key byte) = true
 reserves_nothing (Tick n) = true
 reserves_nothing (Poke gpa value) = true
-
--- a hart stands at an instruction, and its walks lead to RAM
-pub record WalksUnderRoot (region : Region) (hw : HwHart) : Type 0 where
-  pub aligned : hw.core.pc % instruction_size ≡ 0
-  pub keeps : KeepsMode hw.core.hregs
-  pub stage : IsSv39x4 hw.core.hregs.hgatp
-  pub apart : WalksApart region hw.core.hregs.hgatp
 
 -- so many turns counted, each with its instruction
 abbrev pub counted_batch : ℕ → Journal → Journal

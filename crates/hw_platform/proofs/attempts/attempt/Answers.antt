@@ -2,9 +2,9 @@ use Rattle.std.proofs.Common.{◌≡◌, ◌<◌, ◌%◌, ℕ, sym, ◌∙◌, 
 use Rattle.spec_processor.specs.HardwareAttempt.{attempt}
 use Rattle.spec_hardware.specs.Machine.{HwHart, all_forget}
 use Rattle.std.specs.Prelude.{List}
-use Rattle.machine_events.proofs.HwOfSlots.{core_put, pc_there, usable_there, usable_set}
-use Rattle.machine_events.specs.Attempts.{hart_in}
-use Rattle.machine_events.proofs.attempts.attempt.Goals as goal
+use Rattle.hw_platform.proofs.HwOfSlots.{core_put, pc_there, usable_there, usable_set}
+use Rattle.hw_platform.specs.Attempts.{hart_in}
+use Rattle.hw_platform.proofs.attempts.attempt.Goals as goal
 
 pub attempt_in_slot-outcome-requires-clause-usable : goal.attempt_in_slot-outcome-requires-clause-usable
 attempt_in_slot-outcome-requires-clause-usable g c =

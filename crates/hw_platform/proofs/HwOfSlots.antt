@@ -7,7 +7,7 @@ use Rattle.spec_hardware.specs.Machine.{HwHart, forgets, all_forget, update, wit
 use Rattle.monitor_exits.proofs.HwOfSlots.{hw_harts_set, hw_harts_updated}
 use Rattle.monitor_exits.specs.HwOfSlots.{hw_at, hw_harts_of}
 use Rattle.monitor_exits.specs.declared.slots.HartSlot.{HartSlot}
-use Rattle.machine_events.specs.Attempts.{hart_in}
+use Rattle.hw_platform.specs.Attempts.{hart_in}
 use Rattle.hw_tlb.specs.Usable.{IsUsable, AreUsable}
 use Rattle.hw_tlb.specs.declared.caches.HartCaches.{HartCaches}
 use Rattle.sv_types.proofs.SetElements.{set_or_there}

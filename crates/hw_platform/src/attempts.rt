@@ -5,7 +5,7 @@ ghost use Rattle.spec_processor.specs.Counters.{CanCount};
 ghost use Rattle.spec_processor.specs.HardwareAttempt.{attempt};
 ghost use Rattle.spec_hardware.specs.Machine.{with_core, update, all_forget};
 ghost use Rattle.monitor_exits.specs.HwOfSlots.{hw_at, hw_harts_of};
-ghost use Rattle.machine_events.specs.Attempts.{hart_in, IsReady, KeepsTurns, MayTakeTurns};
+ghost use Rattle.hw_platform.specs.Attempts.{hart_in, IsReady, KeepsTurns, MayTakeTurns};
 ghost use Rattle.hw_tlb.specs.Usable.{IsUsable};
 ghost use Rattle.spec_processor.specs.Bytes.{instruction_size};
 

@@ -1,6 +1,6 @@
 use Rattle.std.proofs.Common.{◌≤◌, ◌-◌, length}
-use Rattle.machine_events.proofs.Batches.{FirstFree}
-use Rattle.machine_events.proofs.batch_turns.are_free.Given as goal
+use Rattle.hw_platform.proofs.Batches.{FirstFree}
+use Rattle.hw_platform.proofs.batch_turns.are_free.Given as goal
 
 abbrev pub invariant-slots : goal.invariant-slots
 invariant-slots l = record {

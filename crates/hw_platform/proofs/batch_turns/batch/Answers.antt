@@ -1,7 +1,7 @@
 use Rattle.std.proofs.Common.{sym, subst, ◌<◌, ℕ, rules}
-use Rattle.machine_events.proofs.HwOfSlots.{usable_there, usable_set}
-use Rattle.machine_events.proofs.Batches.{aligned_there, free_there, harts_there, batch_there}
-use Rattle.machine_events.proofs.batch_turns.batch.Goals as goal
+use Rattle.hw_platform.proofs.HwOfSlots.{usable_there, usable_set}
+use Rattle.hw_platform.proofs.Batches.{aligned_there, free_there, harts_there, batch_there}
+use Rattle.hw_platform.proofs.batch_turns.batch.Goals as goal
 
 pub batch_in_slot-requires-clause-usable : goal.batch_in_slot-requires-clause-usable
 batch_in_slot-requires-clause-usable c =

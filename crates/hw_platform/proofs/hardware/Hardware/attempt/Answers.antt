@@ -3,11 +3,11 @@ use Rattle.monitor_exits.specs.HwOfSlots.{hw_harts_of}
 use Rattle.monitor_exits.specs.declared.slots.HartSlot.{HartSlot}
 use Rattle.spec_hardware.specs.Machine.{Machine}
 use Rattle.spec_reference.specs.Devices.{lines_at}
-use Rattle.machine_events.proofs.Called.{harts_number}
-use Rattle.machine_events.specs.Attempts.{hart_in, IsReady}
+use Rattle.hw_platform.proofs.Called.{harts_number}
+use Rattle.hw_platform.specs.Attempts.{hart_in, IsReady}
 use Rattle.hw_tlb.specs.Usable.{AreUsable}
 use Rattle.hw_tlb.specs.declared.caches.HartCaches.{HartCaches}
-use Rattle.machine_events.proofs.parts.Parts.attempt.Goals as goal
+use Rattle.hw_platform.proofs.parts.Parts.attempt.Goals as goal
 
 pub invariant_of-interrupt_lines : goal.invariant_of-interrupt_lines
 invariant_of-interrupt_lines c =

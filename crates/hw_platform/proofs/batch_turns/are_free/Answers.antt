@@ -1,6 +1,6 @@
 use Rattle.std.proofs.Common.{◌∙◌, arith, sym}
-use Rattle.machine_events.proofs.Batches.{none_first, one_more_free}
-use Rattle.machine_events.proofs.batch_turns.are_free.Goals as goal
+use Rattle.hw_platform.proofs.Batches.{none_first, one_more_free}
+use Rattle.hw_platform.proofs.batch_turns.are_free.Goals as goal
 
 pub slots-init : goal.slots-init
 slots-init c = record { few = omega arith; free = none_first c.args.slots.now }

@@ -1,4 +1,4 @@
--- A beat of the disk's device keeps to RAM, and so does a write of an attacker's; what follows either.
+-- A beat of the disk's device keeps to RAM, and so does a write of an attacker's.
 use Rattle.std.proofs.Common.{◌≡◌, ℕ, ◌+◌, ◌≤◌, List, [], ◌∷◌, length, refl, arith, Bool, true, false}
 use Rattle.std.specs.Prelude.{Option, Some, None, not, ◌&&◌, ◌==◌, nat_lt, if◌then◌else◌}
 use Rattle.std.proofs.lemmas.Bool.Decides.{nat_tests}
@@ -9,8 +9,6 @@ use Rattle.sv_types.specs.Schedule.{is_poke_address, poke_size}
 use Rattle.sv_types.specs.declared.block.BlockStatus.{BlockStatus}
 use Rattle.sv_types.specs.declared.virtio.VirtioMove.{VirtioMove}
 use Rattle.sv_types.specs.declared.virtio.VirtioPart.{VirtioPart}
-use Rattle.sv_types.specs.declared.event.Event.TheVariants.{Beat, Poke}
-use Rattle.spec_reference.specs.Counting.{count_beat, with_count}
 use Rattle.spec_reference.specs.States.{Devices, Disk, Journal, BlockDevice, BlockDisk, VirtioDisk}
 use Rattle.spec_reference.specs.VirtioDevice.{VirtioDevice, Request}
 use Rattle.spec_reference.specs.VirtioQueue.{rings_in_ram, available_index, next_head, waiting_count}
@@ -22,10 +20,8 @@ use Rattle.spec_reference.specs.Disk.{disk_beat, is_writable}
 use Rattle.spec_reference.specs.Move.{Move, Idle, FromRam, IntoRam, DeniedAt, OutsideRam}
 use Rattle.dma_guard.specs.Transfers.{beat_of, after_move}
 use Rattle.dma_guard.specs.declared.port.DmaStep.{DmaStep}
-use Rattle.spec_hardware.specs.HwEvents.{after_hw_move, beat_served, event_served, poke_served, with_hw_disk}
-use Rattle.spec_hardware.specs.Machine.{Machine, with_count_raised}
 use Rattle.laws_invariants.proofs.Lookups.{part_short}
-use Rattle.machine_events.specs.Beats.{LiesInRam, ToldInRam, told_served}
+use Rattle.hw_platform.specs.Beats.{LiesInRam, ToldInRam}
 use Rattle.laws_invariants.proofs.BeatsSound.{room_of}
 use Rattle.sv_types.specs.VirtioResults.{result_number}
 
@@ -139,16 +135,7 @@ pub poke_fits : (ram : List ℕ) (may_write : ℕ → Bool) (gpa value : ℕ) �
 unfolding poke_move
 poke_fits ram may_write gpa value = poke_fits_by ram gpa value (is_poke_address gpa) (in_ram ram gpa poke_size) (may_write (page_of gpa)) refl
 
--- ---- after a move
-
--- a move, and what follows it
-told_after : (m : Machine) (x : Move) → told_served (record m { region = after_move m.region x }) (beat_of x) ≡ after_hw_move m x
-unfolding told_served after_hw_move
-told_after m Idle = refl
-told_after m (FromRam gpa) = refl
-told_after m (IntoRam gpa bytes) = refl
-told_after m (DeniedAt gpa) = refl
-told_after m OutsideRam = refl
+-- ---- what a move keeps
 
 pub move_keeps_tables : (r : Region) (x : Move) → (after_move r x).tables ≡ r.tables
 move_keeps_tables r Idle = refl
@@ -163,22 +150,3 @@ move_keeps_size r (FromRam gpa) fits = refl
 move_keeps_size r (IntoRam gpa bytes) fits = length_overwrite r.ram bytes (ram_offset gpa) fits.last
 move_keeps_size r (DeniedAt gpa) fits = refl
 move_keeps_size r OutsideRam fits = refl
-
--- a beat, and what follows it
-pub beat_follows : (m : Machine) (dma : List Bool) (devices : Devices) (region : Region) (journal : Journal) (told : DmaStep) → dma ≡ m.dma
-    → devices ≡ record m.devices { disk = (disk_beat m.devices.disk m.region.ram (is_writable dma)).disk }
-    → region ≡ after_move m.region (disk_beat m.devices.disk m.region.ram (is_writable dma)).move
-    → told ≡ beat_of (disk_beat m.devices.disk m.region.ram (is_writable dma)).move → journal ≡ with_count count_beat m.journal
-    → told_served (record m { region = region; devices = devices; journal = journal }) told ≡ event_served m Beat
-unfolding event_served beat_served
-beat_follows m dma devices region journal told guard d r t j =
-    let b = disk_beat m.devices.disk m.region.ram (is_writable m.dma) in
-    rw (d, r, t, j, guard) (told_after (with_hw_disk (with_count_raised m count_beat) b.disk) b.move)
-
--- a write of an attacker's device, and what follows it
-pub poke_follows : (m : Machine) (gpa value : ℕ) (dma : List Bool) (region : Region) (journal : Journal) (told : DmaStep) → dma ≡ m.dma
-    → region ≡ after_move m.region (poke_move m.region.ram (is_writable dma) gpa value) → told ≡ beat_of (poke_move m.region.ram (is_writable dma) gpa value)
-    → journal ≡ with_count count_beat m.journal → told_served (record m { region = region; journal = journal }) told ≡ event_served m (Poke gpa value)
-unfolding event_served poke_served
-poke_follows m gpa value dma region journal told guard r t j =
-    rw (r, t, j, guard) (told_after (with_count_raised m count_beat) (poke_move m.region.ram (is_writable m.dma) gpa value))
