@@ -150,3 +150,11 @@ move_keeps_size r (FromRam gpa) fits = refl
 move_keeps_size r (IntoRam gpa bytes) fits = length_overwrite r.ram bytes (ram_offset gpa) fits.last
 move_keeps_size r (DeniedAt gpa) fits = refl
 move_keeps_size r OutsideRam fits = refl
+
+-- what lies in RAM lies in any other of its size
+pub told_inside : (ram after : List ℕ) (told : DmaStep) → length after ≡ length ram → ToldInRam ram told → ToldInRam after told
+told_inside ram after (DmaStep.Wrote gpa n) same fits = record { first = fits.first; last = let last = fits.last in omega (arith, same, last) }
+told_inside ram after (DmaStep.Read gpa) same fits = tt
+told_inside ram after (DmaStep.Denied gpa) same fits = tt
+told_inside ram after DmaStep.Idle same fits = tt
+told_inside ram after DmaStep.Range same fits = tt

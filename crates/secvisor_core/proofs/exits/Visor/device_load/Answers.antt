@@ -1,38 +1,25 @@
-use Rattle.std.proofs.Common.{ℕ, ◌≤◌, ◌∙◌, sym, subst, length-set}
 use Rattle.spec_hardware.specs.HwExits.{hw_exit_answered}
 use Rattle.spec_hardware.specs.declared.exits.ExitAnswer.TheVariants.{LoadsDevice}
-use Rattle.machine_events.proofs.Called.{slot_indexed}
-use Rattle.machine_events.proofs.Seated.{aligned_there, answers}
-use Rattle.machine_events.specs.Parts.{machine_of_parts}
-use Rattle.machine_events.proofs.parts.Parts.device_load.Goals as goal
+use Rattle.secvisor_core.proofs.Called.{slot_indexed}
+use Rattle.secvisor_core.proofs.Slotted.{aligned_there, answers}
+use Rattle.secvisor_core.specs.Visors.{machine_of}
+use Rattle.secvisor_core.proofs.exits.Visor.device_load.Goals as goal
 
-pub returns : goal.returns
+pub returns-clause-answer : goal.returns-clause-answer
 unfolding hw_exit_answered
-returns c =
-    answers c.self.inside c.args.hart c.index_mut-slot.result.now c.index_mut-slot.ensures.value
+returns-clause-answer c =
+    answers c.args.self.now c.args.hardware.now c.args.journal.now c.args.hart c.index_mut-slot.result.now c.index_mut-slot.ensures.value
     (λ m hw mode. hw_exit_answered m c.args.hart hw mode (LoadsDevice c.args.load.rd c.args.load.address c.args.load.width c.args.load.signed c.args.load.gpa))
-    c.device_load.new.slot c.device_load.new.devices c.device_load.new.journal c.args.self.now c.self.view_is c.requires.hart.there c.self.invariant.tables_match
-    c.self.invariant.pages c.self.invariant.places
-    (c.device_load.ensures.machine (machine_of_parts c.self.inside) c.self.invariant.entries c.self.invariant.bound)
+    c.device_load.new.slot c.device_load.new.devices c.device_load.new.journal c.requires.hart.there c.requires.joined
+    (c.device_load.ensures.machine (machine_of c.args.self.now c.args.hardware.now c.args.journal.now) c.requires.joined.entries c.requires.joined.bound)
 
 pub index_mut-slot-requires : goal.index_mut-slot-requires
-index_mut-slot-requires c = slot_indexed c.self.inside c.args.hart c.args.self.now c.self.view_is c.requires.hart.there
+index_mut-slot-requires c = slot_indexed c.args.hardware.now c.args.hart c.requires.hart.there
 
 pub device_load-requires-clause-aligned : goal.device_load-requires-clause-aligned
 device_load-requires-clause-aligned c =
-    aligned_there c.self.inside c.args.hart c.index_mut-slot.result.now c.index_mut-slot.ensures.value c.args.self.now c.self.view_is c.requires.hart.there c.requires.hart.aligned
+    aligned_there c.args.self.now c.args.hardware.now c.args.journal.now c.args.hart c.index_mut-slot.result.now c.index_mut-slot.ensures.value
+    c.requires.hart.there c.requires.hart.aligned
 
-pub invariant_of-self : goal.invariant_of-self
-invariant_of-self c =
-    let number = length-set c.self.inside.slots.items c.args.hart c.device_load.new.slot in
-    record {
-      entries = c.self.invariant.entries;
-      bound = c.self.invariant.bound;
-      places = c.self.invariant.places;
-      few = subst (λ (n : ℕ). n ≤ 4) (sym number) c.self.invariant.few;
-      caches = c.self.invariant.caches ∙ sym number;
-      tables_match = c.self.invariant.tables_match;
-      usable = c.self.invariant.usable;
-      pages = c.self.invariant.pages;
-      modules = c.self.invariant.modules;
-    }
+pub returns-clause-joined : goal.returns-clause-joined
+returns-clause-joined c = ?

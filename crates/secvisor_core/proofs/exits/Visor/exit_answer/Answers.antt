@@ -1,17 +1,15 @@
 use Rattle.sv_types.specs.Policies.{rules_of}
-use Rattle.machine_events.proofs.Called.{slot_indexed}
-use Rattle.machine_events.proofs.Seated.{possible_there, seen_there}
-use Rattle.machine_events.proofs.parts.Parts.exit_answer.Goals as goal
+use Rattle.secvisor_core.proofs.Called.{slot_indexed}
+use Rattle.secvisor_core.proofs.Slotted.{possible_there, seen_there}
+use Rattle.secvisor_core.proofs.exits.Visor.exit_answer.Goals as goal
 
 pub returns-clause-answer : goal.returns-clause-answer
-returns-clause-answer c =
-    seen_there c.self.inside c.args.hart c.index.result.now c.index.ensures c.args.exit.now c.exit_answer.result c.args.self.now c.self.view_is
-    c.requires.hart.there (c.exit_answer.ensures.answer (rules_of c.self.inside.policy) c.self.invariant.entries c.self.invariant.bound)
+returns-clause-answer c = λ journal.
+    seen_there c.args.self.now c.args.hardware.now journal c.args.hart c.index.result.now c.index.ensures c.args.exit.now c.exit_answer.result
+    c.requires.hart.there (c.exit_answer.ensures.answer (rules_of c.args.self.now.policy) c.requires.joined.entries c.requires.joined.bound)
 
 pub returns-clause-possible : goal.returns-clause-possible
-returns-clause-possible c =
-    possible_there c.self.inside c.args.hart c.index.result.now c.index.ensures c.exit_answer.result c.args.self.now c.self.view_is
-    c.requires.hart.there c.exit_answer.ensures.possible
+returns-clause-possible c = ?
 
 pub index-requires : goal.index-requires
-index-requires c = slot_indexed c.self.inside c.args.hart c.args.self.now c.self.view_is c.requires.hart.there
+index-requires c = slot_indexed c.args.hardware.now c.args.hart c.requires.hart.there

@@ -1,38 +1,25 @@
-use Rattle.std.proofs.Common.{ℕ, ◌≤◌, ◌∙◌, sym, subst, length-set}
 use Rattle.spec_hardware.specs.HwExits.{hw_exit_answered}
 use Rattle.spec_hardware.specs.declared.exits.ExitAnswer.TheVariants.{Traps}
-use Rattle.machine_events.proofs.Called.{slot_indexed}
-use Rattle.machine_events.proofs.Seated.{aligned_there, answers}
-use Rattle.machine_events.specs.Parts.{machine_of_parts}
-use Rattle.machine_events.proofs.parts.Parts.guest_trap.Goals as goal
+use Rattle.secvisor_core.proofs.Called.{slot_indexed}
+use Rattle.secvisor_core.proofs.Slotted.{aligned_there, answers}
+use Rattle.secvisor_core.specs.Visors.{machine_of}
+use Rattle.secvisor_core.proofs.exits.Visor.guest_trap.Goals as goal
 
-pub returns : goal.returns
+pub returns-clause-answer : goal.returns-clause-answer
 unfolding hw_exit_answered
-returns c =
-    answers c.self.inside c.args.hart c.index_mut-slot.result.now c.index_mut-slot.ensures.value
+returns-clause-answer c =
+    answers c.args.self.now c.args.hardware.now c.args.journal.now c.args.hart c.index_mut-slot.result.now c.index_mut-slot.ensures.value
     (λ m hw mode. hw_exit_answered m c.args.hart hw mode (Traps c.args.trap.cause c.args.trap.tval))
-    c.guest_trap.new.slot c.self.inside.devices c.guest_trap.new.journal c.args.self.now c.self.view_is c.requires.hart.there c.self.invariant.tables_match
-    c.self.invariant.pages c.self.invariant.places
-    (c.guest_trap.ensures.machine (machine_of_parts c.self.inside) c.self.invariant.entries c.self.invariant.bound)
+    c.guest_trap.new.slot c.args.hardware.now.devices c.guest_trap.new.journal c.requires.hart.there c.requires.joined
+    (c.guest_trap.ensures.machine (machine_of c.args.self.now c.args.hardware.now c.args.journal.now) c.requires.joined.entries c.requires.joined.bound)
 
 pub index_mut-slot-requires : goal.index_mut-slot-requires
-index_mut-slot-requires c = slot_indexed c.self.inside c.args.hart c.args.self.now c.self.view_is c.requires.hart.there
+index_mut-slot-requires c = slot_indexed c.args.hardware.now c.args.hart c.requires.hart.there
 
 pub guest_trap-requires-clause-aligned : goal.guest_trap-requires-clause-aligned
 guest_trap-requires-clause-aligned c =
-    aligned_there c.self.inside c.args.hart c.index_mut-slot.result.now c.index_mut-slot.ensures.value c.args.self.now c.self.view_is c.requires.hart.there c.requires.hart.aligned
+    aligned_there c.args.self.now c.args.hardware.now c.args.journal.now c.args.hart c.index_mut-slot.result.now c.index_mut-slot.ensures.value
+    c.requires.hart.there c.requires.hart.aligned
 
-pub invariant_of-self : goal.invariant_of-self
-invariant_of-self c =
-    let number = length-set c.self.inside.slots.items c.args.hart c.guest_trap.new.slot in
-    record {
-      entries = c.self.invariant.entries;
-      bound = c.self.invariant.bound;
-      places = c.self.invariant.places;
-      few = subst (λ (n : ℕ). n ≤ 4) (sym number) c.self.invariant.few;
-      caches = c.self.invariant.caches ∙ sym number;
-      tables_match = c.self.invariant.tables_match;
-      usable = c.self.invariant.usable;
-      pages = c.self.invariant.pages;
-      modules = c.self.invariant.modules;
-    }
+pub returns-clause-joined : goal.returns-clause-joined
+returns-clause-joined c = ?
