@@ -217,7 +217,7 @@ fn reset_call(asked: &Asked) -> Answer
 }
 
 /// The answer to a call from kernel mode that isn't one about modules.
-#[tactic(auto, using(crate::proofs::Started::started_number), unfolding(spec_reference::specs::ModuleCalls::answer_by))]
+#[tactic(auto, using(crate::proofs::Started::started_number), unfolding(spec_reference::specs::ModuleCalls::call_answer_by))]
 pub fn answer_of(slots: &[HartSlot], entries: &Entries, input: &[u8], asked: &Asked) -> Answer
     requires few { length slots.now ≤ max_harts }
     requires others { is_about_modules asked.now ≡ false }

@@ -23,7 +23,7 @@ pub(crate) fn write_notes(out: &mut Vec<u8>, kept: &[Note]) -> Result<(), AllocE
     Ok(())
 }
 
-#[tactic(auto, unfolding(snapshot_format::specs::JournalForms::note_form, snapshot_format::specs::JournalForms::note_after, snapshot_format::specs::JournalForms::demote, snapshot_format::specs::JournalForms::denied_note, snapshot_format::specs::JournalForms::load_note, snapshot_format::specs::JournalForms::unload, snapshot_format::specs::JournalForms::retire, snapshot_format::specs::JournalForms::answer, snapshot_format::specs::JournalForms::code, snapshot_format::specs::JournalForms::hart_number, snapshot_format::specs::HartForms::multiple_of))]
+#[tactic(auto, unfolding(snapshot_format::specs::JournalForms::note_form, snapshot_format::specs::JournalForms::note_after, snapshot_format::specs::JournalForms::demote_form, snapshot_format::specs::JournalForms::denied_note, snapshot_format::specs::JournalForms::load_note, snapshot_format::specs::JournalForms::unload, snapshot_format::specs::JournalForms::retire, snapshot_format::specs::JournalForms::answer, snapshot_format::specs::JournalForms::code, snapshot_format::specs::JournalForms::hart_number, snapshot_format::specs::HartForms::multiple_of))]
 fn write_note(out: &mut Vec<u8>, n: Note) -> Result<(), AllocError>
     ensures encoded { (harts : ℕ) → OnOk result (out.new.items ≡ out.old.items ++ (note_form harts).encode n) }
     ensures typed { OnOk result (is_typed_note n ≡ true) }
