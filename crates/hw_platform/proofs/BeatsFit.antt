@@ -9,14 +9,14 @@ use Rattle.sv_types.specs.Schedule.{is_poke_address, poke_size}
 use Rattle.sv_types.specs.declared.block.BlockStatus.{BlockStatus}
 use Rattle.sv_types.specs.declared.virtio.VirtioMove.{VirtioMove}
 use Rattle.sv_types.specs.declared.virtio.VirtioPart.{VirtioPart}
-use Rattle.spec_reference.specs.States.{Devices, Disk, Journal, BlockDevice, BlockDisk, VirtioDisk}
+use Rattle.spec_reference.specs.States.{Disk, BlockDevice, BlockDisk, VirtioDisk}
 use Rattle.spec_reference.specs.VirtioDevice.{VirtioDevice, Request}
 use Rattle.spec_reference.specs.VirtioQueue.{rings_in_ram, available_index, next_head, waiting_count}
 use Rattle.spec_reference.specs.VirtioChain.{chain, max_parts, is_good_chain}
 use Rattle.spec_reference.specs.VirtioBeats.{VirtioBeat, nothing, broken_beat, with_request, last_moves_alone, with_written, to_memory, to_disk, put_last, finish_request, make, make_first, accept_request, accept, look, go_on, is_live, virtio_beat}
 use Rattle.spec_reference.specs.BlockDisk.{block_beat, is_busy, block_to_disk, transfer_ended, block_after_beat, beat_gpa, beat_place, beat_size, is_to_memory}
 use Rattle.spec_reference.specs.Attacker.{poke_move}
-use Rattle.spec_reference.specs.Disk.{disk_beat, is_writable}
+use Rattle.spec_reference.specs.Disk.{disk_beat}
 use Rattle.spec_reference.specs.Move.{Move, Idle, FromRam, IntoRam, DeniedAt, OutsideRam}
 use Rattle.dma_guard.specs.Transfers.{beat_of, after_move}
 use Rattle.dma_guard.specs.declared.port.DmaStep.{DmaStep}

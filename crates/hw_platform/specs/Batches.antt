@@ -1,5 +1,5 @@
 -- Turns of one hart in a row, each of which carries out an instruction: what they ask for. This project's own.
-use Rattle.std.specs.Prelude.{◌≡◌, ℕ, ◌%◌, true, List, None}
+use Rattle.std.specs.Prelude.{◌≡◌, ℕ, ◌%◌, List, None}
 use Rattle.spec_processor.specs.Bytes.{instruction_size}
 use Rattle.spec_processor.specs.Regions.{Region}
 use Rattle.spec_processor.specs.GStage.{WalksApart}

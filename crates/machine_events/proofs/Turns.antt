@@ -1,27 +1,20 @@
 -- Answers to exits, and turns.
 use Rattle.std.proofs.Common.{◌≡◌, ℕ, zero, suc, ◌<◌, Bool, true, false, List, [], ◌∷◌, length, refl, sym, ◌∙◌, ap, subst, arith}
-use Rattle.std.specs.Prelude.{Option, Some, slice_get}
-use Rattle.sv_types.specs.Policies.{Rules}
-use Rattle.sv_types.specs.Views.{AreViews}
+use Rattle.std.specs.Prelude.{Option, slice_get}
 use Rattle.spec_processor.specs.Hardware.{Attempted}
-use Rattle.spec_processor.specs.Regions.{Region}
 use Rattle.spec_processor.specs.declared.outcome.Outcome.{Outcome}
 use Rattle.spec_processor.specs.declared.exit.Exit.{Exit}
-use Rattle.sv_types.specs.declared.protection.Protection.{Protection}
-use Rattle.spec_reference.specs.Protections.{protection_at}
 use Rattle.spec_reference.specs.Counting.{with_count}
 use Rattle.laws_simulation.specs.Laws.{IsQuiet}
 use Rattle.spec_hardware.specs.HardwareEvent.{attempt_of, is_loading, left_by, hart_again, sent_again}
-use Rattle.spec_hardware.specs.HwExits.{hw_exit, served_exit, served_by}
 use Rattle.spec_hardware.specs.HwHarts.{asks_again, hw_outside}
 use Rattle.spec_hardware.specs.Machine.{Machine, HwHart, all_forget, count_outcome, update, with_core}
 use Rattle.spec_hardware.specs.Served.{is_again}
-use Rattle.spec_hardware.specs.StandsFor.{bound_pages}
-use Rattle.spec_hardware.specs.Steps.{WithTables, TurnServed, HartServed, StartedServed, AttemptServed, AttemptsServed, OutcomeServed}
-use Rattle.spec_hardware.specs.declared.exits.ExitAnswer.{ExitAnswer}
-use Rattle.page_guard.specs.Guarded.{Guarded, TablesMatchGuard}
-use Rattle.machine_events.specs.Attempts.{hart_in}
-use Rattle.machine_events.specs.Turns.{Concluded, ExitServed, Finished, HasPagesOf, IsReadyTwice, MayAttemptAgain, MayServe, answered_exit, asked_of, left_entry}
+use Rattle.spec_hardware.specs.Steps.{TurnServed, HartServed, StartedServed, AttemptServed, AttemptsServed, OutcomeServed}
+use Rattle.hw_platform.specs.Attempts.{hart_in}
+use Rattle.secvisor_core.proofs.Served.{hart_there, length_update}
+use Rattle.secvisor_core.specs.Serving.{MayServe, asked_of, left_entry}
+use Rattle.machine_events.specs.Turns.{Concluded, ExitServed, Finished, IsReadyTwice, MayAttemptAgain}
 use Rattle.laws_simulation.proofs.TurnsServed.{forgets_none}
 
 -- ---- turns

@@ -1,14 +1,11 @@
 -- Turns of one hart in a row, each of which carries out an instruction: what they make of the machine. This project's own.
-use Rattle.std.specs.Prelude.{◌≡◌, ℕ, zero, suc, ◌+◌, ◌%◌, ◌<◌, Bool, true, false, List, length, None}
+use Rattle.std.specs.Prelude.{◌≡◌, ℕ, zero, suc, ◌+◌, ◌<◌, Bool, true, false, List, length, None}
 use Rattle.spec_processor.specs.Hardware.{Core}
 use Rattle.spec_processor.specs.HardwareAttempt.{attempt}
 use Rattle.spec_processor.specs.HypervisorRegisters.{pending}
 use Rattle.spec_processor.specs.Regions.{Region}
-use Rattle.spec_processor.specs.GStage.{WalksApart}
-use Rattle.spec_processor.specs.Roots.{IsSv39x4}
 use Rattle.spec_processor.specs.declared.cause.Cause.{Cause}
 use Rattle.spec_processor.specs.declared.exit.ExitCause.{ExitCause}
-use Rattle.hart.specs.Conditions.{KeepsMode}
 use Rattle.spec_hardware.specs.Steps.{WithTables}
 use Rattle.spec_hardware.specs.declared.exits.ExitAnswer.{ExitAnswer}
 use Rattle.spec_hardware.specs.declared.exits.ExitAnswer.TheVariants.{Traps}
@@ -23,9 +20,10 @@ use Rattle.hw_fast_path.specs.Ends.{with_leaving}
 use Rattle.hw_fast_path.specs.Batches.{LeavesBy, RetiresThrough}
 use Rattle.hw_fast_path.specs.declared.leaving.Leaving.{Leaving}
 use Rattle.hw_fast_path.specs.declared.leaving.Leaving.TheVariants.{Stays, Calls, Returns}
-use Rattle.machine_events.specs.Attempts.{hart_in}
-use Rattle.machine_events.specs.Turns.{Attempts, answered_exit}
-use Rattle.spec_processor.specs.Bytes.{instruction_size}
+use Rattle.hw_platform.specs.Attempts.{hart_in}
+use Rattle.hw_platform.specs.Batches.{AreFree}
+use Rattle.secvisor_core.specs.Serving.{answered_exit}
+use Rattle.machine_events.specs.Turns.{Attempts}
 
 -- no hart has one, where that is known
 abbrev pub AreFreeWhere : (known : Bool) → List HwHart → Type 0
