@@ -1,8 +1,8 @@
 -- What follows a beat of the disk's device, and a write of an attacker's.
-use Rattle.std.proofs.Common.{◌≡◌, ℕ, List, refl, ◌∙◌, ap, Bool}
+use Rattle.std.proofs.Common.{◌≡◌, ℕ, List, refl, Bool}
 use Rattle.sv_types.specs.declared.event.Event.TheVariants.{Beat, Poke}
 use Rattle.spec_reference.specs.Attacker.{poke_move}
-use Rattle.spec_reference.specs.Counting.{count_beat, with_count}
+use Rattle.spec_reference.specs.Counting.{count_beat}
 use Rattle.spec_reference.specs.Disk.{disk_beat, is_writable}
 use Rattle.spec_reference.specs.Move.{Move, Idle, FromRam, IntoRam, DeniedAt, OutsideRam}
 use Rattle.dma_guard.specs.Transfers.{beat_of, after_move}
