@@ -1,27 +1,23 @@
 #!/usr/bin/env python3
-"""The table of crates in docs/ARCHITECTURE.md is made from crates.txt: a heading (##) for each layer, above each crate
-a comment (#) that says what it holds, and after its name what it stands on. Without words it compares the table with
-crates.txt, prints the first difference and ends with status 1 where there is one; with `--write` it writes the table."""
+"""The table of layers in docs/ARCHITECTURE.md is made from crates.txt: a row for each heading (##), with its crates in their
+order. Without words it compares the two, prints the first difference and ends with status 1 where there is one; with `--write`
+it writes the table. `--on CRATE ..` prints what these crates stand on, but for what another of these stands on."""
 import pathlib
 import sys
 
 TOP = pathlib.Path(__file__).resolve().parent.parent
 PAGE = TOP / 'docs/ARCHITECTURE.md'
-HEAD = ['| Crate | What it holds | Stands on |', '|---|---|---|']
+HEAD = ['| Layer, lowest first | Crates |', '|---|---|']
 
 
 def layers():
-    """The lines of crates.txt in order: a layer's heading, or a crate with its comment and the libraries that it names."""
-    comment = []
+    """The lines of crates.txt in order: a layer's heading, or a crate with the libraries that it names."""
     for line in (TOP / 'crates.txt').read_text().splitlines():
         if line.startswith('## '):
-            yield line[3:], None, None
-        elif line.startswith('# '):
-            comment.append(line[2:])
-        elif line:
+            yield line[3:], None
+        elif line and not line.startswith('#'):
             crate, names = line.split(':')
-            yield crate.split()[0], ' '.join(comment), names.split()
-            comment = []
+            yield crate.split()[0], names.split()
 
 
 def below(own, crate):
@@ -32,27 +28,31 @@ def below(own, crate):
     return found
 
 
+def stands_on(crate):
+    named = {crate: names for crate, names in layers() if names is not None}
+    own = {crate: [name for name in names if name in named] for crate, names in named.items()}
+    return [name for name in own[crate] if not any(name in below(own, other) for other in own[crate])]
+
+
 def table():
-    """The lines of the table. A crate stands on those that it names, but for what another of these stands on."""
-    found = list(layers())
-    listed = {crate for crate, _, names in found if names is not None}
-    own = {crate: [name for name in names if name in listed] for crate, _, names in found if names is not None}
-    under = {crate: below(own, crate) for crate in own}
-    lines = list(HEAD)
-    for crate, comment, names in found:
+    rows = []
+    for name, names in layers():
         if names is None:
-            lines.append(f'| **{crate}** | | |')
+            rows.append((name, []))
         else:
-            direct = [name for name in own[crate] if not any(name in under[other] for other in own[crate])]
-            lines.append(f'| `{crate}` | {comment} | {", ".join(f"`{name}`" for name in direct)} |')
-    return lines
+            rows[-1][1].append(f'`{name}`')
+    return HEAD + [f'| {title} | {", ".join(crates)} |' for title, crates in rows]
 
 
-def main():
+def main(words):
+    if words[:1] == ['--on']:
+        for crate in words[1:]:
+            print(f'{crate}: {" ".join(stands_on(crate))}')
+        return 0
     lines, page = table(), PAGE.read_text().splitlines()
     first = page.index(HEAD[0])
     last = next(place for place in range(first, len(page)) if not page[place].startswith('|'))
-    if '--write' in sys.argv[1:]:
+    if words == ['--write']:
         PAGE.write_text('\n'.join(page[:first] + lines + page[last:]) + '\n')
         return 0
     for want, got in zip(lines + [''], page[first:last] + ['']):
@@ -63,4 +63,4 @@ def main():
 
 
 if __name__ == '__main__':
-    sys.exit(main())
+    sys.exit(main(sys.argv[1:]))

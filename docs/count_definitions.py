@@ -5,7 +5,8 @@ comments aren't counted, nor the library's own words.
 
   count_definitions.py [--files] NAME ..   the lines, by files too: a CRATE with all its laws, a CRATE::FUNCTION, a definition
                                            CRATE.specs.FILE.NAME
-  count_definitions.py [--files]           the three reading lists of DEFINITIONS.md"""
+  count_definitions.py [--files]           the three reading lists of DEFINITIONS.md
+  count_definitions.py --check             whether that page has these numbers; status 1 where it hasn't"""
 import functools
 import pathlib
 import re
@@ -180,7 +181,18 @@ def count(laws):
     return lines
 
 
+def check():
+    """The lists whose number the page has otherwise."""
+    page = (TOP / 'docs/DEFINITIONS.md').read_text()
+    wrong = [f'{title}: {sum(count(laws).values()):,}' for title, laws in LISTS
+             if f'| {title} | {sum(count(laws).values()):,} |' not in page]
+    print(''.join(f'docs/DEFINITIONS.md: {line}\n' for line in wrong), end='')
+    return 1 if wrong else 0
+
+
 def main(words):
+    if words == ['--check']:
+        return check()
     files = '--files' in words
     words = [word for word in words if word != '--files']
     for title, laws in [(' '.join(words), words)] if words else LISTS:
@@ -188,7 +200,8 @@ def main(words):
         print(f'{sum(lines.values()):6,} {title}')
         for path, number in sorted(lines.items()) if files else []:
             print(f'{number:10,} {path.relative_to(TOP)}')
+    return 0
 
 
 if __name__ == '__main__':
-    main(sys.argv[1:])
+    sys.exit(main(sys.argv[1:]))

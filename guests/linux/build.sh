@@ -14,39 +14,11 @@ kernel=$out/kernel
 kernel_virtio=$out/kernel_virtio
 modules=$out/modules
 
-# Each call of the kernel's make needs these, one without them would configure it for this machine. The last five make
-# the same bytes of every build.
-export ARCH=riscv CROSS_COMPILE=riscv64-linux-gnu-
-export LOCALVERSION="" KBUILD_BUILD_USER=secvisor KBUILD_BUILD_HOST=guest KBUILD_BUILD_VERSION=1
-export KBUILD_BUILD_TIMESTAMP='2026-01-01 00:00:00 UTC'
-export PYTHONPATH=$tools PYTHONDONTWRITEBYTECODE=1
+# shellcheck source=SCRIPTDIR/kernel.sh
+. "$here/kernel.sh"
+
 # Makers of file systems lie where a user's shell doesn't look.
 export PATH=$PATH:/usr/sbin
-
-# kernel_make FOLDER WORDS...: the kernel's make, for the kernel in FOLDER.
-kernel_make() {
-    make -s -j"${JOBS:-$(nproc)}" -C "$source" O="$1" "${@:2}"
-}
-
-unpack() {
-    [ -e "$source/.patched" ] && return
-    rm -rf "$source"
-    tar -C "$out" -xJf /usr/src/linux-source-6.1.tar.xz
-    patch -s -d "$source" -p1 < "$here/kernel.patch"
-    touch "$source/.patched"
-}
-
-# configure FOLDER OPTIONS...: a kernel with the options of these files.
-configure() {
-    local folder=$1 option
-    mkdir -p "$folder"
-    kernel_make "$folder" tinyconfig > /dev/null
-    cat "${@:2}" >> "$folder/.config"
-    kernel_make "$folder" olddefconfig 2> /dev/null
-    grep -hE '^(# )?CONFIG_' "${@:2}" | while read -r option; do
-        grep -qxF "$option" "$folder/.config" || { echo "not held: $option"; exit 1; }
-    done
-}
 
 build_kernels() {
     configure "$kernel" "$here/kernel.config"
@@ -138,7 +110,7 @@ guest() {
 }
 
 mkdir -p "$out"
-unpack
+unpack "$here/kernel.patch"
 build_kernels
 build_modules
 build_others

@@ -5,6 +5,7 @@
 
 mod command;
 mod converting;
+mod ending;
 mod faults;
 mod files;
 mod making;
@@ -12,4 +13,5 @@ mod resuming;
 mod running;
 
 pub use command::remark;
+pub use ending::{Ending, stop_remark};
 pub use files::{MostBytes, Reread};

@@ -35,7 +35,8 @@ pub fn law_protected_bytes()
 {}
 
 /// The machine stops exactly where a trap from user mode leads elsewhere than to a permitted entry, or a word that is carried
-/// out writes into a protected page. Then the verdict says where, and nothing else is changed.
+/// out writes into a protected page. Then the verdict says where, the turn is counted, an
+/// entry is left, and nothing else changes.
 pub fn law_stops()
     ensures { StopsLaw }
 {}

@@ -82,8 +82,8 @@ image_measured : {boot : Rules → (file disk : List ℕ) → State} (s : State)
     → boot k.starts.rules k.starts.file k.starts.disk ≡ image_start k.starts.rules k.starts.file disk → HasMeasuredText s
 image_measured s disk k same = subst HasMeasuredText (sym (k.starts.same ∙ same))
     (image_text k.starts.rules k.starts.file disk
-    (image_can k.starts.rules k.starts.file k.starts.within k.starts.words k.starts.accepted k.starts.entry)
-    (ap measure (sym (text_in_ram k.starts.file k.starts.rules.ram_pages k.starts.accepted)) ∙ k.measured))
+    (image_can k.starts.rules k.starts.file k.starts.bootable.within k.starts.bootable.words k.starts.bootable.accepted k.starts.bootable.entry)
+    (ap measure (sym (text_in_ram k.starts.file k.starts.rules.ram_pages k.starts.bootable.accepted)) ∙ k.measured))
 
 -- ---- plain pages
 

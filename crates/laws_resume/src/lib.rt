@@ -71,7 +71,7 @@ pub fn law_counted()
     ensures { CountedLaw }
 {}
 
-/// The disk stays behind the device that it was after.
+/// The disk stays behind the device that it was behind.
 pub fn law_kind()
     ensures { KindLaw }
 {}

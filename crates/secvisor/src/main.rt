@@ -5,7 +5,7 @@ mod again;
 mod help;
 
 use again::PlainFiles;
-use cli_diagnostics::{MostBytes, remark};
+use cli_diagnostics::{Ending, MostBytes, remark, stop_remark};
 use cli_dispatch::answer;
 use help::help;
 use host_files::{RealFiles, StdSink};
@@ -48,6 +48,7 @@ fn main(rt: HostRuntime) -> ExitCode {
     );
     if rt.stderr().is_terminal() {
         explain(&rt, &rt, &words, status);
+        explain_ending(&rt, &words, &bench);
     }
     ExitCode::from(status.number())
 }
@@ -77,6 +78,21 @@ fn explain<R: Threads + Sync>(rt: &HostRuntime, threads: &R, words: &[String], s
             }
         }
         _ => {}
+    }
+}
+
+// Of a run that a broken rule stopped what broke it, and else of the first module that was refused.
+#[inline(never)]
+fn explain_ending(rt: &HostRuntime, words: &[String], bench: &Bench) {
+    if let Some(machine) = &bench.machine {
+        let ending = Ending {
+            verdict: machine.verdict(),
+            notes: machine.journal(),
+        };
+        let files = PlainFiles { rt };
+        if let Some(said) = stop_remark(rt.alloc(), words, &files, &MAX_BYTES, &ending) {
+            let _written = eprintln!(rt; "secvisor: {said}");
+        }
     }
 }
 

@@ -6,6 +6,7 @@ use crate::line::{columns, is_next, number};
 use crate::names::name_of;
 use rv64_decode::decode;
 use rv64_exec::{Effect, Regs, amo, effect};
+use rv64_text::instruction_text;
 use std::alloc::{AllocError, Global};
 
 /// Where the vectors' instructions stood.
@@ -197,4 +198,19 @@ pub fn is_named(alloc: Global, text: &str) -> Result<bool, AllocError> {
         None => format!(in alloc; "None")?,
     };
     Ok(found.as_str().eq_ignore_ascii_case(wanted.as_str()))
+}
+
+/// `word | text`
+pub fn is_printed(alloc: Global, text: &str) -> Result<bool, AllocError> {
+    let Some((word, wanted)) = text.split_once('|') else {
+        return Ok(false);
+    };
+    let Ok(word) = u32::from_str_radix(word.trim(), 16) else {
+        return Ok(false);
+    };
+    let Some(instr) = decode(word) else {
+        return Ok(false);
+    };
+    let found = instruction_text(alloc, &instr)?;
+    Ok(found.as_str() == wanted.trim())
 }

@@ -1,7 +1,7 @@
 //! Checks the decoder, the effects and the atomic operations against vectors from outside. `data/alu.txt`,
 //! `data/flow.txt` and `data/mem.txt` hold what QEMU's RISC-V (7.2, in user mode) made of words that GNU as had
-//! assembled; `data/decode.txt` holds what GNU objdump (2.40) says of words. The files `worked_` hold rows that were
-//! worked by hand from the manual. The first line of each file names its columns. Prints how many lines agree, and
+//! assembled; `data/decode.txt` and `data/text.txt` hold what GNU objdump (2.40) says of words, and prints of them. The
+//! files `worked_` hold rows that were worked by hand from the manual. The first line of each file names its columns. Prints how many lines agree, and
 //! the first that doesn't.
 #![tactic(auto)]
 
@@ -27,6 +27,7 @@ enum Vectors {
     Jumps,
     Accesses,
     Names,
+    Texts,
 }
 
 fn agrees(alloc: Global, vectors: Vectors, text: &str) -> bool {
@@ -35,6 +36,7 @@ fn agrees(alloc: Global, vectors: Vectors, text: &str) -> bool {
         Vectors::Jumps => checks::jumps(text) == Some(true),
         Vectors::Accesses => checks::accesses(text) == Some(true),
         Vectors::Names => checks::is_named(alloc, text) == Ok(true),
+        Vectors::Texts => checks::is_printed(alloc, text) == Ok(true),
     }
 }
 
@@ -69,6 +71,7 @@ fn main(rt: HostRuntime) -> io::Result<()> {
     report(&rt, Vectors::Jumps, "flow.txt")?;
     report(&rt, Vectors::Accesses, "mem.txt")?;
     report(&rt, Vectors::Names, "decode.txt")?;
+    report(&rt, Vectors::Texts, "text.txt")?;
     report(&rt, Vectors::Computations, "worked_alu.txt")?;
     report(&rt, Vectors::Jumps, "worked_flow.txt")?;
     report(&rt, Vectors::Names, "worked_decode.txt")

@@ -1,0 +1,2 @@
+pub mod PassesHold
+pub mod SurveysHold

@@ -1,0 +1,30 @@
+//! The laws of surveys: runs that pass over each instruction that would stop the machine at a write, and go on.
+#![tactic(auto)]
+
+ghost use Rattle.laws_survey.specs.SurveyLaws.{MovesOnLaw, PassLaw, PassSoundLaw, SameRunLaw, SurveyedLaw};
+
+/// A pass changes nothing but the pc of a hart and the verdict: no byte, register, reservation, count, page or device.
+pub fn law_pass()
+    ensures { PassLaw }
+{}
+
+/// Where a write stopped the machine, its hart stands at the next instruction, and the machine runs.
+pub fn law_moves_on()
+    ensures { MovesOnLaw }
+{}
+
+/// A sound state stays sound over a pass.
+pub fn law_pass_sound()
+    ensures { PassSoundLaw }
+{}
+
+/// Every state that a survey reaches from a start is sound, and its approved pages are the kernel's text and those of loaded
+/// modules.
+pub fn law_surveyed()
+    ensures { SurveyedLaw }
+{}
+
+/// Where no write stops the run, the survey of the same events is that run.
+pub fn law_same_run()
+    ensures { SameRunLaw }
+{}

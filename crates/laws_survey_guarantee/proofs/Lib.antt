@@ -1,0 +1,2 @@
+pub mod SurveysKeep
+pub mod SurveysGuarded

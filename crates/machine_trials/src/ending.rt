@@ -1,0 +1,48 @@
+// The end of a run.
+ghost use Rattle.std.specs.Prelude.{◌≡◌, ◌≤◌};
+ghost use Rattle.sv_types.specs.Limits.{max_events};
+ghost use Rattle.sv_types.specs.Schedule.{first_events};
+ghost use Rattle.spec_reference.specs.Run.{run};
+ghost use Rattle.spec_reference.specs.States.{State};
+ghost use Rattle.spec_hardware.specs.Reaches.{IsNew};
+ghost use Rattle.run_tally.specs.Tallies.{outcome_of};
+ghost use Rattle.machine_trials.specs.Trials.{IsBooted};
+
+use crate::silent::Silent;
+use machine::{Machine, run};
+use run_tally::Outcome;
+use script::Script;
+use sv_types::Counts;
+
+/// How a run ends, and how many events it made.
+#[derive(Clone, Copy, Drop)]
+pub struct Ending {
+    pub outcome: Outcome,
+    pub events: u64,
+}
+
+// The events that were made.
+fn events_made(counts: Counts) -> u64 {
+    counts
+        .turns
+        .saturating_add(counts.beats)
+        .saturating_add(counts.keys)
+        .saturating_add(counts.ticks)
+}
+
+/// How a machine's run over the first events of a script ends.
+pub(crate) fn end_of_run(machine: Machine, script: Script, events: u64) -> Ending
+    requires booted { IsBooted machine }
+    requires few { events ≤ max_events }
+    ensures { (start : State) → IsNew machine start → result.outcome ≡ outcome_of (run start (first_events events script)).journal.verdict }
+{
+    let mut machine = machine;
+    let mut out = Silent;
+    if run(&mut machine, script, events, &mut out).is_err() {
+        unreachable!();
+    }
+    Ending {
+        outcome: Outcome::of(machine.verdict()),
+        events: events_made(machine.counts()),
+    }
+}

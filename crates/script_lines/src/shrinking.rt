@@ -1,0 +1,91 @@
+// Lines made fewer, and their counts smaller.
+ghost use Rattle.std.specs.Prelude.{◌≡◌, ◌≤◌, ◌<◌, true, false, IfOk};
+ghost use Rattle.delta_debugging.specs.Minimal.{IsOneMinimal};
+
+use crate::listing::{halved, joined};
+use delta_debugging::{Stops, minimize};
+use script::EventRun;
+use std::alloc::{AllocError, Global};
+
+// How many lines there are, and how many events.
+fn size_of_lines(lines: &[EventRun]) -> (usize, u64) {
+    let mut events: u64 = 0;
+    for line in lines {
+        events = events.saturating_add(line.count);
+    }
+    (lines.len(), events)
+}
+
+fn is_smaller(lines: &[EventRun], other: &[EventRun]) -> bool {
+    let (count, events) = size_of_lines(lines);
+    let (other_count, other_events) = size_of_lines(other);
+    count < other_count || events < other_events
+}
+
+// Whether a run stops so under these lines, where one is left.
+fn try_lines<S: Stops<EventRun>>(
+    test: &S,
+    lines: &[EventRun],
+    runs: &mut u64,
+) -> Result<bool, AllocError>
+    ensures stops { IfOk result (λ answer. answer ≡ true → S.stops test.now lines.now ≡ true) }
+    ensures runs { runs.new ≤ runs.old }
+    ensures used { IfOk result (λ answer. answer ≡ true → runs.new < runs.old) }
+{
+    if *runs == 0 {
+        return Ok(false);
+    }
+    *runs -= 1;
+    test.stops_so(lines)
+}
+
+// Tries to do with halves of some lines, and joins what then stands together. False where that makes nothing smaller: then the
+// lines stay as they are.
+fn spare_halves<S: Stops<EventRun>>(
+    alloc: Global,
+    test: &S,
+    lines: &mut Vec<EventRun>,
+    runs: &mut u64,
+) -> Result<bool, AllocError>
+    requires stops { S.stops test.now lines.old.items ≡ true }
+    ensures stops { S.stops test.now lines.new.items ≡ true }
+    ensures same { IfOk result (λ spared. spared ≡ false → lines.new.items ≡ lines.old.items) }
+    ensures runs { runs.new ≤ runs.old }
+    ensures used { IfOk result (λ spared. spared ≡ true → runs.new < runs.old) }
+{
+    let mut halves = halved(alloc, lines)?;
+    if !try_lines(test, &halves, runs)? {
+        return Ok(false);
+    }
+    minimize(alloc, test, &mut halves, runs)?;
+    let joined = joined(alloc, &halves)?;
+    if !is_smaller(&joined, lines) || !try_lines(test, &joined, runs)? {
+        return Ok(false);
+    }
+    *lines = joined;
+    Ok(true)
+}
+
+/// Takes lines away, and halves of their counts, while a run stops so under those that are left, by at most so many runs. True
+/// where the runs sufficed: then it stops so no more without any one of the lines. Out of memory it keeps what was reached.
+pub fn shrink_lines<S: Stops<EventRun>>(
+    alloc: Global,
+    test: &S,
+    lines: &mut Vec<EventRun>,
+    runs: &mut u64,
+) -> Result<bool, AllocError>
+    requires stops { S.stops test.now lines.old.items ≡ true }
+    ensures stops { S.stops test.now lines.new.items ≡ true }
+    ensures minimal { IfOk result (λ minimal. minimal ≡ true → IsOneMinimal (S.stops test.now) lines.new.items) }
+    ensures runs { runs.new ≤ runs.old }
+{
+    'rounds: while *runs > 0 {
+        if !minimize(alloc, test, lines, runs)? {
+            return Ok(false);
+        }
+        if !spare_halves(alloc, test, lines, runs)? {
+            return Ok(true);
+        }
+    }
+    Ok(false)
+}

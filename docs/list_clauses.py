@@ -1,0 +1,117 @@
+#!/usr/bin/env python3
+"""Lists what contracts say.
+
+  list_clauses.py CRATE ..   each public function of the crates: its first sentence, and the names of its clauses
+  list_clauses.py --laws     theorems, by the first sentence of their docstrings, as docs/PROVED.md has them
+  list_clauses.py --write    writes these into docs/PROVED.md
+  list_clauses.py --check    compares them with docs/PROVED.md, and whether each clause that the page names in brackets after
+                             a crate is one of that crate's; status 1 where something differs"""
+import functools
+import pathlib
+import re
+import sys
+
+TOP = pathlib.Path(__file__).resolve().parent.parent
+PAGE = TOP / 'docs/PROVED.md'
+BEGIN, END = '<!-- made by docs/list_clauses.py --write -->', '<!-- up to here -->'
+CLAUSE = re.compile(r'^\s*(?:ensures|requires)(?: (\w+))? \{', re.M)
+
+
+def crates():
+    lines = (TOP / 'crates.txt').read_text().splitlines()
+    return [line.split(':')[0].split()[0] for line in lines if line and not line.startswith('#')]
+
+
+def files(crate):
+    found = sorted((TOP / 'crates' / crate / 'src').rglob('*.rt'))
+    return sorted(found, key=lambda file: file.name != 'lib.rt')
+
+
+def functions(crate):
+    """The public functions of a crate in their order: name, docstring, names of what they ensure."""
+    for file in files(crate):
+        doc, name, clauses, depth = [], None, [], 0
+        for line in map(str.strip, file.read_text().splitlines()):
+            if name:
+                clauses += re.findall(r'^ensures(?: (\w+))? \{', line)
+                if line.endswith('{') or line == '{}':
+                    yield name, ' '.join(doc), clauses
+                    doc, name, clauses = [], None, []
+            elif depth or line.startswith('#['):
+                depth += sum(map(line.count, '([{')) - sum(map(line.count, ')]}'))
+            elif line.startswith('///'):
+                doc.append(line[3:].strip())
+            elif re.match(r'pub fn \w+', line):
+                name = re.match(r'pub fn (\w+)', line)[1]
+                if line.endswith('{'):
+                    yield name, ' '.join(doc), []
+                    doc, name = [], None
+            else:
+                doc = []
+
+
+@functools.cache
+def clause_names(crate):
+    """The names of all clauses of a crate, and of the facts that its records have."""
+    return {name for file in files(crate) for name in CLAUSE.findall(file.read_text())} | \
+        set(re.findall(r'\bpub (\w+) :', ' '.join(file.read_text() for file in (TOP / 'crates' / crate / 'specs').rglob('*.antt'))))
+
+
+def first_sentence(doc):
+    return re.split(r'(?<=\.) (?=[A-Z])', doc)[0]
+
+
+def theorems():
+    """The lines of the page: a crate's name, then its laws; lemmas on keys, caches and answers are left out."""
+    for crate in filter(re.compile(r'(?!monitor_|live_keys|gstage_)').match, crates()):
+        laws = [(name, doc) for name, doc, _ in functions(crate) if name.startswith('law_')]
+        if laws:
+            yield f'**`{crate}`**'
+            yield ''
+            for name, doc in laws:
+                yield f'- `{name}`: {first_sentence(doc)}'
+            yield ''
+
+
+def parts(page):
+    """What stands before the made part of the page, the made part, and what stands after it."""
+    lines = page.splitlines()
+    first, last = lines.index(BEGIN), lines.index(END)
+    return lines[:first + 1], lines[first + 1:last], lines[last:]
+
+
+def wrong_clauses(page):
+    """Names in brackets after a crate's name that no contract of that crate has."""
+    listed, crate = set(crates()), None
+    for number, line in enumerate(page.splitlines(), 1):
+        head = re.match(r'\*\*`(\w+)`\*\*', line)
+        if head and head[1] in listed:
+            crate = head[1]
+        for named in re.findall(r'\[((?:`\w+`(?:, )?)+)\]', line):
+            for name in re.findall(r'`(\w+)`', named):
+                if crate and name not in clause_names(crate):
+                    yield f'docs/PROVED.md:{number}: clause {name} of {crate}'
+
+
+def main(words):
+    if words == ['--laws']:
+        print('\n'.join(theorems()))
+    elif words == ['--write']:
+        before, _, after = parts(PAGE.read_text())
+        PAGE.write_text('\n'.join(before + list(theorems()) + after) + '\n')
+    elif words == ['--check']:
+        page = PAGE.read_text()
+        wrong = list(wrong_clauses(page))
+        if parts(page)[1] != list(theorems()):
+            wrong.append('docs/PROVED.md: the theorems differ from the docstrings; --write makes them anew')
+        print('\n'.join(wrong), end='\n' if wrong else '')
+        return 1 if wrong else 0
+    else:
+        for crate in words:
+            for name, doc, clauses in functions(crate):
+                print(f'{crate}::{name} [{", ".join(clause or "its one ensures" for clause in clauses)}]: {first_sentence(doc)}')
+    return 0
+
+
+if __name__ == '__main__':
+    sys.exit(main(sys.argv[1:]))
