@@ -14,7 +14,7 @@ use Rattle.spec_saved_machine.specs.declared.whole.Saved.{Saved}
 use Rattle.monitor_exits.specs.HwOfSlots.{hw_at, hw_harts_of}
 use Rattle.monitor_exits.specs.declared.slots.HartSlot.{HartSlot}
 use Rattle.machine.specs.Machines.{HasAddress, HaveAddresses}
-use Rattle.machine_events.proofs.HwOfSlots.{hw_there}
+use Rattle.hw_platform.proofs.HwOfSlots.{hw_there}
 use Rattle.machine.specs.Keeping.{AreKeepable, IsKeepable, gpa_after, kept_hart, kept_harts, kept_load, IsKept}
 use Rattle.spec_hardware.proofs.Privileges.{same_mode}
 

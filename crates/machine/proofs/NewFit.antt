@@ -34,7 +34,7 @@ image_addressed rules file disk = start_addressed rules _ _ _ disk
 
 -- a machine of these parts, of which no reservation is noted
 abbrev pub without_reservations : Machine → Inside
-without_reservations parts = record { parts = parts; none_reserved = false }
+without_reservations system = record { system = system; none_reserved = false }
 
 new_fit : (m : Machine) (start : State) → HaveAddresses start.harts → IsNew m start → m.journal ≡ journal_at_boot → IsFit (without_reservations m)
 new_fit m start have new none =

@@ -37,9 +37,11 @@ use Rattle.laws_standing.proofs.Standings.{hart_in_may_attempt, in_order}
 use Rattle.laws_standing.proofs.Loads.{loaded_approved, loading_held}
 use Rattle.laws_standing.specs.Laws.{HoldsItsPages}
 use Rattle.module_gate.specs.Conditions.{IsHeld}
-use Rattle.machine_events.proofs.Turns.{hart_there, left_below, quiet_served, turn_served}
-use Rattle.machine_events.specs.Attempts.{hart_in, nobody}
-use Rattle.machine_events.specs.Turns.{Attempts, Finished, IsGuarded, IsReadyAt, MayTurn, asked_of}
+use Rattle.secvisor_core.proofs.Served.{hart_there}
+use Rattle.machine_events.proofs.Turns.{left_below, quiet_served, turn_served}
+use Rattle.hw_platform.specs.Attempts.{hart_in, nobody}
+use Rattle.machine_events.specs.Turns.{Attempts, Finished, IsReadyAt, MayTurn}
+use Rattle.secvisor_core.specs.Serving.{IsGuarded, asked_of}
 
 -- ---- modules
 

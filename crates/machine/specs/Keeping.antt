@@ -4,7 +4,7 @@ use Rattle.sv_types.specs.Clock.{Clock, timer_of}
 use Rattle.spec_processor.specs.HypervisorRegisters.{at_guest_places}
 use Rattle.spec_hardware.specs.Machine.{Machine, HwHart, HwLoad}
 use Rattle.spec_saved_machine.specs.SavedStates.{gpa_at, disk_of}
-use Rattle.machine_events.specs.Attempts.{hart_in}
+use Rattle.hw_platform.specs.Attempts.{hart_in}
 use Rattle.spec_saved_machine.specs.declared.harts.SavedHart.{SavedHart}
 use Rattle.spec_saved_machine.specs.declared.whole.Saved.{Saved}
 use Rattle.spec_saved_machine.specs.declared.whole.SavedLoad.{SavedLoad}

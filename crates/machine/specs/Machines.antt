@@ -19,9 +19,9 @@ HaveAddresses (hart ∷ harts) = HasAddress hart.reservation × HaveAddresses ha
 -- which a word of 64 bits counts, and no more bytes printed than turns. No hart has a reservation where that is noted
 pub record IsFit (m : Inside) : Type 0 where
   pub state : State
-  pub stands : StandsFor m.parts state
+  pub stands : StandsFor m.system state
   pub addresses : HaveAddresses state.harts
-  pub attempts : m.parts.attempts ≤ 2 * m.parts.journal.counts.turns
-  pub few : m.parts.attempts < 2 ^ 64
-  pub free : AreFreeWhere m.none_reserved m.parts.harts
-  pub printed : m.parts.cleared + length m.parts.journal.printed ≤ m.parts.journal.counts.turns
+  pub attempts : m.system.attempts ≤ 2 * m.system.journal.counts.turns
+  pub few : m.system.attempts < 2 ^ 64
+  pub free : AreFreeWhere m.none_reserved m.system.harts
+  pub printed : m.system.cleared + length m.system.journal.printed ≤ m.system.journal.counts.turns

@@ -25,7 +25,7 @@ use elf64_load::KernelImage;
 use gstage_tables::Trees;
 use host_mem::HostMem;
 use hw_devices::Port;
-use machine_events::Parts;
+use machine_events::System;
 use monitor_boot::{approve_text, fill_ram};
 use page_guard::Guard;
 use spec_processor::page_of;
@@ -42,7 +42,7 @@ pub(crate) fn boot<R: Threads + Sync>(
     image: &KernelImage,
     policy: Policy,
     port: Port,
-) -> Result<Parts, BootRefusal>
+) -> Result<System, BootRefusal>
     requires within { IsTrue (rules_within (rules_of policy)) }
     requires placed { ArePlaced policy.ram_pages (segments_of image.now) }
     requires quiet { IsSoundDisk (port_disk port) }
@@ -111,7 +111,7 @@ fn assemble(
     image: &KernelImage,
     policy: Policy,
     port: Port,
-) -> Result<Parts, AllocError>
+) -> Result<System, AllocError>
     requires within { IsTrue (rules_within (rules_of policy)) }
     requires placed { ArePlaced policy.ram_pages (segments_of image.now) }
     ensures made { IfOk result (λ p. p ≡ image_machine p.region.tables (rules_of policy) image.now.entry (segments_of image.now) (port_disk port)) }

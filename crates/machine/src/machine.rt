@@ -13,18 +13,19 @@ ghost use Rattle.spec_hardware.specs.Reaches.{Cleared};
 ghost use Rattle.spec_hardware.specs.StandsFor.{StandsFor};
 ghost use Rattle.machine.specs.Limits.{max_counts};
 ghost use Rattle.machine.specs.Repeats.{Made, MadeInBatch, Makes, MayMake, Repeats};
-ghost use Rattle.machine_events.specs.Batches.{AreFree, MayBatch, reserves_nothing};
+ghost use Rattle.hw_platform.specs.Batches.{AreFree};
+ghost use Rattle.machine_events.specs.Batches.{MayBatch, reserves_nothing};
 ghost use Rattle.hw_fast_path.specs.Ends.{turns_of};
 
 use hw_fast_path::Batch;
-use machine_events::Parts;
+use machine_events::System;
 use std::marker::Model;
 use sv_types::{Counts, Event, Note, Verdict};
 
 /// Harts with the hypervisor extension, host memory and devices, under SecVisor. Contracts see the machine. It can be
 /// dropped at any moment.
 pub struct Machine {
-    pub(crate) parts: Parts,
+    pub(crate) system: System,
     // No hart has a reservation. Where it isn't noted, one may have one or not.
     pub(crate) none_reserved: bool,
 }
@@ -36,7 +37,7 @@ impl Model for Machine {
 
     ghost use Rattle.machine.specs.Machines.{IsFit};
 
-    ghost view = { λ m. m.parts };
+    ghost view = { λ m. m.system };
 
     ghost invariant = { IsFit };
 }
@@ -71,13 +72,7 @@ impl Machine {
         if count == 1 {
             return self.round(event, 1);
         }
-        // The loop of each kind of event asks for it no more.
-        match event {
-            Event::Turn(hart) => self.rounds(Event::Turn(hart), count),
-            Event::Beat | Event::Key(_) | Event::Tick(_) | Event::Poke { gpa: _, value: _ } => {
-                self.rounds(event, count)
-            }
-        }
+        self.rounds(event, count)
     }
 
     // Rounds of one event, up to `count` times.
@@ -147,7 +142,7 @@ impl Machine {
         ensures may { result ≡ true → MayBatch self.new hart }
         ensures same { self.new ≡ self.old }
     {
-        self.is_unreserved() && self.parts.is_quiet_at(hart)
+        self.is_unreserved() && self.system.is_quiet_at(hart)
     }
 
     // No hart has a reservation. That is noted, since only an attempt that isn't made in a row gives one.
@@ -157,7 +152,7 @@ impl Machine {
         ensures same { self.new ≡ self.old }
     {
         if !self.none_reserved {
-            self.none_reserved = self.parts.are_free();
+            self.none_reserved = self.system.are_free();
         }
         self.none_reserved
     }
@@ -170,12 +165,12 @@ impl Machine {
         requires counts { CountsAtMost (max_counts - most) self.old.journal.counts }
         ensures { MadeInBatch result.left (turns_of result) most self.old (Turn hart) self.new }
     {
-        let batch = self.parts.batch(hart, most);
-        self.parts.answer_leaving(hart, batch.left);
+        let batch = self.system.batch(hart, most);
+        self.system.answer_leaving(hart, batch.left);
         batch
     }
 
-    // One event, by the only caller of the parts' own step.
+    // One event, by the only caller of the system's own step.
     #[inline(always)]
     fn make(&mut self, event: Event)
         requires room { length self.old.journal.printed < max_printed }
@@ -184,35 +179,35 @@ impl Machine {
         ensures counts { (n : ℕ) → CountsAtMost n self.old.journal.counts → CountsAtMost (n + 1) self.new.journal.counts }
     {
         self.none_reserved = stays_unreserved(self.none_reserved, event);
-        self.parts.step(event);
+        self.system.step(event);
     }
 
     /// How the run stands: running, shut down by the guest, or stopped by a broken rule.
     pub fn verdict(&self) -> Verdict
         ensures { result ≡ self.now.journal.verdict }
     {
-        self.parts.verdict()
+        self.system.verdict()
     }
 
     /// What happened so far, counted: events, instructions, traps, loads and notes.
     pub fn counts(&self) -> Counts
         ensures { result ≡ self.now.journal.counts }
     {
-        self.parts.counts()
+        self.system.counts()
     }
 
     /// The first 4,096 notes.
     pub fn journal(&self) -> &[Note]
         ensures { result.now ≡ self.now.journal.notes }
     {
-        self.parts.journal.notes()
+        self.system.journal.notes()
     }
 
     /// The printed bytes that weren't taken away.
     pub fn printed(&self) -> &[u8]
         ensures { result.now ≡ self.now.journal.printed }
     {
-        self.parts.journal.printed()
+        self.system.journal.printed()
     }
 
     /// Takes the printed bytes away.
@@ -220,22 +215,22 @@ impl Machine {
         ensures cleared { Cleared self.old self.new }
         ensures printed { self.new.journal.printed ≡ [] }
     {
-        let _counts = self.parts.counts();
-        self.parts.clear_printed();
+        let _counts = self.system.counts();
+        self.system.clear_printed();
     }
 
     /// The bytes of the disk.
     pub fn disk(&self) -> &[u8]
         ensures { result.now ≡ disk_bytes self.now.devices.disk }
     {
-        self.parts.devices.disk()
+        self.system.hardware.devices.disk()
     }
 
     /// The attempts that were made.
     pub fn attempts(&self) -> u64
         ensures { result ≡ self.now.attempts }
     {
-        self.parts.words.turns() + self.parts.cpu.count()
+        self.system.hardware.words.turns() + self.system.hardware.cpu.count()
     }
 }
 
@@ -254,9 +249,9 @@ impl Drop for Machine {
     // A load under way frees its pages.
     fn drop(self) {
         let Machine {
-            parts,
+            system,
             none_reserved: _,
         } = self;
-        parts.end();
+        system.end();
     }
 }

@@ -41,9 +41,9 @@ impl Machine {
         ensures measured { OnOk result (measure pages.now ≡ wanted) }
         ensures refused { IfErr result (RefusesFlat pages.now wanted) }
     {
-        let parts = flat(rt, alloc, pages, wanted)?;
+        let system = flat(rt, alloc, pages, wanted)?;
         Ok(Machine {
-            parts,
+            system,
             none_reserved: false,
         })
     }
@@ -107,9 +107,9 @@ impl Machine {
         ensures permitted { OnOk result (has_number policy.entries.items image.now.entry ≡ true) }
         ensures refused { IfErr result (RefusesImage image.now (rules_of policy)) }
     {
-        let parts = boot(rt, alloc, image, policy, port)?;
+        let system = boot(rt, alloc, image, policy, port)?;
         Ok(Machine {
-            parts,
+            system,
             none_reserved: false,
         })
     }

@@ -19,11 +19,13 @@ use crate::machine::Machine;
 use crate::start::Idle;
 use hart::Cpu;
 use hw_fast_path::MicroOpCache;
+use hw_platform::Hardware;
 use hw_tlb::HartCaches;
 use laws_resume::law_resumed_sound;
 use laws_resumed_start::law_resumed_start;
-use machine_events::Parts;
+use machine_events::System;
 use machine_resume::{ResumedParts, resume_parts};
+use secvisor_core::Visor;
 use snapshot_format::Snapshot;
 use snapshot_resume::{ResumeRefusal, resume_refusal};
 use std::alloc::{AllocError, Global};
@@ -67,9 +69,9 @@ impl Machine {
         entries_are_words(&policy.entries);
         law_resumed_start();
         law_resumed_sound();
-        let parts = resume(alloc, snapshot, policy)?;
+        let system = resume(alloc, snapshot, policy)?;
         Ok(Machine {
-            parts,
+            system,
             none_reserved: false,
         })
     }
@@ -124,8 +126,8 @@ impl NewHardware {
     }
 }
 
-// The parts that go on of a snapshot that isn't refused, with empty caches, before the first attempt.
-fn resume(alloc: Global, snapshot: Snapshot, policy: Policy) -> Result<Parts, AllocError>
+// The system that goes on from a snapshot that isn't refused, with empty caches, before the first attempt.
+fn resume(alloc: Global, snapshot: Snapshot, policy: Policy) -> Result<System, AllocError>
     requires within { IsTrue (rules_within (rules_of policy)) }
     requires form { form.snapshot.has (form.contents snapshot) ≡ true }
     requires accepted { resume_refusal (rules_of policy) (form.contents snapshot) ≡ None }
@@ -148,18 +150,22 @@ fn resume(alloc: Global, snapshot: Snapshot, policy: Policy) -> Result<Parts, Al
         journal,
     } = resume_parts(alloc, snapshot, &policy, &bound)?;
     let _tables = mem.table_bytes();
-    Ok(Parts {
-        policy,
-        entries,
-        mem,
-        slots,
-        caches,
-        guard,
-        modules,
-        devices,
+    Ok(System {
+        hardware: Hardware {
+            mem,
+            slots,
+            caches,
+            devices,
+            cpu,
+            words,
+            cleared: 0,
+        },
+        visor: Visor {
+            policy,
+            entries,
+            guard,
+            modules,
+        },
         journal,
-        cpu,
-        words,
-        cleared: 0,
     })
 }

@@ -12,7 +12,7 @@ ghost use Rattle.machine.specs.Keeping.{gpa_after, AreKeepable, IsKeepable, kept
 use crate::machine::Machine;
 use csr_file::at_guest_places;
 use hw_devices::Devices;
-use machine_events::Parts;
+use machine_events::System;
 use module_gate::Modules;
 use monitor_exits::HartSlot;
 use spec_processor::RAM_BASE;
@@ -24,36 +24,44 @@ impl Machine {
     pub fn saved(&self, alloc: Global) -> Result<Saved, AllocError>
         ensures state { IfOk result (λ s. (r : State) → StandsFor self.now r → IsSaved r s) }
     {
-        saved(&self.parts, alloc)
+        saved(&self.system, alloc)
     }
 }
 
-// The parts that the guest's state lies in, as plain data.
-fn saved(parts: &Parts, alloc: Global) -> Result<Saved, AllocError>
-    requires { AreKeepable (length parts.now.region.tables) parts.now.harts }
-    ensures { IfOk result (IsKept parts.now) }
+// What the guest's state lies in, as plain data.
+fn saved(system: &System, alloc: Global) -> Result<Saved, AllocError>
+    requires { AreKeepable (length system.now.region.tables) system.now.harts }
+    ensures { IfOk result (IsKept system.now) }
 {
-    let harts = saved_harts(alloc, &parts.slots, &parts.devices, parts.mem.table_bytes())?;
-    let ram = parts.mem.ram().to_vec(alloc)?;
-    let protection = parts.guard.protections().to_vec(alloc)?;
-    let modules = parts.modules.gate.loaded().to_vec(alloc)?;
-    let console = parts.devices.input().to_vec(alloc)?;
-    let disk = parts.devices.disk().to_vec(alloc)?;
-    let notes = parts.journal.notes().to_vec(alloc)?;
+    let hardware = &system.hardware;
+    let visor = &system.visor;
+    let journal = &system.journal;
+    let harts = saved_harts(
+        alloc,
+        &hardware.slots,
+        &hardware.devices,
+        hardware.mem.table_bytes(),
+    )?;
+    let ram = hardware.mem.ram().to_vec(alloc)?;
+    let protection = visor.guard.protections().to_vec(alloc)?;
+    let modules = visor.modules.gate.loaded().to_vec(alloc)?;
+    let console = hardware.devices.input().to_vec(alloc)?;
+    let disk = hardware.devices.disk().to_vec(alloc)?;
+    let notes = journal.notes().to_vec(alloc)?;
     Ok(Saved {
         harts,
         ram,
         protection,
         modules,
-        retired: parts.modules.gate.retired(),
-        loading: saved_loading(&parts.modules),
+        retired: visor.modules.gate.retired(),
+        loading: saved_loading(&visor.modules),
         console,
-        port: parts.devices.port().state(),
+        port: hardware.devices.port().state(),
         disk,
-        time: parts.devices.time(),
-        counts: parts.journal.counts(),
+        time: hardware.devices.time(),
+        counts: journal.counts(),
         notes,
-        verdict: parts.journal.verdict(),
+        verdict: journal.verdict(),
     })
 }
 

@@ -24,13 +24,15 @@ use hart::{Cpu, Hart};
 use host_mem::HostMem;
 use hw_devices::{Devices, Port};
 use hw_fast_path::MicroOpCache;
+use hw_platform::Hardware;
 use hw_tlb::HartCaches;
-use machine_events::Parts;
+use machine_events::System;
 use machine_journal::Journal;
 use module_gate::Modules;
 use monitor_exits::HartSlot;
 use page_guard::{Entries, Guard, PrivilegeView};
 use page_measure::{Silent, measure};
+use secvisor_core::Visor;
 use spec_processor::{PAGE_SIZE, RAM_BASE};
 use std::alloc::{AllocError, Global};
 use std::thread::Threads;
@@ -48,7 +50,7 @@ pub(crate) fn at_boot(
     guard: Guard,
     port: Port,
     entry: u64,
-) -> Result<Parts, AllocError>
+) -> Result<System, AllocError>
     requires tables_match { TablesMatchGuard mem guard }
     requires pages { length guard.pages ≡ policy.ram_pages }
     requires places { guard.bound ≡ bound_pages (rules_of policy) }
@@ -67,19 +69,23 @@ pub(crate) fn at_boot(
         cpu,
         words,
     } = Begun::new(alloc, &policy, entry)?;
-    Ok(Parts {
-        policy,
-        entries,
-        mem,
-        slots,
-        caches,
-        guard,
-        modules,
-        devices: Devices::new(port),
+    Ok(System {
+        hardware: Hardware {
+            mem,
+            slots,
+            caches,
+            devices: Devices::new(port),
+            cpu,
+            words,
+            cleared: 0,
+        },
+        visor: Visor {
+            policy,
+            entries,
+            guard,
+            modules,
+        },
         journal,
-        cpu,
-        words,
-        cleared: 0,
     })
 }
 
@@ -92,7 +98,7 @@ pub(crate) fn flat<R: Threads + Sync>(
     alloc: Global,
     pages: &[u8],
     wanted: Digest,
-) -> Result<Parts, BootRefusal>
+) -> Result<System, BootRefusal>
     requires whole { length pages.now % page_size ≡ 0 }
     requires size { length pages.now ≤ max_flat_bytes }
     ensures start { IfOk result (λ p. p ≡ flat_machine p.region.tables pages.now wanted) }
@@ -242,7 +248,7 @@ fn is_same(a: &Digest, b: &Digest) -> bool
 }
 
 #[tactic(auto, using(crate::proofs::Starting::flat_made))]
-fn assemble(alloc: Global, pages: &[u8], wanted: Digest) -> Result<Parts, AllocError>
+fn assemble(alloc: Global, pages: &[u8], wanted: Digest) -> Result<System, AllocError>
     requires whole { length pages.now % page_size ≡ 0 }
     requires size { length pages.now ≤ max_flat_bytes }
     ensures start { IfOk result (λ p. p ≡ flat_machine p.region.tables pages.now wanted) }

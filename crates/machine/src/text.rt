@@ -9,7 +9,7 @@ ghost use Rattle.laws_resumed_start.specs.TextPages.{digested_text, text_in};
 
 use crate::machine::Machine;
 use laws_resumed_start::text_pages;
-use machine_events::Parts;
+use machine_events::System;
 use snapshot_format::TextPage;
 use std::alloc::{AllocError, Global};
 
@@ -19,15 +19,19 @@ impl Machine {
     pub fn text(&self, alloc: Global) -> Result<Vec<TextPage>, AllocError>
         ensures { IfOk result (λ text. (r : State) → StandsFor self.now r → text.items ≡ digested_text r) }
     {
-        text_of(&self.parts, alloc)
+        text_of(&self.system, alloc)
     }
 }
 
-// The approved pages of the parts, each with the digest of its bytes, read where they stand.
-fn text_of(parts: &Parts, alloc: Global) -> Result<Vec<TextPage>, AllocError>
-    requires size { length parts.now.region.ram ≡ page_size * length parts.now.protections }
-    requires few { length parts.now.protections ≤ max_ram_pages }
-    ensures { IfOk result (λ text. text.items ≡ text_in parts.now.region.ram parts.now.protections) }
+// The approved pages of the system, each with the digest of its bytes, read where they stand.
+fn text_of(system: &System, alloc: Global) -> Result<Vec<TextPage>, AllocError>
+    requires size { length system.now.region.ram ≡ page_size * length system.now.protections }
+    requires few { length system.now.protections ≤ max_ram_pages }
+    ensures { IfOk result (λ text. text.items ≡ text_in system.now.region.ram system.now.protections) }
 {
-    text_pages(alloc, parts.mem.ram(), parts.guard.protections())
+    text_pages(
+        alloc,
+        system.hardware.mem.ram(),
+        system.visor.guard.protections(),
+    )
 }

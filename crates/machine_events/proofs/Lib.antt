@@ -1,7 +1,4 @@
-pub mod HwOfSlots
-pub mod Turns
-pub mod Seated
-pub mod Called
-pub mod Given
-pub mod BeatsFit
 pub mod Batches
+pub mod BeatsFollow
+mod Seen
+pub mod Turns

@@ -1,14 +1,11 @@
 -- Turns of one hart in a row, each of which carries out an instruction: what they make of the machine. This project's own.
-use Rattle.std.specs.Prelude.{◌≡◌, ℕ, zero, suc, ◌+◌, ◌%◌, ◌<◌, Bool, true, false, List, length, None}
+use Rattle.std.specs.Prelude.{◌≡◌, ℕ, zero, suc, ◌+◌, ◌<◌, Bool, true, false, List, length, None}
 use Rattle.spec_processor.specs.Hardware.{Core}
 use Rattle.spec_processor.specs.HardwareAttempt.{attempt}
 use Rattle.spec_processor.specs.HypervisorRegisters.{pending}
 use Rattle.spec_processor.specs.Regions.{Region}
-use Rattle.spec_processor.specs.GStage.{WalksApart}
-use Rattle.spec_processor.specs.Roots.{IsSv39x4}
 use Rattle.spec_processor.specs.declared.cause.Cause.{Cause}
 use Rattle.spec_processor.specs.declared.exit.ExitCause.{ExitCause}
-use Rattle.hart.specs.Conditions.{KeepsMode}
 use Rattle.spec_hardware.specs.Steps.{WithTables}
 use Rattle.spec_hardware.specs.declared.exits.ExitAnswer.{ExitAnswer}
 use Rattle.spec_hardware.specs.declared.exits.ExitAnswer.TheVariants.{Traps}
@@ -23,13 +20,10 @@ use Rattle.hw_fast_path.specs.Ends.{with_leaving}
 use Rattle.hw_fast_path.specs.Batches.{LeavesBy, RetiresThrough}
 use Rattle.hw_fast_path.specs.declared.leaving.Leaving.{Leaving}
 use Rattle.hw_fast_path.specs.declared.leaving.Leaving.TheVariants.{Stays, Calls, Returns}
-use Rattle.machine_events.specs.Attempts.{hart_in}
-use Rattle.machine_events.specs.Turns.{Attempts, answered_exit}
-use Rattle.spec_processor.specs.Bytes.{instruction_size}
-
--- no hart has a reservation
-abbrev pub AreFree : List HwHart → Type 0
-AreFree harts = (h : ℕ) → (hart_in harts h).core.reservation ≡ None
+use Rattle.hw_platform.specs.Attempts.{hart_in}
+use Rattle.hw_platform.specs.Batches.{AreFree}
+use Rattle.secvisor_core.specs.Serving.{answered_exit}
+use Rattle.machine_events.specs.Turns.{Attempts}
 
 -- no hart has one, where that is known
 abbrev pub AreFreeWhere : (known : Bool) → List HwHart → Type 0
@@ -43,13 +37,6 @@ reserves_nothing Beat = true
 reserves_nothing (Key byte) = true
 reserves_nothing (Tick n) = true
 reserves_nothing (Poke gpa value) = true
-
--- a hart stands at an instruction, and its walks lead to RAM
-pub record WalksUnderRoot (region : Region) (hw : HwHart) : Type 0 where
-  pub aligned : hw.core.pc % instruction_size ≡ 0
-  pub keeps : KeepsMode hw.core.hregs
-  pub stage : IsSv39x4 hw.core.hregs.hgatp
-  pub apart : WalksApart region hw.core.hregs.hgatp
 
 -- so many turns counted, each with its instruction
 abbrev pub counted_batch : ℕ → Journal → Journal

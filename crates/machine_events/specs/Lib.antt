@@ -1,6 +1,4 @@
-pub mod Attempts
+pub mod Batches
 pub mod Beats
 pub mod Limits
-pub mod Parts
 pub mod Turns
-pub mod Batches

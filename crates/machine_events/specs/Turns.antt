@@ -1,61 +1,24 @@
 -- What a turn does besides its attempt. This project's own.
-use Rattle.std.specs.Prelude.{◌≡◌, ◌<◌, ◌%◌, ℕ, Bool, List, length, true, false, IsTrue}
-use Rattle.sv_types.specs.Policies.{rules_within}
+use Rattle.std.specs.Prelude.{◌≡◌, ℕ, Bool, true, false}
 use Rattle.spec_processor.specs.declared.exit.Exit.{Exit}
 use Rattle.spec_processor.specs.declared.outcome.Outcome.{Outcome}
 use Rattle.spec_processor.specs.declared.mode.Mode.TheVariants.{Kernel}
-use Rattle.sv_types.specs.Limits.{max_printed}
-use Rattle.spec_reference.specs.Counting.{MayCount, with_count, count_retired, count_trap}
+use Rattle.spec_reference.specs.Counting.{with_count, count_retired, count_trap}
 use Rattle.spec_reference.specs.Devices.{lines_at}
 use Rattle.spec_hardware.specs.HardwareEvent.{attempt_of, is_loading, left_by, sent_again}
-use Rattle.spec_hardware.specs.HwExits.{hw_exit_answered, served_exit}
-use Rattle.spec_hardware.specs.HwHarts.{asks_again, hw_outside, hw_seen, with_hw}
-use Rattle.spec_hardware.specs.Machine.{HwHart, Machine}
-use Rattle.spec_hardware.specs.Served.{exit_answer, is_again}
+use Rattle.spec_hardware.specs.HwExits.{served_exit}
+use Rattle.spec_hardware.specs.HwHarts.{asks_again}
+use Rattle.spec_hardware.specs.Machine.{Machine}
+use Rattle.spec_hardware.specs.Served.{is_again}
 use Rattle.spec_hardware.specs.Steps.{AttemptServed, WithTables}
-use Rattle.spec_hardware.specs.declared.exits.ExitAnswer.{ExitAnswer}
-use Rattle.module_gate.specs.Conditions.{AreGuarded}
-use Rattle.machine_events.specs.Attempts.{hart_in, IsReady}
-use Rattle.spec_processor.specs.Bytes.{instruction_size}
-
--- host memory and protections stay
-pub record HasPagesOf (before after : Machine) : Type 0 where
-  pub region : after.region ≡ before.region
-  pub protections : after.protections ≡ before.protections
+use Rattle.hw_platform.specs.Attempts.{hart_in, IsReady}
+use Rattle.secvisor_core.specs.Serving.{asked_of, left_entry}
 
 -- what follows an attempt: a count, or SecVisor's answer
 abbrev pub Finished : Outcome → Machine → ℕ → Machine → Type 0
 Finished (Outcome.Retired wrote) m h after = after ≡ record m { journal = with_count count_retired m.journal }
 Finished Outcome.GuestTrap m h after = after ≡ record m { journal = with_count (count_trap Kernel) m.journal }
 Finished (Outcome.Exit exit) m h after = WithTables m (served_exit m h exit) after
-
--- what an answer about modules relies on
-pub record IsGuarded (m : Machine) : Type 0 where
-  pub within : IsTrue (rules_within m.rules)
-  pub modules : AreGuarded m.rules m.protections m.loaded m.loading
-
--- ---- what an answer asks for
-
--- there is such a hart, and it stands at an instruction's address
-pub record MayTrap (harts : List HwHart) (h : ℕ) : Type 0 where
-  pub there : h < length harts
-  pub aligned : (hart_in harts h).core.pc % instruction_size ≡ 0
-
--- the machine may count, print a byte and answer about modules
-pub record MayServe (m : Machine) : Type 0 where
-  pub counts : MayCount m.journal.counts
-  pub room : length m.journal.printed < max_printed
-  pub guarded : IsGuarded m
-
--- ---- answers
-
--- what an exit of hart h is answered, by the machine as it stands
-abbrev pub asked_of : Machine → ℕ → Exit → ExitAnswer
-asked_of m h exit = exit_answer (hw_seen m.region.ram m.rules (hart_in m.harts h) (hart_in m.harts h).core.hregs.mode exit) exit
-
--- what an exit of hart h is answered, done
-abbrev pub answered_exit : Machine → ℕ → ExitAnswer → Machine
-answered_exit m h answer = hw_exit_answered m h (hart_in m.harts h) (hart_in m.harts h).core.hregs.mode answer
 
 -- ---- attempts
 
@@ -67,10 +30,6 @@ pub record Attempts (m : Machine) (h : ℕ) : Type 0 where
 -- hart h may make an attempt now
 abbrev pub IsReadyAt : Machine → ℕ → Type 0
 IsReadyAt m h = IsReady m.region (hart_in m.harts h) (lines_at m.devices h)
-
--- hart h is out of its entry
-abbrev pub left_entry : Machine → ℕ → Machine
-left_entry m h = with_hw m h hw_outside
 
 -- hart h may make an attempt, and a second one where SecVisor sends it to attempt again. An exit is answered as it was asked
 -- for before the attempt

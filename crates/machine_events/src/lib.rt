@@ -1,11 +1,7 @@
-//! The parts of a machine, and what each event makes of them.
+//! The system of hardware, SecVisor and journal, and what each event makes of it.
 #![tactic(auto)]
 
-mod attempts;
 mod batch_turns;
-mod beats;
-mod exits;
-mod interrupt_lines;
-mod parts;
+mod system;
 
-pub use parts::Parts;
+pub use system::System;

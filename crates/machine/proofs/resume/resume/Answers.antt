@@ -1,4 +1,4 @@
-use Rattle.std.proofs.Common.{◌+◌, ◌∙◌, ℕ, ap, arith, sym}
+use Rattle.std.proofs.Common.{◌+◌, ◌∙◌, ap, arith, sym}
 use Rattle.sv_types.proofs.PolicyLimits.{few_harts}
 use Rattle.sv_types.specs.Policies.{rules_of}
 use Rattle.page_guard.specs.Permitted.{Permitted}
@@ -16,12 +16,14 @@ invariant_of-result c =
       entries = sym (ap (λ (e : Permitted). e.entries) k.entries);
       bound = sym (ap (λ (e : Permitted). e.bound) k.entries);
       places = k.bound;
-      few = omega (arith, number, most);
-      caches = length_empty c.args.policy.harts c.in_ok-caches.field-0.caches.items c.in_ok-caches.ensures.caches ∙ sym k.number;
       tables_match = k.tables_match;
-      usable = empty_usable c.in_ok-mem.field-0.mem.tables c.args.policy.harts c.in_ok-caches.field-0.caches.items c.in_ok-caches.ensures.caches;
       pages = k.pages;
       modules = k.joined;
+      whole = record {
+        few = omega (arith, number, most);
+        caches = length_empty c.args.policy.harts c.in_ok-caches.field-0.caches.items c.in_ok-caches.ensures.caches ∙ sym k.number;
+        usable = empty_usable c.in_ok-mem.field-0.mem.tables c.args.policy.harts c.in_ok-caches.field-0.caches.items c.in_ok-caches.ensures.caches;
+      };
     }
 
 pub returns-clause-made : goal.returns-clause-made

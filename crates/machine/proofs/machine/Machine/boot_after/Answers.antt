@@ -8,5 +8,5 @@ boot-requires-clause-placed g c κs within = read_placed c.args.policy.ram_pages
 
 pub invariant_of-result : goal.invariant_of-result
 invariant_of-result g c =
-    image_fit c.in_ok-parts.parts (rules_of c.args.policy) c.args.policy.ram_pages c.args.image.now (port_disk c.args.port)
-    c.requires.read c.in_ok-parts.ensures.new c.in_ok-parts.ensures.journal
+    image_fit c.in_ok-system.system (rules_of c.args.policy) c.args.policy.ram_pages c.args.image.now (port_disk c.args.port)
+    c.requires.read c.in_ok-system.ensures.new c.in_ok-system.ensures.journal

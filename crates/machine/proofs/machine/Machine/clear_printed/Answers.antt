@@ -8,16 +8,16 @@ use Rattle.machine.proofs.machine.Machine.clear_printed.Goals as goal
 pub clear_printed-requires : goal.clear_printed-requires
 clear_printed-requires c =
     let printed = c.self.invariant.printed in
-    let same : c.counts-counts.result.turns ≡ c.self.inside.parts.journal.counts.turns = ap (λ n. n.turns) c.counts-counts.ensures in
+    let same : c.counts-counts.result.turns ≡ c.self.inside.system.journal.counts.turns = ap (λ n. n.turns) c.counts-counts.ensures in
     omega (arith, printed, same)
 
 pub invariant_of-self : goal.invariant_of-self
 invariant_of-self c =
     let bounded = subst Bounded (sym c.clear_printed.ensures)
-    (cleared_bounded c.self.inside.parts (record { attempts = c.self.invariant.attempts; printed = c.self.invariant.printed })) in
+    (cleared_bounded c.self.inside.system (record { attempts = c.self.invariant.attempts; printed = c.self.invariant.printed })) in
     record {
       state = c.self.invariant.state;
-      stands = subst (λ (m : Machine). StandsFor m c.self.invariant.state) (sym c.clear_printed.ensures) (cleared_stands c.self.inside.parts c.self.invariant.state c.self.invariant.stands);
+      stands = subst (λ (m : Machine). StandsFor m c.self.invariant.state) (sym c.clear_printed.ensures) (cleared_stands c.self.inside.system c.self.invariant.state c.self.invariant.stands);
       addresses = c.self.invariant.addresses;
       attempts = bounded.attempts;
       few = subst (λ (m : Machine). m.attempts < 18446744073709551616) (sym c.clear_printed.ensures) c.self.invariant.few;

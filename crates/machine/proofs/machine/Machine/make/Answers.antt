@@ -13,17 +13,17 @@ use Rattle.machine_events.specs.Batches.{AreFreeWhere}
 use Rattle.machine.proofs.machine.Machine.make.Goals as goal
 
 pub step-requires-clause-guarded : goal.step-requires-clause-guarded
-step-requires-clause-guarded c = guarded c.self.inside.parts c.self.invariant.state c.self.invariant.stands
+step-requires-clause-guarded c = guarded c.self.inside.system c.self.invariant.state c.self.invariant.stands
 
 pub step-requires-clause-ready : goal.step-requires-clause-ready
-step-requires-clause-ready c = λ on h. may_turn c.self.inside.parts c.self.invariant.state h c.self.invariant.stands on
+step-requires-clause-ready c = λ on h. may_turn c.self.inside.system c.self.invariant.state h c.self.invariant.stands on
 
 pub invariant_of-self : goal.invariant_of-self
 invariant_of-self c =
-    let bounded = step_bounded c.self.inside.parts c.step.new.self c.self.invariant.state c.args.event c.self.invariant.stands c.step.ensures.step
+    let bounded = step_bounded c.self.inside.system c.step.new.self c.self.invariant.state c.args.event c.self.invariant.stands c.step.ensures.step
     (record { attempts = c.self.invariant.attempts; printed = c.self.invariant.printed }) in
-    let stands = step_stands c.self.inside.parts c.step.new.self c.args.event c.step.ensures.step c.self.invariant.state c.self.invariant.stands in
-    let counts = step_counts 9223372036854775806 c.self.inside.parts c.step.new.self c.self.invariant.state c.args.event c.self.invariant.stands stands
+    let stands = step_stands c.self.inside.system c.step.new.self c.args.event c.step.ensures.step c.self.invariant.state c.self.invariant.stands in
+    let counts = step_counts 9223372036854775806 c.self.inside.system c.step.new.self c.self.invariant.state c.args.event c.self.invariant.stands stands
     (subst (λ (m : Machine). CountsAtMost 9223372036854775806 m.journal.counts) (sym c.self.view_is) c.requires.counts) in
     record {
       state = step c.self.invariant.state c.args.event;
@@ -32,7 +32,7 @@ invariant_of-self c =
       attempts = bounded.attempts;
       few = let two = bounded.attempts in let turns = counts.turns in omega (arith, two, turns);
       free = subst (λ (known : Bool). AreFreeWhere known c.step.new.self.harts) (sym c.stays_unreserved-self-inside.ensures)
-          (step_free c.self.inside.none_reserved c.self.inside.parts c.step.new.self c.args.event c.self.invariant.free c.step.ensures.step);
+          (step_free c.self.inside.none_reserved c.self.inside.system c.step.new.self c.args.event c.self.invariant.free c.step.ensures.step);
       printed = bounded.printed;
     }
 

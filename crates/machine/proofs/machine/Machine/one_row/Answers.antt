@@ -17,67 +17,67 @@ batch-batch-requires-clause-may c = subst (λ (m : Machine). MayBatch m c.args.h
 
 pub batch-batch-requires-clause-ready : goal.batch-batch-requires-clause-ready
 batch-batch-requires-clause-ready c =
-    let may : MayBatch c.self.inside.parts c.args.hart = subst (λ (m : Machine). MayBatch m c.args.hart) (sym c.self.view_is) c.requires.may in
-    ready_at c.self.inside.parts c.self.invariant.state c.args.hart c.self.invariant.stands may.running may.attempts
+    let may : MayBatch c.self.inside.system c.args.hart = subst (λ (m : Machine). MayBatch m c.args.hart) (sym c.self.view_is) c.requires.may in
+    ready_at c.self.inside.system c.self.invariant.state c.args.hart c.self.invariant.stands may.running may.attempts
 
 pub answer_leaving-requires-clause-hart : goal.answer_leaving-requires-clause-hart
 answer_leaving-requires-clause-hart c =
-    let may : MayBatch c.self.inside.parts c.args.hart = subst (λ (m : Machine). MayBatch m c.args.hart) (sym c.self.view_is) c.requires.may in
-    may_trap c.batch-batch.result.left c.batch-batch.result.made c.self.inside.parts c.batch-batch.new.self c.args.hart may c.batch-batch.ensures.ends c.batch-batch.ensures.aligned
+    let may : MayBatch c.self.inside.system c.args.hart = subst (λ (m : Machine). MayBatch m c.args.hart) (sym c.self.view_is) c.requires.may in
+    may_trap c.batch-batch.result.left c.batch-batch.result.made c.self.inside.system c.batch-batch.new.self c.args.hart may c.batch-batch.ensures.ends c.batch-batch.ensures.aligned
 
 pub answer_leaving-requires-clause-mode : goal.answer_leaving-requires-clause-mode
 answer_leaving-requires-clause-mode c =
-    let may : MayBatch c.self.inside.parts c.args.hart = subst (λ (m : Machine). MayBatch m c.args.hart) (sym c.self.view_is) c.requires.may in
-    in_kernel c.batch-batch.result.left c.batch-batch.result.made c.self.inside.parts c.batch-batch.new.self c.args.hart may c.batch-batch.ensures.ends
+    let may : MayBatch c.self.inside.system c.args.hart = subst (λ (m : Machine). MayBatch m c.args.hart) (sym c.self.view_is) c.requires.may in
+    in_kernel c.batch-batch.result.left c.batch-batch.result.made c.self.inside.system c.batch-batch.new.self c.args.hart may c.batch-batch.ensures.ends
 
 pub answer_leaving-requires-clause-counts : goal.answer_leaving-requires-clause-counts
 answer_leaving-requires-clause-counts c =
-    let may : MayBatch c.self.inside.parts c.args.hart = subst (λ (m : Machine). MayBatch m c.args.hart) (sym c.self.view_is) c.requires.may in
-    let begins : Begins c.self.inside.parts c.args.hart = record {
+    let may : MayBatch c.self.inside.system c.args.hart = subst (λ (m : Machine). MayBatch m c.args.hart) (sym c.self.view_is) c.requires.may in
+    let begins : Begins c.self.inside.system c.args.hart = record {
       state = c.self.invariant.state;
       may = may;
       stands = c.self.invariant.stands;
       addresses = c.self.invariant.addresses;
       bounded = record { attempts = c.self.invariant.attempts; printed = c.self.invariant.printed };
     } in
-    let counts : CountsAtMost (max_counts - c.args.most) c.self.inside.parts.journal.counts =
+    let counts : CountsAtMost (max_counts - c.args.most) c.self.inside.system.journal.counts =
     subst (λ (m : Machine). CountsAtMost (max_counts - c.args.most) m.journal.counts) (sym c.self.view_is) c.requires.counts in
     let behind : CountsAtMost max_counts c.batch-batch.new.self.journal.counts =
-    after_counts c.batch-batch.result.left c.batch-batch.result.made c.args.most c.self.inside.parts c.batch-batch.new.self c.args.hart begins c.batch-batch.ensures.ends c.requires.few
+    after_counts c.batch-batch.result.left c.batch-batch.result.made c.args.most c.self.inside.system c.batch-batch.new.self c.args.hart begins c.batch-batch.ensures.ends c.requires.few
     c.batch-batch.ensures.most counts in
     may_count c.batch-batch.new.self behind
 
 pub answer_leaving-requires-clause-turns : goal.answer_leaving-requires-clause-turns
 answer_leaving-requires-clause-turns c =
-    let may : MayBatch c.self.inside.parts c.args.hart = subst (λ (m : Machine). MayBatch m c.args.hart) (sym c.self.view_is) c.requires.may in
-    let begins : Begins c.self.inside.parts c.args.hart = record {
+    let may : MayBatch c.self.inside.system c.args.hart = subst (λ (m : Machine). MayBatch m c.args.hart) (sym c.self.view_is) c.requires.may in
+    let begins : Begins c.self.inside.system c.args.hart = record {
       state = c.self.invariant.state;
       may = may;
       stands = c.self.invariant.stands;
       addresses = c.self.invariant.addresses;
       bounded = record { attempts = c.self.invariant.attempts; printed = c.self.invariant.printed };
     } in
-    let counts : CountsAtMost (max_counts - c.args.most) c.self.inside.parts.journal.counts =
+    let counts : CountsAtMost (max_counts - c.args.most) c.self.inside.system.journal.counts =
     subst (λ (m : Machine). CountsAtMost (max_counts - c.args.most) m.journal.counts) (sym c.self.view_is) c.requires.counts in
     let behind : CountsAtMost max_counts c.batch-batch.new.self.journal.counts =
-    after_counts c.batch-batch.result.left c.batch-batch.result.made c.args.most c.self.inside.parts c.batch-batch.new.self c.args.hart begins c.batch-batch.ensures.ends c.requires.few
+    after_counts c.batch-batch.result.left c.batch-batch.result.made c.args.most c.self.inside.system c.batch-batch.new.self c.args.hart begins c.batch-batch.ensures.ends c.requires.few
     c.batch-batch.ensures.most counts in
     let turns = behind.turns in omega (arith, turns)
 
 pub invariant_of-self : goal.invariant_of-self
 invariant_of-self c =
-    let may : MayBatch c.self.inside.parts c.args.hart = subst (λ (m : Machine). MayBatch m c.args.hart) (sym c.self.view_is) c.requires.may in
-    let begins : Begins c.self.inside.parts c.args.hart = record {
+    let may : MayBatch c.self.inside.system c.args.hart = subst (λ (m : Machine). MayBatch m c.args.hart) (sym c.self.view_is) c.requires.may in
+    let begins : Begins c.self.inside.system c.args.hart = record {
       state = c.self.invariant.state;
       may = may;
       stands = c.self.invariant.stands;
       addresses = c.self.invariant.addresses;
       bounded = record { attempts = c.self.invariant.attempts; printed = c.self.invariant.printed };
     } in
-    let counts : CountsAtMost (max_counts - c.args.most) c.self.inside.parts.journal.counts =
+    let counts : CountsAtMost (max_counts - c.args.most) c.self.inside.system.journal.counts =
     subst (λ (m : Machine). CountsAtMost (max_counts - c.args.most) m.journal.counts) (sym c.self.view_is) c.requires.counts in
-    let rowed : Rowed (turns_of c.batch-batch.result) c.self.inside.parts c.args.hart c.answer_leaving.new.self =
-    ends_rowed c.batch-batch.result.left c.batch-batch.result.made c.self.inside.parts c.batch-batch.new.self c.answer_leaving.new.self c.args.hart begins c.batch-batch.ensures.ends
+    let rowed : Rowed (turns_of c.batch-batch.result) c.self.inside.system c.args.hart c.answer_leaving.new.self =
+    ends_rowed c.batch-batch.result.left c.batch-batch.result.made c.self.inside.system c.batch-batch.new.self c.answer_leaving.new.self c.args.hart begins c.batch-batch.ensures.ends
     c.answer_leaving.ensures in
     let after = rowed.counts (max_counts - c.args.most) counts in
     record {
@@ -93,21 +93,21 @@ invariant_of-self c =
 
 pub returns : goal.returns
 returns c =
-    let may : MayBatch c.self.inside.parts c.args.hart = subst (λ (m : Machine). MayBatch m c.args.hart) (sym c.self.view_is) c.requires.may in
-    let begins : Begins c.self.inside.parts c.args.hart = record {
+    let may : MayBatch c.self.inside.system c.args.hart = subst (λ (m : Machine). MayBatch m c.args.hart) (sym c.self.view_is) c.requires.may in
+    let begins : Begins c.self.inside.system c.args.hart = record {
       state = c.self.invariant.state;
       may = may;
       stands = c.self.invariant.stands;
       addresses = c.self.invariant.addresses;
       bounded = record { attempts = c.self.invariant.attempts; printed = c.self.invariant.printed };
     } in
-    let rowed : Rowed (turns_of c.batch-batch.result) c.self.inside.parts c.args.hart c.answer_leaving.new.self =
-    ends_rowed c.batch-batch.result.left c.batch-batch.result.made c.self.inside.parts c.batch-batch.new.self c.answer_leaving.new.self c.args.hart begins c.batch-batch.ensures.ends
+    let rowed : Rowed (turns_of c.batch-batch.result) c.self.inside.system c.args.hart c.answer_leaving.new.self =
+    ends_rowed c.batch-batch.result.left c.batch-batch.result.made c.self.inside.system c.batch-batch.new.self c.answer_leaving.new.self c.args.hart begins c.batch-batch.ensures.ends
     c.answer_leaving.ensures in
-    let made : MadeInBatch c.batch-batch.result.left (turns_of c.batch-batch.result) c.args.most c.self.inside.parts (Turn c.args.hart) c.answer_leaving.new.self = record {
+    let made : MadeInBatch c.batch-batch.result.left (turns_of c.batch-batch.result) c.args.most c.self.inside.system (Turn c.args.hart) c.answer_leaving.new.self = record {
       chain = rowed.chain;
       quiet = rowed.quiet;
-      running = ends_running c.batch-batch.result.left c.batch-batch.result.made c.self.inside.parts c.batch-batch.new.self c.answer_leaving.new.self c.args.hart c.batch-batch.ensures.ends
+      running = ends_running c.batch-batch.result.left c.batch-batch.result.made c.self.inside.system c.batch-batch.new.self c.answer_leaving.new.self c.args.hart c.batch-batch.ensures.ends
           c.answer_leaving.ensures;
       counts = rowed.counts;
       most = c.batch-batch.ensures.most;

@@ -6,7 +6,7 @@ use Rattle.machine.specs.Keeping.{IsKept}
 use Rattle.machine.proofs.machine.Machine.saved.Goals as goal
 
 pub saved-requires : goal.saved-requires
-saved-requires c = machine_keepable c.self.inside.parts c.self.invariant.state c.self.invariant.stands c.self.invariant.addresses
+saved-requires c = machine_keepable c.self.inside.system c.self.invariant.state c.self.invariant.stands c.self.invariant.addresses
 
 pub returns : goal.returns
 returns c = record {

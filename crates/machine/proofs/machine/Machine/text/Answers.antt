@@ -6,10 +6,10 @@ use Rattle.machine.proofs.Texts.{pages_few, ram_paged, text_states}
 use Rattle.machine.proofs.machine.Machine.text.Goals as goal
 
 pub text_of-requires-clause-size : goal.text_of-requires-clause-size
-text_of-requires-clause-size c = ram_paged c.self.inside.parts c.self.invariant.state c.self.invariant.stands
+text_of-requires-clause-size c = ram_paged c.self.inside.system c.self.invariant.state c.self.invariant.stands
 
 pub text_of-requires-clause-few : goal.text_of-requires-clause-few
-text_of-requires-clause-few c = pages_few c.self.inside.parts c.self.invariant.state c.self.invariant.stands
+text_of-requires-clause-few c = pages_few c.self.inside.system c.self.invariant.state c.self.invariant.stands
 
 pub returns : goal.returns
 returns c =

@@ -1,0 +1,3 @@
+pub mod HwOfSlots
+pub mod BeatsFit
+pub mod Batches

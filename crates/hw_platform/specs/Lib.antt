@@ -1,0 +1,4 @@
+pub mod Attempts
+pub mod Beats
+pub mod Hardwares
+pub mod Batches

@@ -1,0 +1,4 @@
+pub mod Served
+mod Slotted
+mod Called
+mod Given

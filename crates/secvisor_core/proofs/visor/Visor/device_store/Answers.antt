@@ -1,0 +1,25 @@
+use Rattle.spec_hardware.specs.HwExits.{hw_exit_answered}
+use Rattle.spec_hardware.specs.declared.exits.ExitAnswer.TheVariants.{StoresDevice}
+use Rattle.secvisor_core.proofs.Called.{slot_indexed}
+use Rattle.secvisor_core.proofs.Slotted.{aligned_there, answers, slot_set}
+use Rattle.secvisor_core.specs.Visors.{machine_of}
+use Rattle.secvisor_core.proofs.visor.Visor.device_store.Goals as goal
+
+pub returns-clause-answer : goal.returns-clause-answer
+unfolding hw_exit_answered
+returns-clause-answer c =
+    answers c.args.self.now c.args.hardware.now c.args.journal.now c.args.hart c.index_mut-slot.result.now c.index_mut-slot.ensures.value
+    (λ m hw mode. hw_exit_answered m c.args.hart hw mode (StoresDevice c.args.store.address c.args.store.gpa c.args.store.width c.args.store.value))
+    c.device_store.new.slot c.device_store.new.devices c.device_store.new.journal c.requires.hart.there c.requires.joined
+    (c.device_store.ensures.machine (machine_of c.args.self.now c.args.hardware.now c.args.journal.now) c.requires.joined.entries c.requires.joined.bound)
+
+pub index_mut-slot-requires : goal.index_mut-slot-requires
+index_mut-slot-requires c = slot_indexed c.args.hardware.now c.args.hart c.requires.hart.there
+
+pub device_store-requires-clause-aligned : goal.device_store-requires-clause-aligned
+device_store-requires-clause-aligned c =
+    aligned_there c.args.hardware.now c.args.hart c.index_mut-slot.result.now c.index_mut-slot.ensures.value
+    c.requires.hart.there c.requires.hart.aligned
+
+pub returns-clause-joined : goal.returns-clause-joined
+returns-clause-joined c = slot_set c.args.self.now c.args.hardware.now c.args.hart c.device_store.new.slot c.device_store.new.devices c.requires.joined
