@@ -1,6 +1,5 @@
 -- A script under which a run stops as another did, and from which no line can be taken away. This project's own.
-use Rattle.std.specs.Prelude.{◌≡◌, ◌<◌, ◌+◌, ℕ, Bool, true, false, List, length, Option, Some, None, string_bytes, IsTrue}
-use Rattle.script.specs.declared.event_run.EventRun.{EventRun}
+use Rattle.std.specs.Prelude.{◌≡◌, ℕ, Bool, true, false, List, Option, Some, None, string_bytes}
 use Rattle.script_lines.specs.Lines.{text_of}
 use Rattle.delta_debugging.specs.Minimal.{IsOneMinimal}
 use Rattle.run_tally.specs.declared.outcome.Outcome.{Outcome}

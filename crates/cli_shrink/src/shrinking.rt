@@ -59,32 +59,32 @@ pub fn shrink<R: Threads + Sync>(
         return Err(NoOutcome::Memory);
     };
     let trial = Trial {
-        rt,
         alloc,
         files: *files,
         events,
         wanted: ending.outcome,
     };
-    shrink_by(alloc, &trial, lines)
+    shrink_by(rt, alloc, &trial, lines)
 }
 
 // Makes lines small that stop as a trial wants.
 fn shrink_by<R: Threads + Sync>(
+    rt: &R,
     alloc: Global,
-    trial: &Trial<'_, R>,
+    trial: &Trial<'_>,
     lines: Vec<EventRun>,
 ) -> Result<Shrunk, NoOutcome>
     ensures { IfOk result (AreShrunk trial.now.wanted trial.now.files trial.now.events) }
 {
     let mut lines = lines;
     let lines_before = lines.len();
-    match trial.stops_so(&lines) {
+    match trial.stops_so(rt, &lines) {
         Ok(true) => {}
         Ok(false) => return Ok(Shrunk::NotWrittenOut),
         Err(_) => return Err(NoOutcome::Memory),
     }
     let mut runs = MAX_RUNS;
-    let Ok(minimal) = shrink_lines(alloc, trial, &mut lines, &mut runs) else {
+    let Ok(minimal) = shrink_lines(rt, alloc, trial, &mut lines, &mut runs) else {
         return Err(NoOutcome::Memory);
     };
     let Ok(text) = script_text(alloc, &lines) else {

@@ -15,8 +15,7 @@ use std::thread::Threads;
 
 /// A run of these files under lines, which is to stop in one way.
 #[derive(Drop)]
-pub(crate) struct Trial<'a, R> {
-    pub rt: &'a R,
+pub(crate) struct Trial<'a> {
     pub alloc: Global,
     pub files: RunFiles<'a>,
     /// The most events of a run.
@@ -26,14 +25,14 @@ pub(crate) struct Trial<'a, R> {
     ghost few: { events ≤ max_events },
 }
 
-impl<'a, R: Threads + Sync> Stops<EventRun> for Trial<'a, R> {
+impl Stops<EventRun> for Trial<'_> {
     ghost stops = { λ trial lines. stops_under trial.wanted trial.files trial.events (text_of lines) };
 
     // The lines are written as a text, and read. A machine that isn't booted counts as out of memory: others were booted before.
-    fn stops_so(&self, lines: &[EventRun]) -> Result<bool, AllocError> {
+    fn stops_so<R: Threads + Sync>(&self, rt: &R, lines: &[EventRun]) -> Result<bool, AllocError> {
         let text = script_text(self.alloc, lines)?;
         let order = Order::Text(text.as_str().as_bytes());
-        match try_order(self.rt, self.alloc, &self.files, &order, self.events) {
+        match try_order(rt, self.alloc, &self.files, &order, self.events) {
             Ok(ending) => Ok(self.wanted.is(ending.outcome)),
             Err(NoOutcome::Script) => Ok(false),
             Err(NoOutcome::Refused) | Err(NoOutcome::Memory) => Err(AllocError),
