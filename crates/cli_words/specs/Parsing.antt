@@ -1,35 +1,14 @@
 -- The commands as `clap` is told them, and the words that it gives back.
-use Rattle.std.specs.Prelude.{IsTrue, ⊤, true, List, [], ◌∷◌, fold, Option, Some, None, codes, is_some, if◌then◌else◌, unwrap_or}
-use Rattle.std.specs.Str.{bytes_eq}
+use Rattle.std.specs.Prelude.{IsTrue, ⊤, true, List, [], ◌∷◌, fold, Some, codes, is_some, unwrap_or}
 use Rattle.clap.specs.Words.{App, Row, Rule, Text, new_app, new_rule, with_rule, first_of, all_of}
 use Rattle.clap.specs.Simple.{on_top}
 use Rattle.clap.specs.declared.builder.ArgAction.TheVariants.{Set, Append}
 use Rattle.cli_words.specs.declared.command.DiskKind.{DiskKind}
-use Rattle.cli_words.specs.declared.name.CommandName.{CommandName}
-use Rattle.cli_words.specs.declared.name.CommandName.TheVariants as command
-use Rattle.cli_words.specs.declared.commands.Argument.{Argument}
-use Rattle.cli_words.specs.declared.commands.Argument.TheVariants as argument
-use Rattle.cli_words.specs.Commands.{Split, Flat, Gen, Run, Measure, Convert, flat_split, gen_split, run_split, measure_split, convert_split}
-
--- ---- the commands
-
-abbrev pub name_of : Text → Option CommandName
-name_of name =
-    if bytes_eq name (codes "flat") then Some command.Flat
-    else if bytes_eq name (codes "gen") then Some command.Generated
-    else if bytes_eq name (codes "run") then Some (command.Run DiskKind.Block)
-    else if bytes_eq name (codes "vrun") then Some (command.Run DiskKind.Virtio)
-    else if bytes_eq name (codes "measure") then Some command.Measure
-    else if bytes_eq name (codes "convert") then Some command.Convert
-    else None
-
--- the words after the name of the command
-abbrev pub split_as : CommandName → List Text → Option Split
-split_as command.Flat words = flat_split words
-split_as command.Generated words = gen_split words
-split_as (command.Run kind) words = run_split kind words
-split_as command.Measure words = measure_split words
-split_as command.Convert words = convert_split words
+use Rattle.cli_words.specs.declared.table.CommandName.{CommandName}
+use Rattle.cli_words.specs.declared.table.CommandName.TheVariants as command
+use Rattle.cli_words.specs.declared.table.Argument.{Argument}
+use Rattle.cli_words.specs.declared.table.Argument.TheVariants as argument
+use Rattle.cli_words.specs.Commands.{Split, Flat, Gen, Run, Live, Snap, Resume, Show, Measure, Convert}
 
 -- what a command has under a name
 pub data Want : Type 0 where
@@ -51,6 +30,18 @@ gen_wants = One (codes "N") ∷ []
 abbrev pub run_wants : List Want
 run_wants = One (codes "IMAGE") ∷ One (codes "POLICY") ∷ One (codes "DISK") ∷ One (codes "SCRIPT") ∷ One (codes "EVENTS") ∷ One (codes "SAVE") ∷ []
 
+abbrev pub live_wants : List Want
+live_wants = One (codes "IMAGE") ∷ One (codes "POLICY") ∷ One (codes "DISK") ∷ One (codes "EVENTS") ∷ One (codes "OUT") ∷ []
+
+abbrev pub snap_wants : List Want
+snap_wants = One (codes "IMAGE") ∷ One (codes "POLICY") ∷ One (codes "DISK") ∷ One (codes "SCRIPT") ∷ One (codes "EVENTS") ∷ One (codes "OUT") ∷ []
+
+abbrev pub resume_wants : List Want
+resume_wants = One (codes "SNAPSHOT") ∷ One (codes "POLICY") ∷ One (codes "SCRIPT") ∷ One (codes "EVENTS") ∷ One (codes "SAVE") ∷ []
+
+abbrev pub show_wants : List Want
+show_wants = One (codes "SNAPSHOT") ∷ []
+
 abbrev pub measure_wants : List Want
 measure_wants =
     One (codes "OUT") ∷ One (codes "KERNEL") ∷ One (codes "RAM") ∷ One (codes "HARTS") ∷ One (codes "ENTRIES") ∷ One (codes "INIT") ∷ Any (codes "MODULES") ∷ []
@@ -62,6 +53,10 @@ abbrev pub wants_of : CommandName → List Want
 wants_of command.Flat = flat_wants
 wants_of command.Generated = gen_wants
 wants_of (command.Run kind) = run_wants
+wants_of command.Live = live_wants
+wants_of command.Snap = snap_wants
+wants_of command.Resume = resume_wants
+wants_of command.Show = show_wants
 wants_of command.Measure = measure_wants
 wants_of command.Convert = convert_wants
 
@@ -113,6 +108,37 @@ run_found kind rows = Run (record {
   save = word_of (codes "SAVE") rows;
 })
 
+abbrev pub live_found : List Row → Split
+live_found rows = Live (record {
+  image = word_of (codes "IMAGE") rows;
+  policy = word_of (codes "POLICY") rows;
+  disk = word_of (codes "DISK") rows;
+  events = word_of (codes "EVENTS") rows;
+  out = word_of (codes "OUT") rows;
+})
+
+abbrev pub snap_found : List Row → Split
+snap_found rows = Snap (record {
+  image = word_of (codes "IMAGE") rows;
+  policy = word_of (codes "POLICY") rows;
+  disk = word_of (codes "DISK") rows;
+  script = word_of (codes "SCRIPT") rows;
+  events = word_of (codes "EVENTS") rows;
+  out = word_of (codes "OUT") rows;
+})
+
+abbrev pub resume_found : List Row → Split
+resume_found rows = Resume (record {
+  saved = word_of (codes "SNAPSHOT") rows;
+  policy = word_of (codes "POLICY") rows;
+  script = word_of (codes "SCRIPT") rows;
+  events = word_of (codes "EVENTS") rows;
+  save = word_of (codes "SAVE") rows;
+})
+
+abbrev pub show_found : List Row → Split
+show_found rows = Show (word_of (codes "SNAPSHOT") rows)
+
 abbrev pub modules_found : List Row → List Text
 modules_found rows = unwrap_or (all_of (codes "MODULES") rows) []
 
@@ -138,5 +164,9 @@ abbrev pub found_as : CommandName → List Row → Split
 found_as command.Flat rows = flat_found rows
 found_as command.Generated rows = gen_found rows
 found_as (command.Run kind) rows = run_found kind rows
+found_as command.Live rows = live_found rows
+found_as command.Snap rows = snap_found rows
+found_as command.Resume rows = resume_found rows
+found_as command.Show rows = show_found rows
 found_as command.Measure rows = measure_found rows
 found_as command.Convert rows = convert_found rows

@@ -1,11 +1,14 @@
 // The words that `clap` found, by their names.
 ghost use Rattle.std.specs.Prelude.{◌≡◌, IfOk, IsTrue, is_some, map};
 ghost use Rattle.clap.specs.Words.{found_of, first_of, rows_of};
-ghost use Rattle.cli_words.specs.Parsing.{HasWords, word_of, wants_of, flat_wants, gen_wants, run_wants, measure_wants, convert_wants, found_as, flat_found, gen_found, run_found, measure_found, modules_found, convert_found};
+ghost use Rattle.cli_words.specs.Parsing.{HasWords, word_of, wants_of, flat_wants, gen_wants, run_wants, live_wants, snap_wants, resume_wants, show_wants, measure_wants, convert_wants, found_as, flat_found, gen_found, run_found, live_found, snap_found, resume_found, show_found, measure_found, modules_found, convert_found};
 ghost use Rattle.cli_words.specs.Values.{split_of};
 
-use crate::command::{CommandWords, ConvertWords, DiskKind, FlatWords, MeasureWords, RunWords};
-use crate::name::CommandName;
+use crate::command::{
+    CommandWords, ConvertWords, DiskKind, FlatWords, LiveWords, MeasureWords, ResumeWords,
+    RunWords, SnapWords,
+};
+use crate::table::CommandName;
 use clap::ArgMatches;
 use std::alloc::{AllocError, Global};
 
@@ -22,6 +25,10 @@ pub fn words_of_command<'a>(
         CommandName::Flat => Ok(flat(matches)),
         CommandName::Generated => Ok(generated(matches)),
         CommandName::Run(kind) => Ok(run(kind, matches)),
+        CommandName::Live => Ok(live(matches)),
+        CommandName::Snap => Ok(snap(matches)),
+        CommandName::Resume => Ok(resume(matches)),
+        CommandName::Show => Ok(show(matches)),
         CommandName::Measure => measure(alloc, matches),
         CommandName::Convert => Ok(convert(matches)),
     }
@@ -58,6 +65,53 @@ fn run<'a>(kind: DiskKind, matches: &ArgMatches<'a>) -> CommandWords<'a>
         events: word(matches, "EVENTS"),
         save: word(matches, "SAVE"),
     })
+}
+
+fn live<'a>(matches: &ArgMatches<'a>) -> CommandWords<'a>
+    requires { HasWords live_wants (rows_of (found_of matches.now)) }
+    ensures { split_of result ≡ live_found (rows_of (found_of matches.now)) }
+{
+    CommandWords::Live(LiveWords {
+        image: word(matches, "IMAGE"),
+        policy: word(matches, "POLICY"),
+        disk: word(matches, "DISK"),
+        events: word(matches, "EVENTS"),
+        out: word(matches, "OUT"),
+    })
+}
+
+fn snap<'a>(matches: &ArgMatches<'a>) -> CommandWords<'a>
+    requires { HasWords snap_wants (rows_of (found_of matches.now)) }
+    ensures { split_of result ≡ snap_found (rows_of (found_of matches.now)) }
+{
+    CommandWords::Snap(SnapWords {
+        image: word(matches, "IMAGE"),
+        policy: word(matches, "POLICY"),
+        disk: word(matches, "DISK"),
+        script: word(matches, "SCRIPT"),
+        events: word(matches, "EVENTS"),
+        out: word(matches, "OUT"),
+    })
+}
+
+fn resume<'a>(matches: &ArgMatches<'a>) -> CommandWords<'a>
+    requires { HasWords resume_wants (rows_of (found_of matches.now)) }
+    ensures { split_of result ≡ resume_found (rows_of (found_of matches.now)) }
+{
+    CommandWords::Resume(ResumeWords {
+        saved: word(matches, "SNAPSHOT"),
+        policy: word(matches, "POLICY"),
+        script: word(matches, "SCRIPT"),
+        events: word(matches, "EVENTS"),
+        save: word(matches, "SAVE"),
+    })
+}
+
+fn show<'a>(matches: &ArgMatches<'a>) -> CommandWords<'a>
+    requires { HasWords show_wants (rows_of (found_of matches.now)) }
+    ensures { split_of result ≡ show_found (rows_of (found_of matches.now)) }
+{
+    CommandWords::Show(word(matches, "SNAPSHOT"))
 }
 
 fn measure<'a>(alloc: Global, matches: &ArgMatches<'a>) -> Result<CommandWords<'a>, AllocError>

@@ -3,11 +3,15 @@
 
 mod command;
 mod commands;
-mod dash;
 mod found;
-mod name;
+mod naming;
 mod reading;
+mod table;
 
-pub use command::{CommandWords, ConvertWords, DiskKind, FlatWords, MeasureWords, RunWords};
-pub use dash::has_dash;
+pub use command::{
+    CommandWords, ConvertWords, DiskKind, FlatWords, LiveWords, MeasureWords, ResumeWords,
+    RunWords, SnapWords,
+};
+pub use naming::{Naming, named};
 pub use reading::split;
+pub use table::{Argument, COMMANDS, CommandName, CommandRow, arguments_of, command_of_name};
