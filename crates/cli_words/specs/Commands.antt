@@ -65,19 +65,6 @@ pub record ConvertSplit : Type 0 where
   pub given : List ℕ
   pub out : List ℕ
 
-pub data Split : Type 0 where
-  Flat : FlatSplit → Split
-  -- gen N
-  Gen : (calls : List ℕ) → Split
-  Run : RunSplit → Split
-  Live : LiveSplit → Split
-  Snap : SnapSplit → Split
-  Resume : ResumeSplit → Split
-  -- show SNAPSHOT
-  Show : (saved : List ℕ) → Split
-  Measure : MeasureSplit → Split
-  Convert : ConvertSplit → Split
-
 -- ---- the commands by their names
 
 abbrev pub name_of : List ℕ → Option CommandName
@@ -94,18 +81,18 @@ name_of name =
     else if bytes_eq name (codes "convert") then Some command.Convert
     else None
 
--- ---- by the number of words after the name
+-- ---- the words after the name, by their number
 
-abbrev pub flat_split : List (List ℕ) → Option Split
-flat_split (file ∷ wanted ∷ events ∷ []) = Some (Flat (record { file = file; wanted = wanted; events = events }))
+abbrev pub flat_split : List (List ℕ) → Option FlatSplit
+flat_split (file ∷ wanted ∷ events ∷ []) = Some (record { file = file; wanted = wanted; events = events })
 flat_split _ = None
 
-abbrev pub gen_split : List (List ℕ) → Option Split
-gen_split (calls ∷ []) = Some (Gen calls)
+abbrev pub gen_split : List (List ℕ) → Option (List ℕ)
+gen_split (calls ∷ []) = Some calls
 gen_split _ = None
 
-abbrev pub run_split : DiskKind → List (List ℕ) → Option Split
-run_split kind (image ∷ policy ∷ disk ∷ script ∷ events ∷ save ∷ []) = Some (Run (record {
+abbrev pub run_split : DiskKind → List (List ℕ) → Option RunSplit
+run_split kind (image ∷ policy ∷ disk ∷ script ∷ events ∷ save ∷ []) = Some (record {
   kind = kind;
   image = image;
   policy = policy;
@@ -113,30 +100,30 @@ run_split kind (image ∷ policy ∷ disk ∷ script ∷ events ∷ save ∷ [])
   script = script;
   events = events;
   save = save;
-}))
+})
 run_split kind _ = None
 
-abbrev pub live_split : List (List ℕ) → Option Split
+abbrev pub live_split : List (List ℕ) → Option LiveSplit
 live_split (image ∷ policy ∷ disk ∷ events ∷ out ∷ []) =
-    Some (Live (record { image = image; policy = policy; disk = disk; events = events; out = out }))
+    Some (record { image = image; policy = policy; disk = disk; events = events; out = out })
 live_split _ = None
 
-abbrev pub snap_split : List (List ℕ) → Option Split
+abbrev pub snap_split : List (List ℕ) → Option SnapSplit
 snap_split (image ∷ policy ∷ disk ∷ script ∷ events ∷ out ∷ []) =
-    Some (Snap (record { image = image; policy = policy; disk = disk; script = script; events = events; out = out }))
+    Some (record { image = image; policy = policy; disk = disk; script = script; events = events; out = out })
 snap_split _ = None
 
-abbrev pub resume_split : List (List ℕ) → Option Split
+abbrev pub resume_split : List (List ℕ) → Option ResumeSplit
 resume_split (saved ∷ policy ∷ script ∷ events ∷ save ∷ []) =
-    Some (Resume (record { saved = saved; policy = policy; script = script; events = events; save = save }))
+    Some (record { saved = saved; policy = policy; script = script; events = events; save = save })
 resume_split _ = None
 
-abbrev pub show_split : List (List ℕ) → Option Split
-show_split (saved ∷ []) = Some (Show saved)
+abbrev pub show_split : List (List ℕ) → Option (List ℕ)
+show_split (saved ∷ []) = Some saved
 show_split _ = None
 
-abbrev pub measure_split : List (List ℕ) → Option Split
-measure_split (out ∷ kernel ∷ ram ∷ harts ∷ entries ∷ init ∷ modules) = Some (Measure (record {
+abbrev pub measure_split : List (List ℕ) → Option MeasureSplit
+measure_split (out ∷ kernel ∷ ram ∷ harts ∷ entries ∷ init ∷ modules) = Some (record {
   out = out;
   kernel = kernel;
   ram = ram;
@@ -144,24 +131,12 @@ measure_split (out ∷ kernel ∷ ram ∷ harts ∷ entries ∷ init ∷ modules
   entries = entries;
   init = init;
   modules = modules;
-}))
+})
 measure_split _ = None
 
-abbrev pub convert_split : List (List ℕ) → Option Split
-convert_split (kernel ∷ given ∷ out ∷ []) = Some (Convert (record { kernel = kernel; given = given; out = out }))
+abbrev pub convert_split : List (List ℕ) → Option ConvertSplit
+convert_split (kernel ∷ given ∷ out ∷ []) = Some (record { kernel = kernel; given = given; out = out })
 convert_split _ = None
-
--- the words after the name of the command
-abbrev pub split_as : CommandName → List (List ℕ) → Option Split
-split_as command.Flat words = flat_split words
-split_as command.Generated words = gen_split words
-split_as (command.Run kind) words = run_split kind words
-split_as command.Live words = live_split words
-split_as command.Snap words = snap_split words
-split_as command.Resume words = resume_split words
-split_as command.Show words = show_split words
-split_as command.Measure words = measure_split words
-split_as command.Convert words = convert_split words
 
 -- ---- words that are no names
 

@@ -1,9 +1,7 @@
 -- What the words of a command are, by value.
 use Rattle.std.specs.Prelude.{map, string_bytes}
-use Rattle.cli_words.specs.Commands.{Named, Split, FlatSplit, RunSplit, LiveSplit, SnapSplit, ResumeSplit, MeasureSplit, ConvertSplit, Flat, Gen, Run, Live, Snap, Resume, Show, Measure, Convert}
+use Rattle.cli_words.specs.Commands.{Named, FlatSplit, RunSplit, LiveSplit, SnapSplit, ResumeSplit, MeasureSplit, ConvertSplit}
 use Rattle.cli_words.specs.declared.naming.Naming.{Naming}
-use Rattle.cli_words.specs.declared.command.CommandWords.{CommandWords}
-use Rattle.cli_words.specs.declared.command.CommandWords.TheVariants as words
 use Rattle.cli_words.specs.declared.command.FlatWords.{FlatWords}
 use Rattle.cli_words.specs.declared.command.RunWords.{RunWords}
 use Rattle.cli_words.specs.declared.command.LiveWords.{LiveWords}
@@ -67,17 +65,6 @@ measure_split_of w = record {
 
 abbrev pub convert_split_of : ConvertWords → ConvertSplit
 convert_split_of w = record { kernel = w.kernel.now; given = w.given.now; out = w.out.now }
-
-abbrev pub split_of : CommandWords → Split
-split_of (words.Flat w) = Flat (flat_split_of w)
-split_of (words.Generated calls) = Gen calls.now
-split_of (words.Run w) = Run (run_split_of w)
-split_of (words.Live w) = Live (live_split_of w)
-split_of (words.Snap w) = Snap (snap_split_of w)
-split_of (words.Resume w) = Resume (resume_split_of w)
-split_of (words.Show saved) = Show saved.now
-split_of (words.Measure w) = Measure (measure_split_of w)
-split_of (words.Convert w) = Convert (convert_split_of w)
 
 abbrev pub named_of : Naming → Named
 named_of n = record { command = n.command; rest = map string_bytes n.rest.now }

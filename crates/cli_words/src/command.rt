@@ -9,22 +9,6 @@ pub enum DiskKind {
     Virtio,
 }
 
-/// The words of a command.
-#[derive(Drop)]
-pub enum CommandWords<'a> {
-    Flat(FlatWords<'a>),
-    /// `gen N`
-    Generated(&'a str),
-    Run(RunWords<'a>),
-    Live(LiveWords<'a>),
-    Snap(SnapWords<'a>),
-    Resume(ResumeWords<'a>),
-    /// `show SNAPSHOT`
-    Show(&'a str),
-    Measure(MeasureWords<'a>),
-    Convert(ConvertWords<'a>),
-}
-
 /// `flat FILE MEASURE EVENTS`
 #[derive(Drop)]
 pub struct FlatWords<'a> {

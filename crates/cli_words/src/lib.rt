@@ -9,9 +9,11 @@ mod reading;
 mod table;
 
 pub use command::{
-    CommandWords, ConvertWords, DiskKind, FlatWords, LiveWords, MeasureWords, ResumeWords,
-    RunWords, SnapWords,
+    ConvertWords, DiskKind, FlatWords, LiveWords, MeasureWords, ResumeWords, RunWords, SnapWords,
 };
 pub use naming::{Naming, named};
-pub use reading::split;
+pub use reading::{
+    split_convert, split_flat, split_generated, split_live, split_measure, split_resume, split_run,
+    split_show, split_snap,
+};
 pub use table::{Argument, COMMANDS, CommandName, CommandRow, arguments_of, command_of_name};
