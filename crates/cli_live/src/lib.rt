@@ -7,6 +7,5 @@ mod live_run;
 mod making;
 mod ready;
 mod threads;
-mod words;
 
 pub use answer::secvisor_live;

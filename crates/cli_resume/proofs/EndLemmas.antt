@@ -12,7 +12,7 @@ use Rattle.snapshot_format.specs.declared.refusal.SnapRefusal.{SnapRefusal}
 use Rattle.snapshot_format.specs.declared.refusal.SnapRefusal.TheVariants.{TooLong}
 use Rattle.snapshot_resume.specs.ResumedStates.{resumed_state}
 use Rattle.snapshot_resume.specs.declared.refusal.ResumeRefusal.{ResumeRefusal}
-use Rattle.cli_plans.specs.CommandLine.{Source, Rounds, Auto, Bursts, Text}
+use Rattle.cli_plans.specs.CommandLine.{Source, Rounds, Auto, Bursts, Text, ResumeWords, resume_judged}
 use Rattle.secvisor_cli.specs.DueIn.{due_in}
 use Rattle.cli_plans.specs.Plans.{RunFrom, Plan, Judge, max_policy_bytes, max_script_bytes, part_judged, policy_judged, policy_part, script_part, text_part}
 use Rattle.cli_plans.specs.declared.file_fault.FileFault.{FileFault}
@@ -21,7 +21,6 @@ use Rattle.cli_plans.specs.declared.refusal.Refusal.{Refusal}
 use Rattle.secvisor_cli.proofs.DueLemmas.{due_held, run_ends}
 use Rattle.cli_resume.specs.ResumeEnds.{HoldPolicy, HoldResumable, HoldScript, HoldText, ResumeEndsLaw}
 use Rattle.cli_resume.specs.ResumePlans.{after_policy, behind_script, after_snapshot, contents_judged, events_after, resume_plan, resumed_due, snapshot_part, words_plan}
-use Rattle.cli_resume.specs.ResumeWords.{ResumeWords, resume_judged}
 
 -- ---- the snapshot
 

@@ -9,6 +9,5 @@ mod modules;
 mod pages;
 mod refusal;
 mod whole;
-mod words;
 
 pub use answer::secvisor_show;

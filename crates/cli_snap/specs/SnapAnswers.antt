@@ -14,12 +14,13 @@ use Rattle.host_io.specs.Outside.{FilesState, SinkState, after_taking, TookPrefi
 use Rattle.machine.specs.Standing.{Stands}
 use Rattle.secvisor_cli.specs.Answers.{Outside, outside, Writes, SavedAfter, WritesAndSaves}
 use Rattle.host_io.specs.Endings.{status_of_end}
-use Rattle.cli_plans.specs.Plans.{Due, Refuse, RunFrom, Make, Saving, Exactly, Plan}
+use Rattle.cli_plans.specs.Plans.{Due, Refuse, RunFrom, Make, Saving, Exactly, Plan, snap_plan}
 use Rattle.cli_plans.specs.Reading.{Follows}
 use Rattle.cli_plans.specs.declared.refusal.Refusal.{Refusal}
 use Rattle.host_io.specs.declared.trouble.Trouble.{Trouble}
 use Rattle.host_io.specs.declared.trouble.Trouble.TheVariants.{Memory}
-use Rattle.cli_snap.specs.SnapWords.{SnapWords, out_of, snap_plan}
+use Rattle.cli_plans.specs.CommandLine.{SnapWords}
+use Rattle.cli_snap.specs.SnapReady.{out_of}
 
 -- ---- the snapshot
 
