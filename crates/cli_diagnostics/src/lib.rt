@@ -8,8 +8,12 @@ mod converting;
 mod faults;
 mod files;
 mod making;
+mod manual;
 mod resuming;
 mod running;
+mod words;
 
 pub use command::remark;
 pub use files::{MostBytes, Reread};
+pub use manual::help;
+pub use words::{WordRemark, word_remark};

@@ -191,7 +191,13 @@ pub fn read_live<'a>(words: &LiveWords<'a>) -> Result<Live<'a>, Refusal>
     let Some(events) = number_within(words.events.as_bytes(), 0, MAX_LIVE_EVENTS) else {
         return Err(Refusal::OutOfRange { word: Word::Events });
     };
-    let run = block_run(words.image, words.policy, words.disk, Source::Auto(0), events);
+    let run = block_run(
+        words.image,
+        words.policy,
+        words.disk,
+        Source::Auto(0),
+        events,
+    );
     Ok(Live {
         run,
         out: words.out,

@@ -16,4 +16,6 @@ pub use reading::{
     split_convert, split_flat, split_generated, split_live, split_measure, split_resume, split_run,
     split_show, split_snap,
 };
-pub use table::{Argument, COMMANDS, CommandName, CommandRow, arguments_of, command_of_name};
+pub use table::{
+    Argument, COMMANDS, CommandName, CommandRow, WORDS, WordRow, arguments_of, command_of_name,
+};

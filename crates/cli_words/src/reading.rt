@@ -32,10 +32,7 @@ fn find<'a>(
 }
 
 /// `flat FILE MEASURE EVENTS`
-pub fn split_flat<'a>(
-    alloc: Global,
-    words: &'a [String],
-) -> Result<FlatWords<'a>, AllocError>
+pub fn split_flat<'a>(alloc: Global, words: &'a [String]) -> Result<FlatWords<'a>, AllocError>
     requires known { IsTrue (is_some (flat_split (map string_bytes words.now))) }
     requires plain { list_any has_dash (map string_bytes words.now) ≡ false }
     ensures { IfOk result (λ found. flat_split (map string_bytes words.entry.now) ≡ Some (flat_split_of found)) }
@@ -45,10 +42,7 @@ pub fn split_flat<'a>(
 }
 
 /// `gen N`
-pub fn split_generated<'a>(
-    alloc: Global,
-    words: &'a [String],
-) -> Result<&'a str, AllocError>
+pub fn split_generated<'a>(alloc: Global, words: &'a [String]) -> Result<&'a str, AllocError>
     requires known { IsTrue (is_some (gen_split (map string_bytes words.now))) }
     requires plain { list_any has_dash (map string_bytes words.now) ≡ false }
     ensures { IfOk result (λ found. gen_split (map string_bytes words.entry.now) ≡ Some found.now) }
@@ -72,10 +66,7 @@ pub fn split_run<'a>(
 }
 
 /// `live IMAGE POLICY DISK EVENTS OUT`
-pub fn split_live<'a>(
-    alloc: Global,
-    words: &'a [String],
-) -> Result<LiveWords<'a>, AllocError>
+pub fn split_live<'a>(alloc: Global, words: &'a [String]) -> Result<LiveWords<'a>, AllocError>
     requires known { IsTrue (is_some (live_split (map string_bytes words.now))) }
     requires plain { list_any has_dash (map string_bytes words.now) ≡ false }
     ensures { IfOk result (λ found. live_split (map string_bytes words.entry.now) ≡ Some (live_split_of found)) }
@@ -85,10 +76,7 @@ pub fn split_live<'a>(
 }
 
 /// `snap IMAGE POLICY DISK SCRIPT EVENTS OUT`
-pub fn split_snap<'a>(
-    alloc: Global,
-    words: &'a [String],
-) -> Result<SnapWords<'a>, AllocError>
+pub fn split_snap<'a>(alloc: Global, words: &'a [String]) -> Result<SnapWords<'a>, AllocError>
     requires known { IsTrue (is_some (snap_split (map string_bytes words.now))) }
     requires plain { list_any has_dash (map string_bytes words.now) ≡ false }
     ensures { IfOk result (λ found. snap_split (map string_bytes words.entry.now) ≡ Some (snap_split_of found)) }
@@ -98,10 +86,7 @@ pub fn split_snap<'a>(
 }
 
 /// `resume SNAPSHOT POLICY SCRIPT EVENTS SAVE`
-pub fn split_resume<'a>(
-    alloc: Global,
-    words: &'a [String],
-) -> Result<ResumeWords<'a>, AllocError>
+pub fn split_resume<'a>(alloc: Global, words: &'a [String]) -> Result<ResumeWords<'a>, AllocError>
     requires known { IsTrue (is_some (resume_split (map string_bytes words.now))) }
     requires plain { list_any has_dash (map string_bytes words.now) ≡ false }
     ensures { IfOk result (λ found. resume_split (map string_bytes words.entry.now) ≡ Some (resume_split_of found)) }
@@ -111,10 +96,7 @@ pub fn split_resume<'a>(
 }
 
 /// `show SNAPSHOT`
-pub fn split_show<'a>(
-    alloc: Global,
-    words: &'a [String],
-) -> Result<&'a str, AllocError>
+pub fn split_show<'a>(alloc: Global, words: &'a [String]) -> Result<&'a str, AllocError>
     requires known { IsTrue (is_some (show_split (map string_bytes words.now))) }
     requires plain { list_any has_dash (map string_bytes words.now) ≡ false }
     ensures { IfOk result (λ found. show_split (map string_bytes words.entry.now) ≡ Some found.now) }
@@ -124,10 +106,7 @@ pub fn split_show<'a>(
 }
 
 /// `measure OUT KERNEL RAM HARTS ENTRIES INIT MODULES..`
-pub fn split_measure<'a>(
-    alloc: Global,
-    words: &'a [String],
-) -> Result<MeasureWords<'a>, AllocError>
+pub fn split_measure<'a>(alloc: Global, words: &'a [String]) -> Result<MeasureWords<'a>, AllocError>
     requires known { IsTrue (is_some (measure_split (map string_bytes words.now))) }
     requires plain { list_any has_dash (map string_bytes words.now) ≡ false }
     ensures { IfOk result (λ found. measure_split (map string_bytes words.entry.now) ≡ Some (measure_split_of found)) }
@@ -137,10 +116,7 @@ pub fn split_measure<'a>(
 }
 
 /// `convert KERNEL IN OUT`
-pub fn split_convert<'a>(
-    alloc: Global,
-    words: &'a [String],
-) -> Result<ConvertWords<'a>, AllocError>
+pub fn split_convert<'a>(alloc: Global, words: &'a [String]) -> Result<ConvertWords<'a>, AllocError>
     requires known { IsTrue (is_some (convert_split (map string_bytes words.now))) }
     requires plain { list_any has_dash (map string_bytes words.now) ≡ false }
     ensures { IfOk result (λ found. convert_split (map string_bytes words.entry.now) ≡ Some (convert_split_of found)) }

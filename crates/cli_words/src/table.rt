@@ -112,6 +112,89 @@ pub static COMMANDS: [CommandRow; 10] = [
     },
 ];
 
+/// A word by its name, and what it may be, for a person.
+#[derive(Clone, Copy)]
+pub struct WordRow {
+    pub name: &'static str,
+    pub permitted: &'static str,
+}
+
+/// The names of all commands' words.
+pub static WORDS: [WordRow; 18] = [
+    WordRow {
+        name: "OUT",
+        permitted: "the name that a file is saved under",
+    },
+    WordRow {
+        name: "SAVE",
+        permitted: "the name that the disk is saved under, or none",
+    },
+    WordRow {
+        name: "KERNEL",
+        permitted: "an ELF image for RV64IMA, linked, at most 64 MiB",
+    },
+    WordRow {
+        name: "IMAGE",
+        permitted: "an ELF image for RV64IMA, linked, at most 64 MiB",
+    },
+    WordRow {
+        name: "POLICY",
+        permitted: "what measure or convert made, or a text like it",
+    },
+    WordRow {
+        name: "IN",
+        permitted: "what measure made, or a text like it",
+    },
+    WordRow {
+        name: "DISK",
+        permitted: "the disk's bytes, whole sectors of 512, or none for an empty disk",
+    },
+    WordRow {
+        name: "SCRIPT",
+        permitted: "a script of events, none for the harts in turn, auto:K or bursts:K for a drawn order",
+    },
+    WordRow {
+        name: "EVENTS",
+        permitted: "the most events, 0 to 4294967296; with live to 4294950912, besides the keys",
+    },
+    WordRow {
+        name: "SNAPSHOT",
+        permitted: "what snap saved",
+    },
+    WordRow {
+        name: "RAM",
+        permitted: "pages of 4096 bytes, 16 to 262144",
+    },
+    WordRow {
+        name: "HARTS",
+        permitted: "1 to 4",
+    },
+    WordRow {
+        name: "ENTRIES",
+        permitted: "1 to 64 addresses at which user mode may enter the kernel, harts start, or the kernel boots, as 0x80000000,0x80000100",
+    },
+    WordRow {
+        name: "INIT",
+        permitted: "pages that the kernel may give back, as 0x80001000:2, or none",
+    },
+    WordRow {
+        name: "MODULES",
+        permitted: "object files, none or up to 64, none twice, each name 1 to 64 bytes long",
+    },
+    WordRow {
+        name: "FILE",
+        permitted: "1 to 16 plain pages",
+    },
+    WordRow {
+        name: "MEASURE",
+        permitted: "the pages' digest, 64 hexadecimal digits",
+    },
+    WordRow {
+        name: "N",
+        permitted: "1 to 1000000",
+    },
+];
+
 static FLAT: [Argument<'static>; 3] = [
     Argument::One("FILE"),
     Argument::One("MEASURE"),
