@@ -39,12 +39,13 @@ pub fn prepare_live<'a, R: Threads + Sync, F: Files>(
     let asked = ask_live(alloc, words)?;
     let (line, feeder, taker) = KeyLine::new(alloc)?;
     let journal = Journal::new(alloc)?;
+    let booted = prepare_run(rt, alloc, &asked.run, files)?;
     let PreparedRun {
         machine,
         script,
         events,
         ..
-    } = prepare_run(rt, alloc, &asked.run, files)?;
+    } = booted;
     Ok(LiveReady {
         live: LiveRun {
             machine,

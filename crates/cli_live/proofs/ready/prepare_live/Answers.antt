@@ -32,18 +32,18 @@ returns-in_err-journal-clause-prepares g c =
 pub prepare_run-requires-clause-permitted : goal.prepare_run-requires-clause-permitted
 prepare_run-requires-clause-permitted g c = λ κs lives. live_may _ (live_value c.in_ok-asked.asked) _ c.in_ok-asked.ensures.asked c.requires.permitted
 
-pub returns-in_err-prepare_run-clause-prepares : goal.returns-in_err-prepare_run-clause-prepares
-returns-in_err-prepare_run-clause-prepares g c =
-    err_by _ c.in_err-prepare_run.field-0.0
+pub returns-in_err-booted-clause-prepares : goal.returns-in_err-booted-clause-prepares
+returns-in_err-booted-clause-prepares g c =
+    err_by _ c.in_err-booted.field-0.0
     (λ r. PreparesLive (live_plan (live_judged (map string_bytes c.args.words.now))) (g.F.Files.state c.args.files.now) (g.F.Files.state c.prepare_run.new.files) r)
-    c.from_residual-in_err-prepare_run.ensures.1
-    (live_stopped _ (live_value c.in_ok-asked.asked) _ _ c.in_err-prepare_run.field-0.0 c.in_ok-asked.ensures.asked c.in_err-prepare_run.ensures.prepares)
+    c.from_residual-in_err-booted.ensures.1
+    (live_stopped _ (live_value c.in_ok-asked.asked) _ _ c.in_err-booted.field-0.0 c.in_ok-asked.ensures.asked c.in_err-booted.ensures.prepares)
 
 pub returns-clause-prepares : goal.returns-clause-prepares
 returns-clause-prepares g c =
-    let draws = c.in_ok-prepare_run.ensures.draws 0 c.in_ok-asked.ensures.drawn.1 in
+    let draws = c.in_ok-booted.ensures.draws 0 c.in_ok-asked.ensures.drawn.1 in
     let line = c.in_ok-line.ensures in
-    live_prepared _ (live_value c.in_ok-asked.asked) _ _ c.in_ok-prepare_run.field-0 _ c.in_ok-asked.ensures.asked c.in_ok-prepare_run.ensures.prepares (record {
+    live_prepared _ (live_value c.in_ok-asked.asked) _ _ c.in_ok-booted.booted _ c.in_ok-asked.ensures.asked c.in_ok-booted.ensures.prepares (record {
       machine = refl;
       script = refl;
       events = refl;
