@@ -42,7 +42,7 @@ fn main(rt: HostRuntime) -> io::Result<()> {
     let lines = fs::read_to_string(&rt, "real.txt")?;
     for words in lines.as_str().lines() {
         if !words.starts_with('#') {
-            call_real(&rt, words)?;
+            call_real(&rt, &rt, words)?;
         }
     }
     Ok(())

@@ -5,9 +5,15 @@ use live_keys::{ReaderKeys, Still};
 use secvisor_cli::Bench;
 use std::alloc::{AllocError, Global};
 use std::io;
+use std::sync::Wait;
+use std::thread::Threads;
 
-/// Makes the call with these words, and prints its status.
-pub fn call_real(rt: &HostRuntime, words: &str) -> io::Result<()> {
+/// Makes the call with these words, and prints its status. The runtime itself has no threads here, so they are handed in.
+pub fn call_real<R: Threads + Wait + Sync>(
+    rt: &HostRuntime,
+    threads: &R,
+    words: &str,
+) -> io::Result<()> {
     println!(rt; "== {words}")?;
     let line = words_of(rt.alloc(), words)?;
     let mut files = RealFiles::new(rt.clone()?, false);
@@ -15,7 +21,7 @@ pub fn call_real(rt: &HostRuntime, words: &str) -> io::Result<()> {
     let mut out = StdSink::new(rt.clone()?);
     let mut bench = Bench { machine: None };
     let status = cli_dispatch::answer(
-        rt,
+        threads,
         rt.alloc(),
         &line,
         &mut files,
