@@ -75,7 +75,7 @@ module _ (held : List ℕ → Option (List ℕ)) where
       ∙ script_due words.script rules.harts script (behind_script words s rules) it.events
       ∙ ap (λ (refusal : Option ResumeRefusal). resumed_due rules s (events_after s.events words.events script) words.save refusal) it.accepted
 
-plan_due : (held : List ℕ → Option (List ℕ)) (judged : Result ResumeWords Refusal) (words : ResumeWords) (s : Contents) (rules : Rules) (script : Schedule) → judged ≡ Ok words →
+pub plan_due : (held : List ℕ → Option (List ℕ)) (judged : Result ResumeWords Refusal) (words : ResumeWords) (s : Contents) (rules : Rules) (script : Schedule) → judged ≡ Ok words →
     HoldResumable held words s rules script → due_in held (resume_plan judged) ≡ RunFrom (resumed_state rules s) (events_after s.events words.events script) words.save
 unfolding resume_plan
 plan_due held judged words s rules script is it =

@@ -1,5 +1,5 @@
 -- What follows of an answer from what was read.
-use Rattle.std.proofs.Common.{◌≡◌, ◌<◌, ◌≤◌, ℕ, List, IsTrue, true, length, nat_lt, arith, refl, ap, subst, Option, Some, None, Result, Ok, Err, IsErrOf, Vec, sym, inl, inr}
+use Rattle.std.proofs.Common.{◌≡◌, ◌<◌, ◌≤◌, ℕ, List, IsTrue, true, length, nat_lt, arith, refl, ap, subst, Option, Some, None, Result, Ok, Err, IsErrOf, Vec, sym, inl, inr, ◌∙◌}
 use Rattle.std.specs.Result.{is_ok}
 use Rattle.cli_plans.specs.declared.refusal.Refusal.{Refusal}
 use Rattle.std.proofs.lemmas.Bool.Decides.{nat_tests}
@@ -7,11 +7,12 @@ use Rattle.std.specs.declared.alloc.Global.{Global}
 use Rattle.sv_types.specs.declared.status.Status.{Status}
 use Rattle.host_io.specs.declared.FileRefusal.{FileRefusal}
 use Rattle.host_io.specs.declared.FileRefusal.TheVariants.{Absent, Failed, TooLong, Memory as ReadMemory}
+use Rattle.host_io.specs.Endings.{status_of_end}
 use Rattle.host_io.specs.Outside.{FilesState, SinkState, ReadTells, ReadLeaves}
 use Rattle.snapshot_format.specs.Snapshots.{max_snapshot_bytes, snapshot_read}
 use Rattle.snapshot_format.specs.declared.refusal.SnapRefusal.{SnapRefusal}
 use Rattle.cli_show.specs.Showing.{Due, due_of_bytes, held_shown, name_of}
-use Rattle.cli_show.specs.Answers.{Ends, EndsAfter, Refuses, ShowsFile, Shows, MayAsk}
+use Rattle.cli_show.specs.Answers.{Answers, Ends, EndsAfter, Refuses, ShowEnds, ShowsFile, Shows, MayAsk}
 use Rattle.host_io.specs.declared.trouble.Trouble.{Trouble}
 use Rattle.host_io.specs.declared.trouble.Trouble.TheVariants.{Write, Memory}
 use Rattle.cli_show.specs.declared.refusal.ShowRefusal.TheVariants.{NoCommand, ReadFault, NoSnapshot}
@@ -114,3 +115,14 @@ shows_refused judged why files old new result is it = subst (λ (j : Result (Lis
 pub shows_want : (judged : Result (List ℕ) Refusal) (files : FilesState) (old : SinkState) → IsTrue (is_ok judged) → Shows (name_of judged) files files old old (Err Memory)
 shows_want (Ok name) files old good = inl (refl, refl, refl)
 shows_want (Err why) files old good = absurd (cc good)
+
+-- ---- how it ends
+
+ends_by : (text : List ℕ) (old new : SinkState) (answer : Status) (result : Result Status Trouble) → Ends (Ok text) old new result → answer ≡ status_of_end result →
+    (answer ≡ Status.Done) ⊎ (((answer ≡ Status.WriteFault) × (old.faults < new.faults)) ⊎ (answer ≡ Status.Memory))
+ends_by text old new answer (Ok status) ends is = inl (is ∙ ends.0)
+ends_by text old new answer (Err Write) ends is = inr (inl (is, ends.faults))
+ends_by text old new answer (Err Memory) ends is = inr (inr is)
+
+pub show_ends : ShowEnds
+show_ends text old new answer it = ends_by text old new answer it.result it.ends it.status

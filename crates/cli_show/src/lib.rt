@@ -4,6 +4,7 @@
 mod answer;
 mod devices;
 mod harts;
+mod laws;
 mod lines;
 mod modules;
 mod pages;
@@ -11,3 +12,4 @@ mod refusal;
 mod whole;
 
 pub use answer::secvisor_show;
+pub use laws::law_show_ends;
