@@ -69,7 +69,7 @@ has_saved harts journal name old new (Err trouble) saved failed answer it is =
 has_saved harts journal name old new (Ok status) saved failed answer it is = saved_ok harts journal name old new status answer failed saved it.0 it.1 it.2 is
 
 -- the status of a run, or that of a read of the keys that failed
-abbrev RunAnswer : Verdict → (old new : KeysState) → Status → Type 0
+abbrev pub RunAnswer : Verdict → (old new : KeysState) → Status → Type 0
 RunAnswer verdict old new answer = (answer ≡ run_status verdict) ⊎ ((answer ≡ Status.ReadFault) × (old.faults < new.faults))
 
 answer_by : (failed : Bool) (verdict : Verdict) (old new : KeysState) (status answer : Status) → (failed ≡ true → old.faults < new.faults) → status ≡ run_status verdict → answer ≡ read_status failed status →
@@ -78,14 +78,14 @@ answer_by true verdict old new status answer rose is same = inr (same, rose refl
 answer_by false verdict old new status answer rose is same = inl (same ∙ is)
 
 -- what is known of a run that answered a status
-record IsDone (start : State) (journal : List Event) (name : List ℕ) (old new : LiveOutside) (answer : Status) : Type 0 where
+pub record IsDone (start : State) (journal : List Event) (name : List ℕ) (old new : LiveOutside) (answer : Status) : Type 0 where
   pub bytes : new.sink ≡ after_taking old.sink (output (run start journal))
   pub status : RunAnswer (run start journal).journal.verdict old.keys new.keys answer
   pub text : List ℕ
   pub script : IsScriptOf start.rules.harts journal text
   pub held : IsTrue old.files.tells → new.files.held name ≡ Some text
 
-is_done : (start : State) (asked : List Event) (name : List ℕ) (old new : LiveOutside) (answer : Status) → (r : RunsLive start asked name old new (Ok answer)) → IsDone start r.journal name old new answer
+pub is_done : (start : State) (asked : List Event) (name : List ℕ) (old new : LiveOutside) (answer : Status) → (r : RunsLive start asked name old new (Ok answer)) → IsDone start r.journal name old new answer
 is_done start asked name old new answer r =
     let last : State = run start r.journal in
     let s = has_saved start.rules.harts r.journal name old.files new.files r.written r.saved r.ended.read_failed answer r.saves r.status in

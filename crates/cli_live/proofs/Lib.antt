@@ -7,3 +7,4 @@ pub mod PlanLemmas
 pub mod ReadyLemmas
 pub mod ReplayLemmas
 pub mod SettledKeys
+pub mod LiveEnding

@@ -5,3 +5,4 @@ pub mod LiveReady
 pub mod LiveRuns
 pub mod Replays
 pub mod Coming
+pub mod LiveEnds
