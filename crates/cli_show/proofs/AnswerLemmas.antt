@@ -1,5 +1,5 @@
 -- What follows of an answer from what was read.
-use Rattle.std.proofs.Common.{◌≡◌, ◌<◌, ◌≤◌, ℕ, List, IsTrue, true, length, nat_lt, arith, refl, ap, subst, Option, Some, None, Result, Ok, Err, IsErrOf, Vec, sym, inl, inr, ◌∙◌}
+use Rattle.std.proofs.Common.{◌≡◌, ◌<◌, ◌≤◌, ℕ, List, IsTrue, true, length, nat_lt, arith, refl, ap, subst, Option, Some, None, Result, Ok, Err, IsErrOf, Vec, sym, inl, inr, ◌∙◌, ◌⊎◌}
 use Rattle.std.specs.Result.{is_ok}
 use Rattle.cli_plans.specs.declared.refusal.Refusal.{Refusal}
 use Rattle.std.proofs.lemmas.Bool.Decides.{nat_tests}
