@@ -1,6 +1,6 @@
 #!/usr/bin/env bash
 # build.sh [FOLDER]: makes every guest of guests.txt in FOLDER (out/ beside this file) from nothing but the packages that
-# guests/linux/build.sh names. There are three kernels: `strict` and `loose` for the dump test, and `torture`. FOLDER then
+# guests/linux/build.sh names. There are four kernels: `strict`, `loose` and `open` for the dump test, and `torture`. FOLDER then
 # holds NAME.elf and NAME.cpio, and measure.txt with the words of each `measure`.
 # JOBS is how many compilers run at once.
 set -euo pipefail
@@ -13,10 +13,10 @@ source=$out/linux-source-6.1
 # shellcheck source=SCRIPTDIR/../linux/kernel.sh
 . "$linux/kernel.sh"
 
-# build_kernel NAME OPTIONS...: the kernel NAME, with these options over those of guests/linux.
+# build_kernel NAME FLAGS OPTIONS...: the kernel NAME, with these options over those of guests/linux.
 build_kernel() {
-    configure "$out/$1" "$linux/kernel.config" "${@:2}"
-    kernel_make "$out/$1" vmlinux
+    configure "$out/$1" "$linux/kernel.config" "${@:3}"
+    kernel_make "$out/$1" KCFLAGS="$2" vmlinux
     "${CROSS_COMPILE}objcopy" -O binary "$out/$1/vmlinux" "$out/$1/Image"
 }
 
@@ -38,9 +38,10 @@ guest() {
 
 mkdir -p "$out"
 unpack "$linux/kernel.patch" "$here/kernel.patch"
-build_kernel strict "$here/lkdtm.config" "$here/strict.config"
-build_kernel loose "$here/lkdtm.config" "$here/loose.config"
-build_kernel torture "$here/torture.config"
+build_kernel strict "" "$here/lkdtm.config" "$here/strict.config"
+build_kernel loose "" "$here/lkdtm.config" "$here/loose.config"
+build_kernel open -DSECVISOR_ALL_EXECUTABLE "$here/lkdtm.config" "$here/loose.config"
+build_kernel torture "" "$here/torture.config"
 build_programs
 : > "$out/measure.txt"
 grep -v '^#' "$here/guests.txt" | while read -r name kernel harts commands arguments; do

@@ -1,6 +1,7 @@
 #!/usr/bin/env python3
 """lkdtm.py SECVISOR [FOLDER]: the permission and control-flow triggers of Linux's dump test, each in a run of its own, with
-strict kernel memory permissions and without, under SecVisor and under QEMU alone; prints the two tables of docs/LINUX.md.
+strict kernel memory permissions, without them, and with all of the kernel's memory executable, under SecVisor and under QEMU
+alone; prints the table of docs/LINUX.md.
 
 FOLDER is where build.sh made the guests. Under SecVisor all runs of a kernel go on from one snapshot, and the trigger is typed
 into its shell; under QEMU each is a boot whose shell begins with it. The output of each run stays in FOLDER."""
@@ -19,6 +20,7 @@ TRIGGERS = ['EXEC_DATA', 'EXEC_STACK', 'EXEC_KMALLOC', 'EXEC_VMALLOC', 'EXEC_ROD
 # Code integrity speaks of what runs in kernel mode and of the bytes of approved code, and of nothing else.
 PROMISED = {'EXEC_DATA', 'EXEC_STACK', 'EXEC_KMALLOC', 'EXEC_VMALLOC', 'EXEC_RODATA', 'EXEC_USERSPACE', 'EXEC_NULL',
             'WRITE_KERN'}
+KERNELS = ('strict', 'loose', 'open')
 # Events to the shell; events for a trigger, in which Linux tells of a stall; the same in seconds.
 BOOT, MOST = 60_000_000, 300_000_000
 QEMU_SECONDS = 30
@@ -81,21 +83,18 @@ def linux_says(text):
 
 
 def machine_says(text):
-    """The verdict or note of the machine that the trigger brought about."""
-    stopped = re.search(r'^verdict (stopped \w+)', text, re.M)
-    demoted = re.search(r'^(demote) ', text, re.M)
-    ended = re.search(r'^verdict (\w+)', text, re.M)
-    if stopped:
-        return f'`{stopped[1]}`'
-    if demoted:
-        return '`demote`'
-    return '' if ended and ended[1] in ('shutdown', 'ended') else 'no report'
+    """The verdict or note of the machine that the trigger brought about, or nothing."""
+    found = re.search(r'^verdict (stopped \w+)', text, re.M) or re.search(r'^(demote) ', text, re.M)
+    return f'`{found[1]}`' if found else ''
 
 
-def row(secvisor, kernel, trigger):
-    with_it, without = guarded(secvisor, kernel, trigger), unguarded(kernel, trigger)
-    promised = 'yes' if trigger in PROMISED else 'no'
-    return f'| `{trigger}` | {linux_says(without)} | {linux_says(with_it)} | {machine_says(with_it)} | {promised} |'
+def cells(secvisor, kernel, trigger):
+    """What comes of a trigger without SecVisor and with it."""
+    without, with_it = unguarded(kernel, trigger), guarded(secvisor, kernel, trigger)
+    if not re.search('^verdict ', with_it, re.M):
+        return linux_says(without), 'no report'
+    under = ', '.join(filter(None, (machine_says(with_it), linux_says(with_it))))
+    return linux_says(without), 'the same' if under == linux_says(without) else under
 
 
 def snapshot(secvisor, kernel):
@@ -115,18 +114,22 @@ def main():
     words = argparse.ArgumentParser(description=__doc__)
     words.add_argument('secvisor')
     words.add_argument('folder', nargs='?', default=os.path.join(HERE, 'out'))
+    words.add_argument('--only', nargs='*', help='these kernels alone')
     words.add_argument('--jobs', type=int, default=os.cpu_count())
     words = words.parse_args()
     secvisor = os.path.abspath(words.secvisor)
     os.chdir(words.folder)
-    for kernel in ('strict', 'loose'):
+    kernels = words.only or KERNELS
+    for kernel in kernels:
         snapshot(secvisor, kernel)
-        print(f'\nPermissions {"strict" if kernel == "strict" else "not strict"}:\n')
-        print('| Trigger | The kernel alone, under QEMU | The kernel under SecVisor | SecVisor | Promised |')
-        print('|---|---|---|---|---|')
-        with concurrent.futures.ThreadPoolExecutor(words.jobs) as pool:
-            for line in pool.map(lambda trigger: row(secvisor, kernel, trigger), TRIGGERS):
-                print(line)
+    print('| Trigger | Promised |' + ''.join(f' `{kernel}` alone | `{kernel}` under SecVisor |' for kernel in kernels))
+    print('|---|---|' + '---|---|' * len(kernels))
+    runs = [(secvisor, kernel, trigger) for trigger in TRIGGERS for kernel in kernels]
+    with concurrent.futures.ThreadPoolExecutor(words.jobs) as pool:
+        made = pool.map(lambda run: cells(*run), runs)
+        for trigger in TRIGGERS:
+            row = [cell for _ in kernels for cell in next(made)]
+            print(f'| `{trigger}` | {"yes" if trigger in PROMISED else "no"} | {" | ".join(row)} |', flush=True)
 
 
 if __name__ == '__main__':

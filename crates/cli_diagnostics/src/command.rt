@@ -5,6 +5,7 @@ use crate::files::{Found, MostBytes, Reread};
 use crate::making::{MakingNames, making_files};
 use crate::resuming::{ResumeNames, resume_files, snapshot_file};
 use crate::running::{RunNames, flat_file, run_files};
+use cli_words::{CommandName, Naming, named};
 use std::alloc::Global;
 use std::thread::Threads;
 
@@ -30,18 +31,18 @@ fn judge_command<R: Threads + Sync, A: Reread>(
     files: &A,
     most: &MostBytes,
 ) -> Result<(), Found> {
-    match words {
-        [name, rest @ ..] => match name.as_str() {
-            "flat" => flat_words(alloc, rest, files, most),
-            "run" | "vrun" | "snap" => run_words(alloc, rest, files, most),
-            "live" => live_words(alloc, rest, files, most),
-            "measure" => measure_words(alloc, rest, files, most),
-            "convert" => convert_words(rt, alloc, rest, files, most),
-            "resume" => resume_words(rt, alloc, rest, files, most),
-            "show" => show_words(alloc, rest, files, most),
-            _ => Ok(()),
-        },
-        [] => Ok(()),
+    let Some(Naming { command, rest }) = named(words) else {
+        return Ok(());
+    };
+    match command {
+        CommandName::Flat => flat_words(alloc, rest, files, most),
+        CommandName::Run(_) | CommandName::Snap => run_words(alloc, rest, files, most),
+        CommandName::Live => live_words(alloc, rest, files, most),
+        CommandName::Measure => measure_words(alloc, rest, files, most),
+        CommandName::Convert => convert_words(rt, alloc, rest, files, most),
+        CommandName::Resume => resume_words(rt, alloc, rest, files, most),
+        CommandName::Show => show_words(alloc, rest, files, most),
+        CommandName::Generated => Ok(()),
     }
 }
 

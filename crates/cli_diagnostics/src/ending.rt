@@ -4,6 +4,7 @@ ghost use Rattle.std.specs.Prelude.{◌<◌};
 
 use crate::files::{Found, MostBytes, Reread, read_part};
 use crate::running::policy_file;
+use cli_words::{CommandName, Naming, named};
 use elf64_load::{KernelImage, Segment, read_kernel};
 use elf64_symbols::{KernelNames, Location, kernel_names, location_text};
 use rv64_decode::decode;
@@ -38,22 +39,20 @@ pub fn stop_remark<A: Reread>(
     most: &MostBytes,
     ending: &Ending<'_>,
 ) -> Option<String> {
-    match words {
-        [name, image, policy, ..] => match name.as_str() {
-            "run" | "vrun" | "snap" | "live" | "survey" => {
-                match remark_of_files(
-                    alloc,
-                    files,
-                    most,
-                    (image.as_str(), policy.as_str()),
-                    ending,
-                ) {
-                    Ok(said) => said,
-                    Err(_) => None,
-                }
-            }
-            _ => None,
-        },
+    let (image, policy) = guest_names(words)?;
+    match remark_of_files(alloc, files, most, (image, policy), ending) {
+        Ok(said) => said,
+        Err(_) => None,
+    }
+}
+
+// The names of the image and of its policy, where the words are of a command that boots one.
+fn guest_names(words: &[String]) -> Option<(&str, &str)> {
+    let Naming { command, rest } = named(words)?;
+    match (command, rest) {
+        (CommandName::Run(_) | CommandName::Snap | CommandName::Live, [image, policy, ..]) => {
+            Some((image.as_str(), policy.as_str()))
+        }
         _ => None,
     }
 }

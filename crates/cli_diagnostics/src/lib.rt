@@ -9,9 +9,13 @@ mod ending;
 mod faults;
 mod files;
 mod making;
+mod manual;
 mod resuming;
 mod running;
+mod words;
 
 pub use command::remark;
 pub use ending::{Ending, stop_remark};
 pub use files::{MostBytes, Reread};
+pub use manual::help;
+pub use words::{WordRemark, word_remark};

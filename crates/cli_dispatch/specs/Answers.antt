@@ -4,17 +4,15 @@ use Rattle.std.specs.Prelude.{◌≡◌, ◌<◌, ◌⊎◌, ℕ, List, Bool, tr
 use Rattle.std.specs.Result.{is_ok}
 use Rattle.sv_types.specs.declared.status.Status.{Status}
 use Rattle.host_io.specs.Outside.{FilesState, MaySaveUnder}
-use Rattle.cli_plans.specs.CommandLine.{judgement_of_words}
-use Rattle.cli_plans.specs.Plans.{Plan, plan_of}
+use Rattle.cli_plans.specs.CommandLine.{judgement_of_words, live_judged, snap_judged, resume_judged}
+use Rattle.cli_plans.specs.Plans.{Plan, plan_of, live_plan, snap_plan}
 use Rattle.cli_plans.specs.Reading.{MayFollow, IsNamed, SavesUnder}
 use Rattle.secvisor_cli.specs.Answers.{Outside, outside, Headline}
-use Rattle.cli_live.specs.LiveWords.{live_judged, live_plan}
 use Rattle.cli_live.specs.LiveReady.{out_of as script_name}
 use Rattle.cli_live.specs.LiveAnswers.{LiveOutside, LiveHeadline, is_refusal}
 use Rattle.cli_live.specs.Replays.{LiveLine, live_line, HasEnded, Replays}
-use Rattle.cli_snap.specs.SnapWords.{snap_judged, snap_plan, out_of as snapshot_name}
+use Rattle.cli_snap.specs.SnapReady.{out_of as snapshot_name}
 use Rattle.cli_snap.specs.SnapAnswers.{SnapHeadline}
-use Rattle.cli_resume.specs.ResumeWords.{resume_judged}
 use Rattle.cli_resume.specs.ResumePlans.{resume_plan}
 use Rattle.cli_show.specs.Showing.{name_in, held_shown}
 use Rattle.cli_show.specs.Answers.{MayAsk, Headline as ShowHeadline, Answers as Shows}

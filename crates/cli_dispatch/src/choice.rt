@@ -1,6 +1,9 @@
 // Which call the words ask for.
 ghost use Rattle.std.specs.Prelude.{◌≡◌, map, string_bytes};
+ghost use Rattle.cli_words.specs.Commands.{name_of};
 ghost use Rattle.cli_dispatch.specs.Choice as spec;
+
+use cli_words::{CommandName, command_of_name};
 
 /// The call of a command.
 #[derive(Clone, Copy, Debug, PartialEq, Eq, Drop)]
@@ -24,13 +27,18 @@ pub fn top_call_of(words: &[String]) -> TopCall
 }
 
 fn call_of_name(name: &str) -> TopCall
-    ensures { result ≡ spec.call_of_name name.now }
+    ensures { result ≡ spec.call_of (name_of name.now) }
 {
-    match name {
-        "live" => TopCall::Live,
-        "snap" => TopCall::Snap,
-        "resume" => TopCall::Resume,
-        "show" => TopCall::Show,
-        _ => TopCall::Others,
+    match command_of_name(name) {
+        Some(CommandName::Live) => TopCall::Live,
+        Some(CommandName::Snap) => TopCall::Snap,
+        Some(CommandName::Resume) => TopCall::Resume,
+        Some(CommandName::Show) => TopCall::Show,
+        Some(CommandName::Flat)
+        | Some(CommandName::Generated)
+        | Some(CommandName::Run(_))
+        | Some(CommandName::Measure)
+        | Some(CommandName::Convert)
+        | None => TopCall::Others,
     }
 }

@@ -14,12 +14,12 @@ use Rattle.secvisor_cli.specs.declared.ready.Stop.TheVariants as stop
 use Rattle.host_io.specs.declared.trouble.Trouble.{Trouble}
 use Rattle.host_io.specs.declared.trouble.Trouble.TheVariants.{Memory}
 use Rattle.cli_plans.specs.Refusals.{refusal_line, refusal_status, takes_memory}
-use Rattle.cli_plans.specs.Plans.{Due, Refuse, RunFrom, Make}
+use Rattle.cli_plans.specs.Plans.{Due, Refuse, RunFrom, Make, live_plan}
 use Rattle.secvisor_cli.specs.Answers.{Writes}
 use Rattle.secvisor_cli.proofs.TopLemmas.{refused_answers}
 use Rattle.cli_plans.specs.Reading.{MayFollow}
 use Rattle.cli_plans.proofs.PlanLemmas.{may_follow}
-use Rattle.cli_live.specs.LiveWords.{LiveWords, live_plan, live_judged}
+use Rattle.cli_plans.specs.CommandLine.{LiveWords, live_judged}
 use Rattle.cli_live.specs.LiveReady.{IsLiveFresh, IsLiveReadyWhere, PreparesLive, out_of}
 use Rattle.cli_live.specs.LiveAnswers.{LiveOutside, live_outside, AnswersLiveReached, RunsLive, PerformsLive}
 use Rattle.cli_live.specs.declared.ready.LiveReady.{LiveReady}

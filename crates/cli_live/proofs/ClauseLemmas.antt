@@ -20,8 +20,8 @@ use Rattle.cli_plans.specs.declared.refusal.Refusal.TheVariants.{NoCommand, OutO
 use Rattle.host_io.specs.declared.trouble.Trouble.{Trouble}
 use Rattle.host_io.specs.declared.trouble.Trouble.TheVariants.{Write, Memory}
 use Rattle.cli_plans.specs.Refusals.{refusal_status}
-use Rattle.cli_plans.specs.CommandLine.{unless_none}
-use Rattle.cli_plans.specs.Plans.{Due, Refuse, RunFrom, Make, Saving, Plan, run_plan}
+use Rattle.cli_plans.specs.CommandLine.{Auto, unless_none, LiveWords, block_run, live_judged}
+use Rattle.cli_plans.specs.Plans.{Due, Refuse, RunFrom, Make, Saving, Plan, run_plan, live_plan}
 use Rattle.cli_plans.specs.Reading.{Follows}
 use Rattle.secvisor_cli.specs.Answers.{outside, Writes, SavedAfter}
 use Rattle.host_io.specs.Endings.{status_of_end}
@@ -29,13 +29,11 @@ use Rattle.cli_plans.proofs.PlanLemmas.{Keeps, HasFault, HasFoundFaults, follows
 use Rattle.secvisor_cli.proofs.SaveLemmas.{changes, exact_saving, ChangesOut, changes_none, writes_faults}
 use Rattle.cli_plans.proofs.FoundFaults.{run_found_faults, run_no_read_fault}
 use Rattle.secvisor_cli.proofs.TopLemmas.{EffectOut, effect_out, refused_status, refused_fault}
-use Rattle.cli_plans.proofs.WordLemmas.{NoReadFault}
+use Rattle.cli_plans.proofs.WordLemmas.{NoReadFault, live_no_read_fault}
 use Rattle.cli_live.specs.LiveAnswers.{LiveOutside, live_outside, IsScriptOf, SavesScript, read_status, after_reading, is_refusal, RunsLive, AnswersLive, AnswersLiveReached, PerformsLive}
 use Rattle.cli_live.specs.LiveReady.{out_of}
-use Rattle.cli_live.specs.LiveWords.{LiveWords, drawn_run, live_judged, live_plan}
 use Rattle.cli_live.specs.Replays.{LiveLine, live_line, HasEnded, is_of_run, Replays}
 use Rattle.cli_live.proofs.PlanLemmas.{judge_gives}
-use Rattle.cli_live.proofs.WordLemmas.{live_no_read_fault}
 use Rattle.cli_live.proofs.ReplayLemmas.{LineGood, RunGives, line_good, run_gives, run_due, words_due, journal_few}
 
 -- ---- a run whose script was saved
@@ -71,7 +69,7 @@ has_saved harts journal name old new (Err trouble) saved failed answer it is =
 has_saved harts journal name old new (Ok status) saved failed answer it is = saved_ok harts journal name old new status answer failed saved it.0 it.1 it.2 is
 
 -- the status of a run, or that of a read of the keys that failed
-abbrev RunAnswer : Verdict → (old new : KeysState) → Status → Type 0
+abbrev pub RunAnswer : Verdict → (old new : KeysState) → Status → Type 0
 RunAnswer verdict old new answer = (answer ≡ run_status verdict) ⊎ ((answer ≡ Status.ReadFault) × (old.faults < new.faults))
 
 answer_by : (failed : Bool) (verdict : Verdict) (old new : KeysState) (status answer : Status) → (failed ≡ true → old.faults < new.faults) → status ≡ run_status verdict → answer ≡ read_status failed status →
@@ -80,14 +78,14 @@ answer_by true verdict old new status answer rose is same = inr (same, rose refl
 answer_by false verdict old new status answer rose is same = inl (same ∙ is)
 
 -- what is known of a run that answered a status
-record IsDone (start : State) (journal : List Event) (name : List ℕ) (old new : LiveOutside) (answer : Status) : Type 0 where
+pub record IsDone (start : State) (journal : List Event) (name : List ℕ) (old new : LiveOutside) (answer : Status) : Type 0 where
   pub bytes : new.sink ≡ after_taking old.sink (output (run start journal))
   pub status : RunAnswer (run start journal).journal.verdict old.keys new.keys answer
   pub text : List ℕ
   pub script : IsScriptOf start.rules.harts journal text
   pub held : IsTrue old.files.tells → new.files.held name ≡ Some text
 
-is_done : (start : State) (asked : List Event) (name : List ℕ) (old new : LiveOutside) (answer : Status) → (r : RunsLive start asked name old new (Ok answer)) → IsDone start r.journal name old new answer
+pub is_done : (start : State) (asked : List Event) (name : List ℕ) (old new : LiveOutside) (answer : Status) → (r : RunsLive start asked name old new (Ok answer)) → IsDone start r.journal name old new answer
 is_done start asked name old new answer r =
     let last : State = run start r.journal in
     let s = has_saved start.rules.harts r.journal name old.files new.files r.written r.saved r.ended.read_failed answer r.saves r.status in
@@ -107,7 +105,7 @@ run_replays : (line : LiveLine) (words : LiveWords) (old new : LiveOutside) (rea
     Follows (live_plan (Ok words)) old.files read (Some (RunFrom start asked save)) → RunsLive start asked words.out (live_outside read old.sink old.keys old.bench) new (Ok answer) → Replays line old new answer
 unfolding live_plan
 run_replays line words old new read start asked save answer good follows r =
-    let reads : Follows (run_plan (drawn_run line.image line.policy line.disk good.count)) old.files read (Some (RunFrom start asked save)) =
+    let reads : Follows (run_plan (block_run line.image line.policy line.disk (Auto 0) good.count)) old.files read (Some (RunFrom start asked save)) =
     subst (λ (w : LiveWords). Follows (run_plan w.run) old.files read (Some (RunFrom start asked save))) good.words_are (judge_gives (run_plan words.run) old.files read (RunFrom start asked save) follows) in
     let g : RunGives line good.count old.files start asked = run_gives line good.count old.files read start asked save reads in
     let d : IsDone start r.journal words.out (live_outside read old.sink old.keys old.bench) new answer = is_done start asked words.out (live_outside read old.sink old.keys old.bench) new answer r in

@@ -7,4 +7,4 @@ pub mod PlanLemmas
 pub mod ReadyLemmas
 pub mod ReplayLemmas
 pub mod SettledKeys
-pub mod WordLemmas
+pub mod LiveEnding

@@ -17,10 +17,13 @@ use Rattle.secvisor_cli.specs.declared.ready.Ready.TheVariants.{Run}
 use Rattle.secvisor_cli.specs.declared.ready.Stop.{Stop}
 use Rattle.secvisor_cli.specs.declared.ready.Stop.TheVariants.{Refused, Memory}
 use Rattle.cli_plans.specs.declared.refusal.Refusal.{Refusal}
-use Rattle.cli_plans.specs.Plans.{Due, Refuse, RunFrom, Make, run_plan}
+use Rattle.cli_plans.specs.Plans.{Due, Refuse, RunFrom, Make, run_plan, live_plan}
 use Rattle.cli_plans.specs.Reading.{MayFollow}
-use Rattle.secvisor_cli.specs.Ready.{IsFresh, IsReadyWhere, Prepares}
-use Rattle.cli_live.specs.LiveWords.{LiveWords, live_plan}
+use Rattle.cli_plans.specs.declared.asking.Unread.{Unread}
+use Rattle.cli_plans.specs.declared.asking.Unread.TheVariants as unread
+use Rattle.cli_plans.specs.Words.{IsAsked, live_value}
+use Rattle.secvisor_cli.specs.Ready.{stop_of_unread, IsFresh, IsReadyWhere, Prepares}
+use Rattle.cli_plans.specs.CommandLine.{LiveWords}
 use Rattle.cli_live.specs.LiveReady.{IsLiveFresh, IsLiveReadyWhere, PreparesLive}
 use Rattle.cli_live.specs.declared.ready.LiveReady.{LiveReady}
 
@@ -36,6 +39,13 @@ pub live_wants : (asked : Result LiveWords Refusal) (words : LiveWords) (files :
 unfolding live_plan
 live_wants asked words files is =
     subst (λ (j : Result LiveWords Refusal). PreparesLive (live_plan j) files files (Err Memory)) (sym is) (record { reached = None; follows = inl (refl, refl); ready = refl })
+
+-- words that aren't read
+pub live_unread : (asked : Result LiveWords Refusal) (why : Unread) (files : FilesState) → IsAsked live_value asked (Err why) → PreparesLive (live_plan asked) files files (Err (stop_of_unread why))
+unfolding live_plan
+live_unread asked (unread.Refused refusal) files is = live_refused asked refusal files is
+live_unread (Ok words) unread.Memory files good = live_wants (Ok words) words files refl
+live_unread (Err refusal) unread.Memory files good = absurd (cc good)
 
 pub live_may : (asked : Result LiveWords Refusal) (words : LiveWords) (files : FilesState) → asked ≡ Ok words → MayFollow (live_plan asked) files → MayFollow (run_plan words.run) files
 unfolding live_plan

@@ -22,7 +22,8 @@ use Rattle.spec_reference.specs.States.{State, has_number}
 use Rattle.host_io.specs.Outside.{FilesState}
 use Rattle.script.proofs.FirstEvents.{first_listed, first_few}
 use Rattle.script.specs.AutoScripts.{events_of_text, first_refused}
-use Rattle.cli_words.specs.Commands.{Split, RunSplit, has_dash, shape_split, split_words}
+use Rattle.cli_words.specs.declared.table.CommandName.TheVariants as command
+use Rattle.cli_words.specs.Commands.{Named, RunSplit, has_dash, named_shape, named_words}
 use Rattle.live_keys.specs.Line.{StartsWith, max_keys}
 use Rattle.live_keys.specs.Placed.{keys_among, others_among}
 use Rattle.live_keys.proofs.JournalLines.{number_back}
@@ -31,12 +32,11 @@ use Rattle.cli_plans.specs.declared.file_fault.Part.{Part}
 use Rattle.cli_plans.specs.declared.refusal.Refusal.{Refusal}
 use Rattle.cli_plans.specs.declared.refusal.Refusal.TheVariants.{NoCommand, Measure, Entry}
 use Rattle.cli_words.specs.declared.command.DiskKind.{DiskKind}
-use Rattle.cli_plans.specs.CommandLine.{Command, Run, RunWords, Source, Text, judgement_of_words, split_judged, run_words, unless_none}
+use Rattle.cli_plans.specs.CommandLine.{Command, Run, RunWords, Source, Text, Auto, judgement_of_words, named_judged, command_after, live_after, run_words, unless_none, LiveWords, block_run, live_words, live_judged, max_live_events}
 use Rattle.cli_plans.specs.Plans.{Due, Refuse, RunFrom, Plan, End, Judge, max_policy_bytes, max_image_bytes, max_script_bytes, policy_judged, policy_part, part_judged, kernel_part, disk_refusal, disk_part, text_part, script_part, image_measure, boot_judged, boot_plan, image_plan, run_plan, command_plan, plan_of}
 use Rattle.cli_plans.specs.Reading.{Follows}
 use Rattle.cli_plans.proofs.PlanLemmas.{Keeps}
 use Rattle.cli_live.specs.LiveAnswers.{IsScriptOf}
-use Rattle.cli_live.specs.LiveWords.{LiveWords, drawn_run, live_words, live_judged, live_shape, max_live_events}
 use Rattle.secvisor_cli.specs.DueIn.{due_in}
 use Rattle.secvisor_cli.proofs.DueLemmas.{held_before, due_held}
 use Rattle.cli_live.specs.Replays.{LiveLine, live_line, run_line, NamesScript, Parts, HoldDisk, HoldParts}
@@ -134,7 +134,7 @@ record AfterImage (line : LiveLine) (count : ℕ) (rules : Rules) (file : List �
   pub boots : (events : List Event) (save : Option (List ℕ)) → boot_judged DiskKind.Block rules file bytes events save ≡ RunFrom start events save
 
 after_image : (line : LiveLine) (count : ℕ) (rules : Rules) (file : List ℕ) (old read : FilesState) (start : State) (asked : List Event) (save : Option (List ℕ)) →
-    Follows (boot_plan (drawn_run line.image line.policy line.disk count) rules file) old read (Some (RunFrom start asked save)) → AfterImage line count rules file old start asked
+    Follows (boot_plan (block_run line.image line.policy line.disk (Auto 0) count) rules file) old read (Some (RunFrom start asked save)) → AfterImage line count rules file old start asked
 unfolding boot_plan script_part
 after_image line count rules file old read start asked save follows =
     let d = disk_gives (unless_none line.disk) (λ disk. Judge (End (boot_judged DiskKind.Block rules file disk (first_events count (Schedule.Auto rules.harts 0)) None))) old read start asked save follows in
@@ -162,20 +162,20 @@ record AfterPolicy (line : LiveLine) (count : ℕ) (rules : Rules) (old : FilesS
   pub rest : AfterImage line count rules bytes now start asked
 
 after_policy : (line : LiveLine) (count : ℕ) (rules : Rules) (old read : FilesState) (start : State) (asked : List Event) (save : Option (List ℕ)) →
-    Follows (image_plan (drawn_run line.image line.policy line.disk count) rules) old read (Some (RunFrom start asked save)) → AfterPolicy line count rules old start asked
+    Follows (image_plan (block_run line.image line.policy line.disk (Auto 0) count) rules) old read (Some (RunFrom start asked save)) → AfterPolicy line count rules old start asked
 unfolding image_plan kernel_part
 after_policy line count rules old read start asked save follows =
-    let words : RunWords = drawn_run line.image line.policy line.disk count in
+    let words : RunWords = block_run line.image line.policy line.disk (Auto 0) count in
     let p = part_gives Part.Image line.image max_image_bytes (λ file. Judge (part_judged FileFault.Image (boot_plan words rules file) (kernel_refusal file rules.ram_pages))) old read start asked save follows in
     let checked = judge_gives (part_judged FileFault.Image (boot_plan words rules p.bytes) (kernel_refusal p.bytes rules.ram_pages)) p.now read (RunFrom start asked save) p.rest in
     let g = part_good FileFault.Image (boot_plan words rules p.bytes) (kernel_refusal p.bytes rules.ram_pages) p.now read start asked save checked in
     record { bytes = p.bytes; few = p.few; good = g.0; held = p.held; now = p.now; keeps = p.keeps; rest = after_image line count rules p.bytes p.now read start asked save g.1 }
 
 pub run_gives : (line : LiveLine) (count : ℕ) (old read : FilesState) (start : State) (asked : List Event) (save : Option (List ℕ)) →
-    Follows (run_plan (drawn_run line.image line.policy line.disk count)) old read (Some (RunFrom start asked save)) → RunGives line count old start asked
+    Follows (run_plan (block_run line.image line.policy line.disk (Auto 0) count)) old read (Some (RunFrom start asked save)) → RunGives line count old start asked
 unfolding run_plan policy_part
 run_gives line count old read start asked save follows =
-    let words : RunWords = drawn_run line.image line.policy line.disk count in
+    let words : RunWords = block_run line.image line.policy line.disk (Auto 0) count in
     let p = part_gives Part.Policy line.policy max_policy_bytes (λ bytes. Judge (policy_judged (image_plan words) (rules_of_text bytes))) old read start asked save follows in
     let g = policy_good (image_plan words) (rules_of_text p.bytes) p.now read start asked save (judge_gives (policy_judged (image_plan words) (rules_of_text p.bytes)) p.now read (RunFrom start asked save) p.rest) in
     let i : AfterPolicy line count g.0 p.now start asked = after_policy line count g.0 p.now read start asked save g.2 in
@@ -272,7 +272,7 @@ pub record LineGood (line : LiveLine) (words : LiveWords) : Type 0 where
   pub disk : has_dash line.disk ≡ false
   pub count : ℕ
   pub few : count ≤ max_live_events
-  pub words_are : words ≡ record { run = drawn_run line.image line.policy line.disk count; out = line.out }
+  pub words_are : words ≡ record { run = block_run line.image line.policy line.disk (Auto 0) count; out = line.out }
 
 -- a text that is a number within its range
 record IsWithin (number high_enough : Bool) (value n : ℕ) : Type 0 where
@@ -300,7 +300,7 @@ named_good line (Some count) words within image policy disk is =
     record { image = image; policy = policy; disk = disk; count = count; few = within count refl; words_are = sym (cc is) }
 
 line_by : (line : LiveLine) (dashed : Bool) (words : LiveWords) → list_any has_dash (live_line line) ≡ dashed →
-    (if dashed then Err NoCommand else live_shape (live_line line)) ≡ Ok words → LineGood line words
+    named_judged live_after (if dashed then None else named_shape (live_line line)) ≡ Ok words → LineGood line words
 line_by line true words any is = absurd (cc is)
 line_by line false words any is =
     let image : has_dash line.image || list_any has_dash (line.policy ∷ line.disk ∷ line.events ∷ line.out ∷ []) ≡ false = any in
@@ -310,7 +310,7 @@ line_by line false words any is =
     (or_first (has_dash line.image) _ image) (or_first (has_dash line.policy) _ policy) (or_first (has_dash line.disk) _ disk) is
 
 pub line_good : (line : LiveLine) (words : LiveWords) → live_judged (live_line line) ≡ Ok words → LineGood line words
-unfolding live_judged
+unfolding live_judged named_words
 line_good line words is = line_by line (list_any has_dash (live_line line)) words refl is
 
 -- ---- the words of `run`
@@ -341,26 +341,21 @@ no_dash line words script events save good names saves few =
     (or_from (has_dash (decimal events)) _ (number_dash 0 max_events events (decimal events) (number_of_run events few))
     (or_from (has_dash save) false saves refl)))))
 
-split_as : (line : LiveLine) (script : List ℕ) (events : ℕ) (save : List ℕ) → list_any has_dash (run_line line script events save) ≡ false →
-    split_words (run_line line script events save) ≡ Some (Split.Run (record {
-      kind = DiskKind.Block;
-      image = line.image;
-      policy = line.policy;
-      disk = line.disk;
-      script = script;
-      events = decimal events;
-      save = save;
-    }))
-unfolding split_words
-split_as line script events save none =
-    ap (λ (b : Bool). if b then None else shape_split (run_line line script events save)) none
+named_as : (line : LiveLine) (script : List ℕ) (events : ℕ) (save : List ℕ) → list_any has_dash (run_line line script events save) ≡ false →
+    named_words (run_line line script events save) ≡ Some (record {
+      command = command.Run DiskKind.Block;
+      rest = line.image ∷ line.policy ∷ line.disk ∷ script ∷ decimal events ∷ save ∷ [];
+    })
+unfolding named_words
+named_as line script events save none =
+    ap (λ (b : Bool). if b then None else named_shape (run_line line script events save)) none
 
 pub run_judged_as : (line : LiveLine) (words : LiveWords) (script : List ℕ) (events : ℕ) (save : List ℕ) → LineGood line words → NamesScript script → has_dash save ≡ false → events ≤ max_events →
     judgement_of_words (run_line line script events save) ≡ Ok (Run (again_run line script events (unless_none save)))
 unfolding judgement_of_words run_words
 run_judged_as line words script events save good names saves few =
     let split : RunSplit = record { kind = DiskKind.Block; image = line.image; policy = line.policy; disk = line.disk; script = script; events = decimal events; save = save } in
-    ap split_judged (split_as line script events save (no_dash line words script events save good names saves few))
+    ap (λ (named : Option Named). named_judged command_after named) (named_as line script events save (no_dash line words script events save good names saves few))
     ∙ ap (λ (source : Option Source). run_words split source (number_within 0 max_events (decimal events))) names.file
     ∙ ap (λ (count : Option ℕ). run_words split (Some (Text script)) count) (number_of_run events few)
 

@@ -3,6 +3,6 @@ pub mod Inputs
 pub mod LiveAnswers
 pub mod LiveReady
 pub mod LiveRuns
-pub mod LiveWords
 pub mod Replays
 pub mod Coming
+pub mod LiveEnds

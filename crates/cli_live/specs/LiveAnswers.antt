@@ -22,11 +22,11 @@ use Rattle.cli_live.specs.LiveRuns.{harts_of, events_made}
 use Rattle.cli_plans.specs.declared.refusal.Refusal.{Refusal}
 use Rattle.host_io.specs.declared.trouble.Trouble.{Trouble}
 use Rattle.host_io.specs.declared.trouble.Trouble.TheVariants.{Write, Memory}
-use Rattle.cli_plans.specs.Plans.{Due, Refuse, RunFrom, Make, Exactly, max_script_bytes}
+use Rattle.cli_plans.specs.Plans.{Due, Refuse, RunFrom, Make, Exactly, max_script_bytes, live_plan}
 use Rattle.cli_plans.specs.Reading.{Follows}
 use Rattle.secvisor_cli.specs.Answers.{outside, Writes, SavedAfter, WritesAndSaves}
 use Rattle.host_io.specs.Endings.{status_of_end}
-use Rattle.cli_live.specs.LiveWords.{LiveWords, live_plan}
+use Rattle.cli_plans.specs.CommandLine.{LiveWords}
 use Rattle.cli_live.specs.LiveReady.{out_of}
 
 -- what stands outside the program: the files, the sink, the keys, and the machine on the bench

@@ -10,7 +10,7 @@ use Rattle.secvisor_cli.specs.declared.ready.Stop.{Stop}
 use Rattle.secvisor_cli.specs.declared.ready.Stop.TheVariants.{Refused, Memory}
 use Rattle.cli_plans.specs.Plans.{Due, Refuse, RunFrom, Make, Plan}
 use Rattle.cli_plans.specs.Reading.{Follows}
-use Rattle.cli_live.specs.LiveWords.{LiveWords}
+use Rattle.cli_plans.specs.CommandLine.{LiveWords}
 use Rattle.cli_live.specs.declared.ready.LiveReady.{LiveReady}
 
 -- a live run that has made no event, with a line that has carried no key

@@ -3,10 +3,11 @@
 
 mod answer;
 mod driving;
+mod laws;
 mod live_run;
 mod making;
 mod ready;
 mod threads;
-mod words;
 
 pub use answer::secvisor_live;
+pub use laws::law_live_ends;

@@ -1,16 +1,17 @@
 // What is ready of `live`.
 ghost use Rattle.std.specs.Prelude.{◌≡◌, ◌<◌, ◌-◌, map, string_bytes, IfOk};
 ghost use Rattle.cli_plans.specs.Reading.{MayFollow};
-ghost use Rattle.cli_live.specs.LiveWords.{live_judged, live_plan};
+ghost use Rattle.cli_plans.specs.CommandLine.{live_judged};
+ghost use Rattle.cli_plans.specs.Plans.{live_plan};
 ghost use Rattle.cli_live.specs.LiveReady.{PreparesLive, out_of};
 ghost use Rattle.spec_processor.specs.Counters.{CanCount};
 
 use crate::live_run::LiveRun;
 use crate::threads::KeySource;
-use crate::words::read_live;
+use cli_plans::ask_live;
 use host_io::Files;
 use live_keys::{Journal, KeyLine};
-use secvisor_cli::{PreparedRun, Ready, Stop, prepare_run};
+use secvisor_cli::{PreparedRun, Stop, prepare_run};
 use std::alloc::Global;
 use std::thread::Threads;
 
@@ -35,30 +36,25 @@ pub fn prepare_live<'a, R: Threads + Sync, F: Files>(
     ensures prepares { PreparesLive (live_plan (live_judged (map string_bytes words.now))) (F.state files.old) (F.state files.new) result }
     ensures name { IfOk result (λ ready. ready.out.now ≡ out_of (live_judged (map string_bytes words.now))) }
 {
-    let asked = read_live(words)?;
+    let asked = ask_live(alloc, words)?;
     let (line, feeder, taker) = KeyLine::new(alloc)?;
     let journal = Journal::new(alloc)?;
-    let ready = prepare_run(rt, alloc, &asked.run, files)?;
-    match ready {
-        Ready::Run(booted) => {
-            let PreparedRun {
-                machine,
-                script,
-                events,
-                ..
-            } = booted;
-            Ok(LiveReady {
-                live: LiveRun {
-                    machine,
-                    script,
-                    events,
-                    journal,
-                    taker,
-                },
-                source: KeySource { line, feeder },
-                out: asked.out,
-            })
-        }
-        Ready::Save(_) => unreachable!(),
-    }
+    let booted = prepare_run(rt, alloc, &asked.run, files)?;
+    let PreparedRun {
+        machine,
+        script,
+        events,
+        ..
+    } = booted;
+    Ok(LiveReady {
+        live: LiveRun {
+            machine,
+            script,
+            events,
+            journal,
+            taker,
+        },
+        source: KeySource { line, feeder },
+        out: asked.out,
+    })
 }

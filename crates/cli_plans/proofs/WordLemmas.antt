@@ -1,5 +1,5 @@
 -- The words of the command line.
-use Rattle.std.proofs.Common.{◌≡◌, ◌≢◌, ◌<◌, ℕ, List, [], ◌∷◌, Bool, true, false, ◌&&◌, IsTrue, length, refl, ap, subst, arith, cond, Option, Some, None, Result, Ok, Err}
+use Rattle.std.proofs.Common.{◌≡◌, ◌≢◌, ◌<◌, ℕ, List, [], ◌∷◌, Bool, true, false, ◌&&◌, IsTrue, length, refl, subst, sym, arith, cond, Option, Some, None, Result, Ok, Err}
 use Rattle.std.specs.Prelude.{if◌then◌else◌, nat_le, option_map, codes}
 use Rattle.std.specs.Str.{bytes_eq}
 use Rattle.std.specs.Option.{is_some}
@@ -10,19 +10,21 @@ use Rattle.spec_processor.specs.Regions.{max_ram_pages}
 use Rattle.sv_types.specs.declared.module.Span.{Span}
 use Rattle.sv_types.specs.declared.status.Status.{Status}
 use Rattle.sv_types.specs.Limits.{max_events}
+use Rattle.cli_plans.specs.CommandLine.{max_live_events}
 use Rattle.guest_gen.specs.GuestCode.{max_calls}
 use Rattle.policy_making.specs.Making.{Terms}
 use Rattle.policy_making.specs.Ranges.{terms_within}
 use Rattle.policy_making.specs.WordRanges.{are_entries, entries_of, are_module_names, span_of}
 use Rattle.policy_making.proofs.WordsWithin.{entries_count, entries_good, span_of_within}
 use Rattle.cli_words.specs.declared.command.DiskKind.{DiskKind}
-use Rattle.cli_words.specs.Commands.{Split, RunSplit, MeasureSplit, flat_split, gen_split, run_split, measure_split, convert_split, split_words}
+use Rattle.cli_words.specs.declared.table.CommandName.{CommandName}
+use Rattle.cli_words.specs.declared.table.CommandName.TheVariants as command
+use Rattle.cli_words.specs.Commands.{Named, FlatSplit, RunSplit, LiveSplit, SnapSplit, ResumeSplit, MeasureSplit, ConvertSplit, flat_split, gen_split, run_split, live_split, snap_split, resume_split, show_split, measure_split, convert_split, named_words}
 use Rattle.cli_plans.specs.declared.refusal.Refusal.{Refusal}
 use Rattle.cli_plans.specs.declared.refusal.Refusal.TheVariants.{OutOfRange, NoCommand}
 use Rattle.cli_plans.specs.declared.refusal.Word.{Word}
 use Rattle.cli_plans.specs.Refusals.{refusal_status}
-use Rattle.cli_plans.specs.CommandLine.{Command, Source, flat_words, gen_words, source_of, run_words, entries_judged, init_of, terms_with, terms_words, terms_judged, making_words, command_judged, split_judged, judgement_of_words}
-use Rattle.cli_plans.specs.Words.{HasModuleNames}
+use Rattle.cli_plans.specs.CommandLine.{Command, Convert, LiveWords, SnapWords, ResumeWords, Source, flat_words, gen_words, source_of, run_words, live_words, live_of, snap_words, snap_of, resume_words, resume_of, entries_judged, init_of, terms_with, terms_words, terms_judged, making_words, making_judged, flat_judged, gen_judged, run_judged, split_judged, command_after, live_after, snap_after, resume_after, show_after, named_judged, judgement_of_words, live_judged, snap_judged, resume_judged, show_judged}
 
 -- ---- so many words are of no command
 
@@ -64,16 +66,45 @@ not_convert (a ∷ b ∷ []) other = refl
 not_convert (a ∷ b ∷ c ∷ []) other = absurd (other refl)
 not_convert (a ∷ b ∷ c ∷ d ∷ rest) other = refl
 
+pub not_live : (words : List (List ℕ)) → length words ≢ 5 → live_split words ≡ None
+not_live [] other = refl
+not_live (a ∷ []) other = refl
+not_live (a ∷ b ∷ []) other = refl
+not_live (a ∷ b ∷ c ∷ []) other = refl
+not_live (a ∷ b ∷ c ∷ d ∷ []) other = refl
+not_live (a ∷ b ∷ c ∷ d ∷ e ∷ []) other = absurd (other refl)
+not_live (a ∷ b ∷ c ∷ d ∷ e ∷ f ∷ rest) other = refl
+
+pub not_snap : (words : List (List ℕ)) → length words ≢ 6 → snap_split words ≡ None
+not_snap [] other = refl
+not_snap (a ∷ []) other = refl
+not_snap (a ∷ b ∷ []) other = refl
+not_snap (a ∷ b ∷ c ∷ []) other = refl
+not_snap (a ∷ b ∷ c ∷ d ∷ []) other = refl
+not_snap (a ∷ b ∷ c ∷ d ∷ e ∷ []) other = refl
+not_snap (a ∷ b ∷ c ∷ d ∷ e ∷ f ∷ []) other = absurd (other refl)
+not_snap (a ∷ b ∷ c ∷ d ∷ e ∷ f ∷ g ∷ rest) other = refl
+
+pub not_resume : (words : List (List ℕ)) → length words ≢ 5 → resume_split words ≡ None
+not_resume [] other = refl
+not_resume (a ∷ []) other = refl
+not_resume (a ∷ b ∷ []) other = refl
+not_resume (a ∷ b ∷ c ∷ []) other = refl
+not_resume (a ∷ b ∷ c ∷ d ∷ []) other = refl
+not_resume (a ∷ b ∷ c ∷ d ∷ e ∷ []) other = absurd (other refl)
+not_resume (a ∷ b ∷ c ∷ d ∷ e ∷ f ∷ rest) other = refl
+
+pub not_show : (words : List (List ℕ)) → length words ≢ 1 → show_split words ≡ None
+not_show [] other = refl
+not_show (a ∷ []) other = absurd (other refl)
+not_show (a ∷ b ∷ rest) other = refl
+
 -- ---- words that were judged good
 
 -- a command has them
-split_is_some : (split : Option Split) → IsTrue (is_ok (split_judged split)) → IsTrue (is_some split)
-split_is_some None good = good
-split_is_some (Some split) good = refl
-
-pub has_command : (words : List (List ℕ)) → IsTrue (is_ok (judgement_of_words words)) → IsTrue (is_some (split_words words))
-unfolding judgement_of_words
-has_command words good = split_is_some (split_words words) good
+pub split_is_some : {S A : Type 0} (judge : S → Result A Refusal) (split : Option S) → IsTrue (is_ok (split_judged judge split)) → IsTrue (is_some split)
+split_is_some judge None good = good
+split_is_some judge (Some split) good = refl
 
 names_of_making : (words : MeasureSplit) (terms : Result Terms Refusal) → IsTrue (is_ok (making_words words terms)) → IsTrue (are_module_names words.modules)
 unfolding making_words
@@ -84,22 +115,12 @@ names_of_making words (Ok terms) good = go (are_module_names words.modules) _ _ 
     go true some none good = refl
     go false some none good = good
 
-command_names : (split : Split) → IsTrue (is_ok (command_judged split)) → HasModuleNames split
-command_names (Split.Flat w) good = tt
-command_names (Split.Gen calls) good = tt
-command_names (Split.Run w) good = tt
-command_names (Split.Measure w) good = names_of_making w (terms_judged w.ram w.harts w.entries w.init) good
-command_names (Split.Convert w) good = tt
-
 -- the names of modules are in range
-pub has_module_names : (words : List (List ℕ)) (split : Split) → split_words words ≡ Some split → IsTrue (is_ok (judgement_of_words words)) → HasModuleNames split
-unfolding judgement_of_words
-has_module_names words split is good = command_names split (subst (λ (o : Option Split). IsTrue (is_ok (split_judged o))) is good)
-
--- what they ask for is what is asked by their names
-pub judged_by_name : (words : List (List ℕ)) (split : Split) → split_words words ≡ Some split → judgement_of_words words ≡ command_judged split
-unfolding judgement_of_words
-judged_by_name words split is = ap split_judged is
+pub has_module_names : (split : Option MeasureSplit) (words : MeasureSplit) → split ≡ Some words → IsTrue (is_ok (split_judged making_judged split)) → IsTrue (are_module_names words.modules)
+has_module_names None words is good = absurd (cc is)
+has_module_names (Some w) words is good =
+    subst (λ (o : Option MeasureSplit). IsTrue (is_ok (split_judged making_judged o)) → IsTrue (are_module_names words.modules)) (sym is)
+    (λ ok. names_of_making words (terms_judged words.ram words.harts words.entries words.init) ok) good
 
 -- ---- what a policy says besides its files is within its limits
 
@@ -171,15 +192,6 @@ abbrev pub NoReadFault : {A : Type 0} → Result A Refusal → Type 0
 NoReadFault (Ok value) = Unit {0}
 NoReadFault (Err refusal) = refusal_status refusal ≢ Status.ReadFault
 
--- words that are of no command, where they are refused or aren't named so
-pub judged_unless : {A : Type 0} (refused : Bool) (words : Result A Refusal) → NoReadFault words → NoReadFault (if refused then Err NoCommand else words)
-judged_unless true words never = λ e. cc e
-judged_unless false words never = never
-
-pub judged_if : {A : Type 0} (named : Bool) (words : Result A Refusal) → NoReadFault words → NoReadFault (if named then words else Err NoCommand)
-judged_if true words never = never
-judged_if false words never = λ e. cc e
-
 flat_no_read_fault : (file : List ℕ) (wanted : Option (List ℕ)) (events : Option ℕ) → NoReadFault (flat_words file wanted events)
 unfolding flat_words
 flat_no_read_fault file None events = λ e. cc e
@@ -218,16 +230,91 @@ making_no_read_fault words (Ok terms) is = go (are_module_names words.modules) _
     go true command = tt
     go false command = λ e. cc e
 
-split_no_read_fault : (split : Option Split) → NoReadFault (split_judged split)
-split_no_read_fault None = λ e. cc e
-split_no_read_fault (Some (Split.Flat w)) = flat_no_read_fault w.file (digest_of w.wanted) (number_within 0 max_events w.events)
-split_no_read_fault (Some (Split.Gen calls)) = gen_no_read_fault (number_within 1 max_calls calls)
-split_no_read_fault (Some (Split.Run w)) = run_no_read_fault w (source_of w.script) (number_within 0 max_events w.events)
-split_no_read_fault (Some (Split.Measure w)) =
+live_no_fault : (image policy disk out : List ℕ) (events : Option ℕ) → NoReadFault (live_words image policy disk out events)
+unfolding live_words
+live_no_fault image policy disk out None = λ e. cc e
+live_no_fault image policy disk out (Some events) = tt
+
+snap_no_fault : (image policy disk out : List ℕ) (script : Option Source) (events : Option ℕ) → NoReadFault (snap_words image policy disk out script events)
+unfolding snap_words
+snap_no_fault image policy disk out None events = λ e. cc e
+snap_no_fault image policy disk out (Some script) None = λ e. cc e
+snap_no_fault image policy disk out (Some script) (Some events) = tt
+
+resume_no_fault : (saved policy save : List ℕ) (script : Option Source) (events : Option ℕ) → NoReadFault (resume_words saved policy save script events)
+unfolding resume_words
+resume_no_fault saved policy save None events = λ e. cc e
+resume_no_fault saved policy save (Some script) None = λ e. cc e
+resume_no_fault saved policy save (Some script) (Some events) = tt
+
+-- whatever judges words, and whatever command they are of
+split_no_fault : {S A : Type 0} (judge : S → Result A Refusal) (split : Option S) → ((words : S) → NoReadFault (judge words)) → NoReadFault (split_judged judge split)
+split_no_fault judge None never = λ e. cc e
+split_no_fault judge (Some words) never = never words
+
+named_no_fault : {A : Type 0} (judge : CommandName → List (List ℕ) → Result A Refusal) (named : Option Named) → ((name : CommandName) (rest : List (List ℕ)) → NoReadFault (judge name rest)) →
+    NoReadFault (named_judged judge named)
+named_no_fault judge None never = λ e. cc e
+named_no_fault judge (Some n) never = never n.command n.rest
+
+command_no_fault : (name : CommandName) (rest : List (List ℕ)) → NoReadFault (command_after name rest)
+command_no_fault command.Flat rest = split_no_fault flat_judged (flat_split rest) (λ w. flat_no_read_fault w.file (digest_of w.wanted) (number_within 0 max_events w.events))
+command_no_fault command.Generated rest = split_no_fault gen_judged (gen_split rest) (λ calls. gen_no_read_fault (number_within 1 max_calls calls))
+command_no_fault (command.Run kind) rest = split_no_fault run_judged (run_split kind rest) (λ w. run_no_read_fault w (source_of w.script) (number_within 0 max_events w.events))
+command_no_fault command.Measure rest = split_no_fault making_judged (measure_split rest) (λ w.
     making_no_read_fault w (terms_judged w.ram w.harts w.entries w.init)
-    (terms_no_read_fault w.init (number_within 16 max_ram_pages w.ram) (number_within 1 4 w.harts) (entries_judged w.entries))
-split_no_read_fault (Some (Split.Convert w)) = tt
+    (terms_no_read_fault w.init (number_within 16 max_ram_pages w.ram) (number_within 1 4 w.harts) (entries_judged w.entries)))
+command_no_fault command.Convert rest = split_no_fault (λ w. Ok (Convert w)) (convert_split rest) (λ w. tt)
+command_no_fault command.Live rest = λ e. cc e
+command_no_fault command.Snap rest = λ e. cc e
+command_no_fault command.Resume rest = λ e. cc e
+command_no_fault command.Show rest = λ e. cc e
 
 pub words_no_read_fault : (words : List (List ℕ)) → NoReadFault (judgement_of_words words)
 unfolding judgement_of_words
-words_no_read_fault words = split_no_read_fault (split_words words)
+words_no_read_fault words = named_no_fault command_after (named_words words) command_no_fault
+
+live_after_no_fault : (name : CommandName) (rest : List (List ℕ)) → NoReadFault (live_after name rest)
+live_after_no_fault command.Live rest = split_no_fault live_of (live_split rest) (λ w. live_no_fault w.image w.policy w.disk w.out (number_within 0 max_live_events w.events))
+live_after_no_fault command.Flat rest = λ e. cc e
+live_after_no_fault command.Generated rest = λ e. cc e
+live_after_no_fault (command.Run kind) rest = λ e. cc e
+live_after_no_fault command.Snap rest = λ e. cc e
+live_after_no_fault command.Resume rest = λ e. cc e
+live_after_no_fault command.Show rest = λ e. cc e
+live_after_no_fault command.Measure rest = λ e. cc e
+live_after_no_fault command.Convert rest = λ e. cc e
+
+pub live_no_read_fault : (words : List (List ℕ)) → NoReadFault (live_judged words)
+unfolding live_judged
+live_no_read_fault words = named_no_fault live_after (named_words words) live_after_no_fault
+
+snap_after_no_fault : (name : CommandName) (rest : List (List ℕ)) → NoReadFault (snap_after name rest)
+snap_after_no_fault command.Snap rest = split_no_fault snap_of (snap_split rest) (λ w. snap_no_fault w.image w.policy w.disk w.out (source_of w.script) (number_within 0 max_events w.events))
+snap_after_no_fault command.Flat rest = λ e. cc e
+snap_after_no_fault command.Generated rest = λ e. cc e
+snap_after_no_fault (command.Run kind) rest = λ e. cc e
+snap_after_no_fault command.Live rest = λ e. cc e
+snap_after_no_fault command.Resume rest = λ e. cc e
+snap_after_no_fault command.Show rest = λ e. cc e
+snap_after_no_fault command.Measure rest = λ e. cc e
+snap_after_no_fault command.Convert rest = λ e. cc e
+
+pub snap_no_read_fault : (words : List (List ℕ)) → NoReadFault (snap_judged words)
+unfolding snap_judged
+snap_no_read_fault words = named_no_fault snap_after (named_words words) snap_after_no_fault
+
+resume_after_no_fault : (name : CommandName) (rest : List (List ℕ)) → NoReadFault (resume_after name rest)
+resume_after_no_fault command.Resume rest = split_no_fault resume_of (resume_split rest) (λ w. resume_no_fault w.saved w.policy w.save (source_of w.script) (number_within 0 max_events w.events))
+resume_after_no_fault command.Flat rest = λ e. cc e
+resume_after_no_fault command.Generated rest = λ e. cc e
+resume_after_no_fault (command.Run kind) rest = λ e. cc e
+resume_after_no_fault command.Live rest = λ e. cc e
+resume_after_no_fault command.Snap rest = λ e. cc e
+resume_after_no_fault command.Show rest = λ e. cc e
+resume_after_no_fault command.Measure rest = λ e. cc e
+resume_after_no_fault command.Convert rest = λ e. cc e
+
+pub resume_no_read_fault : (words : List (List ℕ)) → NoReadFault (resume_judged words)
+unfolding resume_judged
+resume_no_read_fault words = named_no_fault resume_after (named_words words) resume_after_no_fault

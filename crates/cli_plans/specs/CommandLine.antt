@@ -3,12 +3,15 @@
 use Rattle.std.specs.Prelude.{ℕ, ◌^◌, ◌-◌, List, if◌then◌else◌, Option, Some, None, option_map, take, drop, Result, Ok, Err, codes}
 use Rattle.std.specs.Str.{bytes_eq}
 use Rattle.cli_words.specs.declared.command.DiskKind.{DiskKind}
-use Rattle.cli_words.specs.Commands.{Split, FlatSplit, RunSplit, MeasureSplit, ConvertSplit, split_words}
+use Rattle.cli_words.specs.declared.table.CommandName.{CommandName}
+use Rattle.cli_words.specs.declared.table.CommandName.TheVariants as command
+use Rattle.cli_words.specs.Commands.{Named, FlatSplit, RunSplit, LiveSplit, SnapSplit, ResumeSplit, MeasureSplit, ConvertSplit, flat_split, gen_split, run_split, live_split, snap_split, resume_split, show_split, measure_split, convert_split, named_words}
 use Rattle.sv_types.specs.Numbers.{number_within, digest_of}
 use Rattle.spec_processor.specs.Regions.{max_ram_pages}
 use Rattle.sv_types.specs.declared.module.Span.{Span}
 use Rattle.sv_types.specs.Limits.{max_events, max_harts, min_ram_pages}
 use Rattle.guest_gen.specs.GuestCode.{max_calls}
+use Rattle.live_keys.specs.Line.{max_keys}
 use Rattle.policy_making.specs.Making.{Terms}
 use Rattle.policy_making.specs.WordRanges.{are_entries, entries_of, span_of, are_module_names}
 use Rattle.cli_plans.specs.declared.refusal.Word.{Word}
@@ -49,6 +52,28 @@ pub record PolicyWords : Type 0 where
   -- the names of the modules' objects
   pub modules : List (List ℕ)
 
+-- a run whose events are drawn, and the name that its script is saved under
+pub record LiveWords : Type 0 where
+  pub run : RunWords
+  pub out : List ℕ
+
+-- a run, and the name that its snapshot is saved under
+pub record SnapWords : Type 0 where
+  pub run : RunWords
+  pub out : List ℕ
+
+-- a run that goes on from a snapshot
+pub record ResumeWords : Type 0 where
+  pub saved : List ℕ
+  pub policy : List ℕ
+  -- the script of the whole run
+  pub script : Source
+  -- the most events of the whole run
+  pub events : ℕ
+  -- where the disk is saved after the report, if it is
+  pub save : Option (List ℕ)
+
+-- a command of the top call. `live`, `snap`, `resume` and `show` have calls of their own
 pub data Command : Type 0 where
   Flat : (file wanted : List ℕ) → (events : ℕ) → Command
   -- the generated guest, which calls its kernel so many times
@@ -117,6 +142,52 @@ run_words w (Some script) (Some events) = Ok (Run (run_of w script events))
 abbrev pub run_judged : RunSplit → Result Command Refusal
 run_judged w = run_words w (source_of w.script) (number_within 0 max_events w.events)
 
+-- ---- live IMAGE POLICY DISK EVENTS OUT
+
+-- with every key these are at most 2^32 events
+abbrev pub max_live_events : ℕ
+max_live_events = max_events - max_keys
+
+-- the disk isn't saved alongside the script or the snapshot
+abbrev pub block_run : (image policy disk : List ℕ) → Source → (events : ℕ) → RunWords
+block_run image policy disk script events = record {
+  kind = DiskKind.Block;
+  image = image;
+  policy = policy;
+  disk = unless_none disk;
+  script = script;
+  events = events;
+  save = None;
+}
+
+unfoldable pub live_words : (image policy disk out : List ℕ) → Option ℕ → Result LiveWords Refusal
+live_words image policy disk out None = Err (OutOfRange Word.Events)
+live_words image policy disk out (Some events) = Ok (record { run = block_run image policy disk (Auto 0) events; out = out })
+
+abbrev pub live_of : LiveSplit → Result LiveWords Refusal
+live_of w = live_words w.image w.policy w.disk w.out (number_within 0 max_live_events w.events)
+
+-- ---- snap IMAGE POLICY DISK SCRIPT EVENTS OUT
+
+unfoldable pub snap_words : (image policy disk out : List ℕ) → Option Source → Option ℕ → Result SnapWords Refusal
+snap_words image policy disk out None events = Err (OutOfRange Word.Script)
+snap_words image policy disk out (Some script) None = Err (OutOfRange Word.Events)
+snap_words image policy disk out (Some script) (Some events) = Ok (record { run = block_run image policy disk script events; out = out })
+
+abbrev pub snap_of : SnapSplit → Result SnapWords Refusal
+snap_of w = snap_words w.image w.policy w.disk w.out (source_of w.script) (number_within 0 max_events w.events)
+
+-- ---- resume SNAPSHOT POLICY SCRIPT EVENTS SAVE
+
+unfoldable pub resume_words : (saved policy save : List ℕ) → Option Source → Option ℕ → Result ResumeWords Refusal
+resume_words saved policy save None events = Err (OutOfRange Word.Script)
+resume_words saved policy save (Some script) None = Err (OutOfRange Word.Events)
+resume_words saved policy save (Some script) (Some events) =
+    Ok (record { saved = saved; policy = policy; script = script; events = events; save = unless_none save })
+
+abbrev pub resume_of : ResumeSplit → Result ResumeWords Refusal
+resume_of w = resume_words w.saved w.policy w.save (source_of w.script) (number_within 0 max_events w.events)
+
 -- ---- measure OUT KERNEL RAM HARTS ENTRIES INIT MODULES...
 
 abbrev pub entries_judged : List ℕ → Option (List ℕ)
@@ -149,19 +220,58 @@ making_words w (Ok terms) =
 abbrev pub making_judged : MeasureSplit → Result Command Refusal
 making_judged w = making_words w (terms_judged w.ram w.harts w.entries w.init)
 
--- ---- all commands
+-- ---- by the name of the command
 
--- none of the words of convert is out of its range
-abbrev pub command_judged : Split → Result Command Refusal
-command_judged (Split.Flat w) = flat_judged w
-command_judged (Split.Gen calls) = gen_judged calls
-command_judged (Split.Run w) = run_judged w
-command_judged (Split.Measure w) = making_judged w
-command_judged (Split.Convert w) = Ok (Convert w)
+-- words of another number are of no command
+abbrev pub split_judged : {S A : Type 0} → (S → Result A Refusal) → Option S → Result A Refusal
+split_judged judge None = Err NoCommand
+split_judged judge (Some words) = judge words
 
-abbrev pub split_judged : Option Split → Result Command Refusal
-split_judged None = Err NoCommand
-split_judged (Some words) = command_judged words
+-- none of the words of `convert` and of `show` is out of its range
+abbrev pub command_after : CommandName → List (List ℕ) → Result Command Refusal
+command_after command.Flat rest = split_judged flat_judged (flat_split rest)
+command_after command.Generated rest = split_judged gen_judged (gen_split rest)
+command_after (command.Run kind) rest = split_judged run_judged (run_split kind rest)
+command_after command.Measure rest = split_judged making_judged (measure_split rest)
+command_after command.Convert rest = split_judged (λ w. Ok (Convert w)) (convert_split rest)
+command_after _ rest = Err NoCommand
 
+abbrev pub live_after : CommandName → List (List ℕ) → Result LiveWords Refusal
+live_after command.Live rest = split_judged live_of (live_split rest)
+live_after _ rest = Err NoCommand
+
+abbrev pub snap_after : CommandName → List (List ℕ) → Result SnapWords Refusal
+snap_after command.Snap rest = split_judged snap_of (snap_split rest)
+snap_after _ rest = Err NoCommand
+
+abbrev pub resume_after : CommandName → List (List ℕ) → Result ResumeWords Refusal
+resume_after command.Resume rest = split_judged resume_of (resume_split rest)
+resume_after _ rest = Err NoCommand
+
+abbrev pub show_after : CommandName → List (List ℕ) → Result (List ℕ) Refusal
+show_after command.Show rest = split_judged Ok (show_split rest)
+show_after _ rest = Err NoCommand
+
+-- ---- all words
+
+abbrev pub named_judged : {A : Type 0} → (CommandName → List (List ℕ) → Result A Refusal) → Option Named → Result A Refusal
+named_judged judge None = Err NoCommand
+named_judged judge (Some n) = judge n.command n.rest
+
+-- what the words of the top call ask for, or the first one that is out of its range
 unfoldable pub judgement_of_words : List (List ℕ) → Result Command Refusal
-judgement_of_words words = split_judged (split_words words)
+judgement_of_words words = named_judged command_after (named_words words)
+
+-- the same of each command that has a call of its own, which refuses the words of all others
+unfoldable pub live_judged : List (List ℕ) → Result LiveWords Refusal
+live_judged words = named_judged live_after (named_words words)
+
+unfoldable pub snap_judged : List (List ℕ) → Result SnapWords Refusal
+snap_judged words = named_judged snap_after (named_words words)
+
+unfoldable pub resume_judged : List (List ℕ) → Result ResumeWords Refusal
+resume_judged words = named_judged resume_after (named_words words)
+
+-- the name of the snapshot
+unfoldable pub show_judged : List (List ℕ) → Result (List ℕ) Refusal
+show_judged words = named_judged show_after (named_words words)

@@ -40,7 +40,7 @@ use Rattle.cli_plans.specs.declared.file_fault.FileFault.{FileFault}
 use Rattle.cli_plans.specs.declared.refusal.Refusal.{Refusal}
 use Rattle.cli_plans.specs.declared.refusal.Refusal.TheVariants.{ReadFault, File, Measure, Entry}
 use Rattle.cli_plans.specs.Refusals.{refusal_line, refusal_status}
-use Rattle.cli_plans.specs.CommandLine.{Command, Flat, Generated, Run, RunWords, MakePolicy, PolicyWords, Convert, Source, Rounds, Auto, Bursts, Text}
+use Rattle.cli_plans.specs.CommandLine.{Command, Flat, Generated, Run, RunWords, LiveWords, SnapWords, MakePolicy, PolicyWords, Convert, Source, Rounds, Auto, Bursts, Text}
 
 -- ---- what is due
 
@@ -245,6 +245,16 @@ image_plan words rules = image_part rules words.image (boot_plan words rules)
 
 unfoldable pub run_plan : RunWords → Plan
 run_plan words = policy_part words.policy (image_plan words)
+
+-- ---- live and snap: what `run` reads and judges for the same words
+
+unfoldable pub live_plan : Result LiveWords Refusal → Plan
+live_plan (Err refusal) = End (Refuse refusal)
+live_plan (Ok words) = Judge (run_plan words.run)
+
+unfoldable pub snap_plan : Result SnapWords Refusal → Plan
+snap_plan (Err refusal) = End (Refuse refusal)
+snap_plan (Ok words) = Judge (run_plan words.run)
 
 -- ---- measure: each file is read once, just before its first judgement
 

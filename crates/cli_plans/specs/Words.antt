@@ -8,7 +8,7 @@ use Rattle.guest_gen.specs.GuestCode.{max_calls}
 use Rattle.policy_making.specs.Making.{Terms}
 use Rattle.policy_making.specs.Ranges.{terms_within}
 use Rattle.policy_making.specs.WordRanges.{entries_of, are_module_names}
-use Rattle.cli_words.specs.Commands.{Split}
+use Rattle.cli_words.specs.declared.command.DiskKind.{DiskKind}
 use Rattle.cli_plans.specs.declared.refusal.Refusal.{Refusal}
 use Rattle.cli_plans.specs.declared.words.Command.{Command as Asked}
 use Rattle.cli_plans.specs.declared.words.Command.TheVariants as asked
@@ -16,8 +16,13 @@ use Rattle.cli_plans.specs.declared.words.Source.{Source as Named}
 use Rattle.cli_plans.specs.declared.words.Source.TheVariants as named
 use Rattle.cli_plans.specs.declared.words.Run.{Run as AskedRun}
 use Rattle.cli_plans.specs.declared.words.Terms.{Terms as AskedTerms}
+use Rattle.cli_plans.specs.declared.words.Live.{Live}
+use Rattle.cli_plans.specs.declared.words.Snap.{Snap}
+use Rattle.cli_plans.specs.declared.words.Resume.{Resume}
+use Rattle.cli_plans.specs.declared.asking.Unread.{Unread}
+use Rattle.cli_plans.specs.declared.asking.Unread.TheVariants.{Refused, Memory}
 use Rattle.cli_plans.specs.declared.words.MakePolicy.{MakePolicy as AskedPolicy}
-use Rattle.cli_plans.specs.CommandLine.{Command, Flat, Generated, Run, RunWords, MakePolicy, PolicyWords, Convert, Source, Rounds, Auto, Bursts, Text}
+use Rattle.cli_plans.specs.CommandLine.{Command, Flat, Generated, Run, RunWords, LiveWords, SnapWords, ResumeWords, max_live_events, MakePolicy, PolicyWords, Convert, Source, Rounds, Auto, Bursts, Text}
 
 -- where the events come from, by value
 abbrev pub source_value : Named → Source
@@ -35,6 +40,21 @@ run_value run = record {
   script = source_value run.script;
   events = run.events;
   save = option_copied run.save;
+}
+
+abbrev pub live_value : Live → LiveWords
+live_value live = record { run = run_value live.run; out = live.out.now }
+
+abbrev pub snap_value : Snap → SnapWords
+snap_value snap = record { run = run_value snap.run; out = snap.out.now }
+
+abbrev pub resume_value : Resume → ResumeWords
+resume_value resume = record {
+  saved = resume.saved.now;
+  policy = resume.policy.now;
+  script = source_value resume.script;
+  events = resume.events;
+  save = option_copied resume.save;
 }
 
 -- a word for the entries stands for its addresses
@@ -57,26 +77,21 @@ command_of (asked.Run run) = Run (run_value run)
 command_of (asked.MakePolicy policy) = MakePolicy (policy_value policy)
 command_of (asked.Convert convert) = Convert (convert_split_of convert)
 
--- the command of these values, or the first word that is out of its range
-abbrev pub IsRead : Result Command Refusal → Result Asked Refusal → Type 0
-IsRead due (Ok command) = due ≡ Ok (command_of command)
-IsRead due (Err refusal) = due ≡ Err refusal
-
-abbrev pub HasTerms : Result Terms Refusal → Result AskedTerms Refusal → Type 0
-HasTerms due (Ok terms) = due ≡ Ok (terms_value terms)
-HasTerms due (Err refusal) = due ≡ Err refusal
+-- the values of these words, or the first one that is out of its range
+abbrev pub IsRead : {A T : Type 0} → (value : T → A) → Result A Refusal → Result T Refusal → Type 0
+IsRead value due (Ok asked) = due ≡ Ok (value asked)
+IsRead value due (Err refusal) = due ≡ Err refusal
 
 -- the same without the values
-abbrev pub IsJudged : Result Command Refusal → Result (Unit {0}) Refusal → Type 0
+abbrev pub IsJudged : {A : Type 0} → Result A Refusal → Result (Unit {0}) Refusal → Type 0
 IsJudged due (Ok done) = IsTrue (is_ok due)
 IsJudged due (Err refusal) = due ≡ Err refusal
 
-abbrev pub HasModuleNames : Split → Type 0
-HasModuleNames (Split.Flat w) = Unit {0}
-HasModuleNames (Split.Gen calls) = Unit {0}
-HasModuleNames (Split.Run w) = Unit {0}
-HasModuleNames (Split.Measure w) = IsTrue (are_module_names w.modules)
-HasModuleNames (Split.Convert w) = Unit {0}
+-- the same, where memory may run out for words that aren't refused
+abbrev pub IsAsked : {A T : Type 0} → (value : T → A) → Result A Refusal → Result T Unread → Type 0
+IsAsked value due (Ok asked) = due ≡ Ok (value asked)
+IsAsked value due (Err (Refused refusal)) = due ≡ Err refusal
+IsAsked value due (Err Memory) = IsTrue (is_ok due)
 
 abbrev pub IsInRange : Asked → Type 0
 IsInRange (asked.Flat flat) = flat.events ≤ max_events
@@ -84,3 +99,10 @@ IsInRange (asked.Generated calls) = (1 ≤ calls) × (calls ≤ max_calls)
 IsInRange (asked.Run run) = run.events ≤ max_events
 IsInRange (asked.MakePolicy policy) = IsTrue (terms_within (terms_value policy.terms)) × IsTrue (are_module_names (map (λ name. name.now) policy.modules.items))
 IsInRange (asked.Convert convert) = Unit {0}
+
+-- a run whose events are drawn after 0, few enough that keys may be among them
+abbrev pub IsDrawnRun : Live → Type 0
+IsDrawnRun live = (live.run.events ≤ max_live_events) × (source_value live.run.script ≡ Auto 0)
+
+abbrev pub IsBlockRun : Snap → Type 0
+IsBlockRun snap = (snap.run.kind ≡ DiskKind.Block) × (snap.run.events ≤ max_events)

@@ -1,61 +1,39 @@
-// The judgement of the words by their places, which takes no memory.
-ghost use Rattle.std.specs.Prelude.{map, string_bytes, ◌≡◌};
-ghost use Rattle.std.specs.List.{list_any};
-ghost use Rattle.cli_words.specs.Commands.{has_dash, shape_split, named_split, flat_split, gen_split, run_split, measure_split, convert_split};
-ghost use Rattle.cli_plans.specs.CommandLine.{judgement_of_words, split_judged};
+// The judgement of the words after a command's name by their places, from left to right, which takes no memory.
+ghost use Rattle.std.specs.Prelude.{Ok, map, string_bytes};
+ghost use Rattle.cli_words.specs.Commands.{flat_split, gen_split, run_split, live_split, snap_split, resume_split, show_split, measure_split, convert_split};
+ghost use Rattle.cli_plans.specs.CommandLine.{Convert, split_judged, flat_judged, gen_judged, run_judged, live_of, snap_of, resume_of, making_judged};
 ghost use Rattle.cli_plans.specs.Words.{IsJudged};
 
 use crate::refusal::{Refusal, Word};
-use crate::words::{read_flat, read_generated, read_run, read_terms};
-use cli_words::{DiskKind, FlatWords, RunWords, has_dash};
+use crate::words::{
+    read_flat, read_generated, read_live, read_resume, read_run, read_snap, read_terms,
+};
+use cli_words::{
+    CommandName, DiskKind, FlatWords, LiveWords, ResumeWords, RunWords, SnapWords, named,
+};
 use policy_making::are_module_names;
 
-/// Judges the words from left to right, without memory.
-#[tactic(auto, using(policy_making::proofs::WordLemmas::list_any_map), unfolding(crate::specs::CommandLine::judgement_of_words, cli_words::specs::Commands::split_words))]
-pub fn judge(words: &[String]) -> Result<(), Refusal>
-    ensures { IsJudged (judgement_of_words (map string_bytes words.now)) result }
-{
-    if any_has_dash(words) {
+/// Why the words of any command are refused, if they are.
+pub fn judge(words: &[String]) -> Result<(), Refusal> {
+    let Some(naming) = named(words) else {
         return Err(Refusal::NoCommand);
-    }
-    judge_shape(words)
-}
-
-/// Whether a word begins with a dash.
-pub fn any_has_dash(words: &[String]) -> bool
-    ensures { result ≡ list_any (λ word. has_dash (string_bytes word)) words.now }
-{
-    words.iter().any(|word| has_dash(word.as_str()))
-}
-
-// Words without a dash.
-fn judge_shape(words: &[String]) -> Result<(), Refusal>
-    ensures { IsJudged (split_judged (shape_split (map string_bytes words.now))) result }
-{
-    match words {
-        [name, rest @ ..] => judge_named(name.as_str(), rest),
-        [] => Err(Refusal::NoCommand),
-    }
-}
-
-// The words after the name of a command.
-fn judge_named(name: &str, rest: &[String]) -> Result<(), Refusal>
-    ensures { IsJudged (split_judged (named_split name.now (map string_bytes rest.now))) result }
-{
-    match name {
-        "flat" => judge_flat(rest),
-        "gen" => judge_generated(rest),
-        "run" => judge_run(DiskKind::Block, rest),
-        "vrun" => judge_run(DiskKind::Virtio, rest),
-        "measure" => judge_measure(rest),
-        "convert" => judge_convert(rest),
-        _ => Err(Refusal::NoCommand),
+    };
+    match naming.command {
+        CommandName::Flat => judge_flat(naming.rest),
+        CommandName::Generated => judge_generated(naming.rest),
+        CommandName::Run(kind) => judge_run(kind, naming.rest),
+        CommandName::Live => judge_live(naming.rest),
+        CommandName::Snap => judge_snap(naming.rest),
+        CommandName::Resume => judge_resume(naming.rest),
+        CommandName::Show => judge_show(naming.rest),
+        CommandName::Measure => judge_measure(naming.rest),
+        CommandName::Convert => judge_convert(naming.rest),
     }
 }
 
 #[tactic(auto, using(crate::proofs::WordLemmas::not_flat))]
-fn judge_flat(rest: &[String]) -> Result<(), Refusal>
-    ensures { IsJudged (split_judged (flat_split (map string_bytes rest.now))) result }
+pub fn judge_flat(rest: &[String]) -> Result<(), Refusal>
+    ensures { IsJudged (split_judged flat_judged (flat_split (map string_bytes rest.now))) result }
 {
     match rest {
         [file, wanted, events] => {
@@ -71,8 +49,8 @@ fn judge_flat(rest: &[String]) -> Result<(), Refusal>
 }
 
 #[tactic(auto, using(crate::proofs::WordLemmas::not_gen))]
-fn judge_generated(rest: &[String]) -> Result<(), Refusal>
-    ensures { IsJudged (split_judged (gen_split (map string_bytes rest.now))) result }
+pub fn judge_generated(rest: &[String]) -> Result<(), Refusal>
+    ensures { IsJudged (split_judged gen_judged (gen_split (map string_bytes rest.now))) result }
 {
     match rest {
         [calls] => {
@@ -84,8 +62,8 @@ fn judge_generated(rest: &[String]) -> Result<(), Refusal>
 }
 
 #[tactic(auto, using(crate::proofs::WordLemmas::not_run))]
-fn judge_run(kind: DiskKind, rest: &[String]) -> Result<(), Refusal>
-    ensures { IsJudged (split_judged (run_split kind (map string_bytes rest.now))) result }
+pub fn judge_run(kind: DiskKind, rest: &[String]) -> Result<(), Refusal>
+    ensures { IsJudged (split_judged run_judged (run_split kind (map string_bytes rest.now))) result }
 {
     match rest {
         [image, policy, disk, script, events, save] => {
@@ -105,8 +83,8 @@ fn judge_run(kind: DiskKind, rest: &[String]) -> Result<(), Refusal>
 }
 
 #[tactic(auto, using(crate::proofs::WordLemmas::not_measure), unfolding(crate::specs::CommandLine::making_words))]
-fn judge_measure(rest: &[String]) -> Result<(), Refusal>
-    ensures { IsJudged (split_judged (measure_split (map string_bytes rest.now))) result }
+pub fn judge_measure(rest: &[String]) -> Result<(), Refusal>
+    ensures { IsJudged (split_judged making_judged (measure_split (map string_bytes rest.now))) result }
 {
     match rest {
         [_, _, ram, harts, entries, init, modules @ ..] => {
@@ -129,11 +107,79 @@ fn judge_measure(rest: &[String]) -> Result<(), Refusal>
 }
 
 #[tactic(auto, using(crate::proofs::WordLemmas::not_convert))]
-fn judge_convert(rest: &[String]) -> Result<(), Refusal>
-    ensures { IsJudged (split_judged (convert_split (map string_bytes rest.now))) result }
+pub fn judge_convert(rest: &[String]) -> Result<(), Refusal>
+    ensures { IsJudged (split_judged (λ w. Ok (Convert w)) (convert_split (map string_bytes rest.now))) result }
 {
     match rest {
         [_, _, _] => Ok(()),
+        _ => Err(Refusal::NoCommand),
+    }
+}
+
+#[tactic(auto, using(crate::proofs::WordLemmas::not_live))]
+pub fn judge_live(rest: &[String]) -> Result<(), Refusal>
+    ensures { IsJudged (split_judged live_of (live_split (map string_bytes rest.now))) result }
+{
+    match rest {
+        [image, policy, disk, events, out] => {
+            read_live(&LiveWords {
+                image: image.as_str(),
+                policy: policy.as_str(),
+                disk: disk.as_str(),
+                events: events.as_str(),
+                out: out.as_str(),
+            })?;
+            Ok(())
+        }
+        _ => Err(Refusal::NoCommand),
+    }
+}
+
+#[tactic(auto, using(crate::proofs::WordLemmas::not_snap))]
+pub fn judge_snap(rest: &[String]) -> Result<(), Refusal>
+    ensures { IsJudged (split_judged snap_of (snap_split (map string_bytes rest.now))) result }
+{
+    match rest {
+        [image, policy, disk, script, events, out] => {
+            read_snap(&SnapWords {
+                image: image.as_str(),
+                policy: policy.as_str(),
+                disk: disk.as_str(),
+                script: script.as_str(),
+                events: events.as_str(),
+                out: out.as_str(),
+            })?;
+            Ok(())
+        }
+        _ => Err(Refusal::NoCommand),
+    }
+}
+
+#[tactic(auto, using(crate::proofs::WordLemmas::not_resume))]
+pub fn judge_resume(rest: &[String]) -> Result<(), Refusal>
+    ensures { IsJudged (split_judged resume_of (resume_split (map string_bytes rest.now))) result }
+{
+    match rest {
+        [saved, policy, script, events, save] => {
+            read_resume(&ResumeWords {
+                saved: saved.as_str(),
+                policy: policy.as_str(),
+                script: script.as_str(),
+                events: events.as_str(),
+                save: save.as_str(),
+            })?;
+            Ok(())
+        }
+        _ => Err(Refusal::NoCommand),
+    }
+}
+
+#[tactic(auto, using(crate::proofs::WordLemmas::not_show))]
+pub fn judge_show(rest: &[String]) -> Result<(), Refusal>
+    ensures { IsJudged (split_judged Ok (show_split (map string_bytes rest.now))) result }
+{
+    match rest {
+        [_] => Ok(()),
         _ => Err(Refusal::NoCommand),
     }
 }

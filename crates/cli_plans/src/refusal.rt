@@ -1,7 +1,7 @@
 // Why a command isn't carried out.
 ghost use Rattle.std.specs.Prelude.{◌≡◌, ◌<◌, ◌-◌, IsTrue, IsErrOf, OnOk, IfOk, string_bytes};
 ghost use Rattle.host_io.specs.Outside.{after_taking, BreaksOff, MayWrite};
-ghost use Rattle.cli_plans.specs.Refusals.{refusal_line, refusal_status, takes_memory};
+ghost use Rattle.cli_plans.specs.Refusals.{refusal_line, refusal_status, takes_memory, word_name};
 
 use crate::file_fault::{FileFault, Part};
 use host_io::{Sink, Trouble, write_all};
@@ -41,6 +41,23 @@ pub enum Refusal {
 }
 
 impl Word {
+    /// The word's name.
+    pub fn name(self) -> &'static str
+        ensures { result.now ≡ word_name self }
+    {
+        match self {
+            Word::Measure => "MEASURE",
+            Word::Script => "SCRIPT",
+            Word::Events => "EVENTS",
+            Word::Calls => "N",
+            Word::Ram => "RAM",
+            Word::Harts => "HARTS",
+            Word::Entries => "ENTRIES",
+            Word::Init => "INIT",
+            Word::Modules => "MODULES",
+        }
+    }
+
     // The whole line, so that words are refused without memory.
     #[tactic(auto, unfolding(crate::specs::Refusals::refusal_line))]
     fn line(self) -> &'static str

@@ -1,23 +1,30 @@
 // What the words of a command ask for.
-ghost use Rattle.std.specs.Prelude.{◌≡◌, option_map, IfOk, IsTrue, Ok};
+ghost use Rattle.std.specs.Prelude.{◌≡◌, ◌≤◌, option_map, IfOk, IsTrue};
 ghost use Rattle.std.specs.Option.{option_copied};
 ghost use Rattle.sv_types.specs.Numbers.{number_within};
+ghost use Rattle.sv_types.specs.Limits.{max_events, max_harts, min_ram_pages};
 ghost use Rattle.spec_processor.specs.Regions.{max_ram_pages};
-ghost use Rattle.sv_types.specs.Limits.{max_harts, min_ram_pages};
 ghost use Rattle.policy_making.specs.WordRanges.{entries_of, are_module_names};
-ghost use Rattle.cli_words.specs.Values.{split_of, flat_split_of, run_split_of, measure_split_of};
-ghost use Rattle.cli_plans.specs.CommandLine.{command_judged, flat_judged, gen_judged, run_judged, run_of, unless_none, source_of, auto_of, bursts_of, making_judged, terms_judged, terms_with, init_of};
-ghost use Rattle.cli_plans.specs.Words.{IsRead, HasTerms, HasModuleNames, IsInRange, command_of, source_value, run_value};
+ghost use Rattle.cli_words.specs.declared.command.DiskKind.{DiskKind};
+ghost use Rattle.cli_words.specs.Values.{flat_split_of, run_split_of, live_split_of, snap_split_of, resume_split_of, measure_split_of};
+ghost use Rattle.cli_plans.specs.CommandLine.{flat_judged, gen_judged, run_judged, run_of, block_run, live_of, snap_of, resume_of, unless_none, source_of, auto_of, bursts_of, making_judged, terms_judged, terms_with, init_of};
+ghost use Rattle.cli_plans.specs.Words.{IsRead, IsInRange, IsDrawnRun, IsBlockRun, command_of, source_value, run_value, live_value, snap_value, resume_value, terms_value};
 
 use crate::refusal::{Refusal, Word};
-use cli_words::{CommandWords, ConvertWords, DiskKind, FlatWords, MeasureWords, RunWords};
+use cli_words::{
+    ConvertWords, DiskKind, FlatWords, LiveWords, MeasureWords, ResumeWords, RunWords, SnapWords,
+};
 use guest_gen::MAX_CALLS;
+use live_keys::MAX_KEYS;
 use policy_limits::{MAX_HARTS, MAX_RAM_PAGES, MIN_RAM_PAGES};
 use policy_making::{are_entries, span_of};
 use sv_types::{Digest, MAX_EVENTS, Span};
 use text_numbers::{digest_of, number_within};
 
-/// What the words ask for.
+/// The most events of a live run, so that with every key they are no more than a run may have.
+const MAX_LIVE_EVENTS: u64 = MAX_EVENTS - MAX_KEYS;
+
+/// What the words of the top call ask for.
 #[derive(Drop)]
 pub enum Command<'a> {
     Flat(Flat<'a>),
@@ -46,6 +53,32 @@ pub struct Run<'a> {
     pub policy: &'a str,
     /// None for an empty disk.
     pub disk: Option<&'a str>,
+    pub script: Source<'a>,
+    pub events: u64,
+    /// The name under which the disk is saved after the report, where it is.
+    pub save: Option<&'a str>,
+}
+
+/// `live IMAGE POLICY DISK EVENTS OUT`: a run whose events are drawn, and the name that its script is saved under.
+#[derive(Drop)]
+pub struct Live<'a> {
+    pub run: Run<'a>,
+    pub out: &'a str,
+}
+
+/// `snap IMAGE POLICY DISK SCRIPT EVENTS OUT`: a run, and the name that the machine after it is saved under.
+#[derive(Drop)]
+pub struct Snap<'a> {
+    pub run: Run<'a>,
+    pub out: &'a str,
+}
+
+/// `resume SNAPSHOT POLICY SCRIPT EVENTS SAVE`: the files' names, where the events of the whole run come from, and their
+/// number.
+#[derive(Drop)]
+pub struct Resume<'a> {
+    pub saved: &'a str,
+    pub policy: &'a str,
     pub script: Source<'a>,
     pub events: u64,
     /// The name under which the disk is saved after the report, where it is.
@@ -85,26 +118,10 @@ pub enum Source<'a> {
     Text(&'a str),
 }
 
-/// What the words of a command ask for, or the first one that is out of its range. The names of modules were judged
-/// before.
-pub fn read_words(words: CommandWords<'_>) -> Result<Command<'_>, Refusal>
-    requires { HasModuleNames (split_of words) }
-    ensures read { IsRead (command_judged (split_of words.entry)) result }
-    ensures range { IfOk result IsInRange }
-{
-    match words {
-        CommandWords::Flat(words) => read_flat(&words),
-        CommandWords::Generated(calls) => read_generated(calls),
-        CommandWords::Run(words) => read_run(&words),
-        CommandWords::Measure(words) => read_measure(words),
-        CommandWords::Convert(words) => Ok(Command::Convert(words)),
-    }
-}
-
 /// The words of `flat`.
 #[tactic(auto, unfolding(crate::specs::CommandLine::flat_words))]
 pub fn read_flat<'a>(words: &FlatWords<'a>) -> Result<Command<'a>, Refusal>
-    ensures read { IsRead (flat_judged (flat_split_of words.now)) result }
+    ensures read { IsRead command_of (flat_judged (flat_split_of words.now)) result }
     ensures range { IfOk result IsInRange }
 {
     let Some(wanted) = digest_of(words.wanted) else {
@@ -125,7 +142,7 @@ pub fn read_flat<'a>(words: &FlatWords<'a>) -> Result<Command<'a>, Refusal>
 /// The word of `gen`.
 #[tactic(auto, unfolding(crate::specs::CommandLine::gen_words))]
 pub fn read_generated(calls: &str) -> Result<Command<'_>, Refusal>
-    ensures read { IsRead (gen_judged calls.now) result }
+    ensures read { IsRead command_of (gen_judged calls.now) result }
     ensures range { IfOk result IsInRange }
 {
     match number_within(calls.as_bytes(), 1, MAX_CALLS) {
@@ -137,7 +154,7 @@ pub fn read_generated(calls: &str) -> Result<Command<'_>, Refusal>
 /// The words of `run`, or of `vrun`.
 #[tactic(auto, unfolding(crate::specs::CommandLine::run_words))]
 pub fn read_run<'a>(words: &RunWords<'a>) -> Result<Command<'a>, Refusal>
-    ensures read { IsRead (run_judged (run_split_of words.now)) result }
+    ensures read { IsRead command_of (run_judged (run_split_of words.now)) result }
     ensures range { IfOk result IsInRange }
 {
     let Some(script) = source_of(words.script) else {
@@ -165,16 +182,102 @@ fn run_of<'a>(words: &RunWords<'a>, script: Source<'a>, events: u64) -> Run<'a>
     }
 }
 
-/// A name, where the word isn't `none`.
-pub fn unless_none(word: &str) -> Option<&str>
+/// The words of `live`.
+#[tactic(auto, unfolding(crate::specs::CommandLine::live_words))]
+pub fn read_live<'a>(words: &LiveWords<'a>) -> Result<Live<'a>, Refusal>
+    ensures read { IsRead live_value (live_of (live_split_of words.now)) result }
+    ensures drawn { IfOk result IsDrawnRun }
+{
+    let Some(events) = number_within(words.events.as_bytes(), 0, MAX_LIVE_EVENTS) else {
+        return Err(Refusal::OutOfRange { word: Word::Events });
+    };
+    let run = block_run(
+        words.image,
+        words.policy,
+        words.disk,
+        Source::Auto(0),
+        events,
+    );
+    Ok(Live {
+        run,
+        out: words.out,
+    })
+}
+
+/// The words of `snap`.
+#[tactic(auto, unfolding(crate::specs::CommandLine::snap_words))]
+pub fn read_snap<'a>(words: &SnapWords<'a>) -> Result<Snap<'a>, Refusal>
+    ensures read { IsRead snap_value (snap_of (snap_split_of words.now)) result }
+    ensures block { IfOk result IsBlockRun }
+{
+    let Some(script) = source_of(words.script) else {
+        return Err(Refusal::OutOfRange { word: Word::Script });
+    };
+    let Some(events) = number_within(words.events.as_bytes(), 0, MAX_EVENTS) else {
+        return Err(Refusal::OutOfRange { word: Word::Events });
+    };
+    let run = block_run(words.image, words.policy, words.disk, script, events);
+    Ok(Snap {
+        run,
+        out: words.out,
+    })
+}
+
+// A run over the project's block device, whose disk isn't saved.
+fn block_run<'a>(
+    image: &'a str,
+    policy: &'a str,
+    disk: &'a str,
+    script: Source<'a>,
+    events: u64,
+) -> Run<'a>
+    ensures value { run_value result ≡ block_run image.now policy.now disk.now (source_value script.entry) events }
+    ensures kind { result.kind ≡ DiskKind.Block }
+    ensures script { result.script ≡ script.entry }
+    ensures events { result.events ≡ events }
+{
+    Run {
+        kind: DiskKind::Block,
+        image,
+        policy,
+        disk: unless_none(disk),
+        script,
+        events,
+        save: None,
+    }
+}
+
+/// The words of `resume`.
+#[tactic(auto, unfolding(crate::specs::CommandLine::resume_words))]
+pub fn read_resume<'a>(words: &ResumeWords<'a>) -> Result<Resume<'a>, Refusal>
+    ensures read { IsRead resume_value (resume_of (resume_split_of words.now)) result }
+    ensures events { IfOk result (λ resume. resume.events ≤ max_events) }
+{
+    let Some(script) = source_of(words.script) else {
+        return Err(Refusal::OutOfRange { word: Word::Script });
+    };
+    let Some(events) = number_within(words.events.as_bytes(), 0, MAX_EVENTS) else {
+        return Err(Refusal::OutOfRange { word: Word::Events });
+    };
+    Ok(Resume {
+        saved: words.saved,
+        policy: words.policy,
+        script,
+        events,
+        save: unless_none(words.save),
+    })
+}
+
+// A name, where the word isn't `none`.
+fn unless_none(word: &str) -> Option<&str>
     ensures { option_copied result ≡ unless_none word.now }
 {
     if word == "none" { None } else { Some(word) }
 }
 
-/// Where the events of a run come from, none where the word is out of range.
+// Where the events of a run come from, none where the word is out of range.
 #[tactic(auto, unfolding(crate::specs::CommandLine::source_of))]
-pub fn source_of(word: &str) -> Option<Source<'_>>
+fn source_of(word: &str) -> Option<Source<'_>>
     ensures { option_map source_value result ≡ source_of word.now }
 {
     if word == "none" {
@@ -207,11 +310,11 @@ fn bursts_of(number: &str) -> Option<Source<'_>>
     }
 }
 
-// The words of `measure`.
+/// The words of `measure`. The names of modules were judged before.
 #[tactic(auto, unfolding(crate::specs::CommandLine::making_words))]
-fn read_measure(words: MeasureWords<'_>) -> Result<Command<'_>, Refusal>
+pub fn read_measure(words: MeasureWords<'_>) -> Result<Command<'_>, Refusal>
     requires { IsTrue (are_module_names (measure_split_of words).modules) }
-    ensures read { IsRead (making_judged (measure_split_of words.entry)) result }
+    ensures read { IsRead command_of (making_judged (measure_split_of words.entry)) result }
     ensures range { IfOk result IsInRange }
 {
     let terms = read_terms(words.ram, words.harts, words.entries, words.init)?;
@@ -231,7 +334,7 @@ pub fn read_terms<'a>(
     entries: &'a str,
     init: &str,
 ) -> Result<Terms<'a>, Refusal>
-    ensures { HasTerms (terms_judged ram.now harts.now entries.now init.now) result }
+    ensures { IsRead terms_value (terms_judged ram.now harts.now entries.now init.now) result }
 {
     let Some(ram_pages) = ram_pages_of(ram) else {
         return Err(Refusal::OutOfRange { word: Word::Ram });
@@ -254,7 +357,7 @@ fn terms_with(
     entries: &str,
     init: Option<Option<Span>>,
 ) -> Result<Terms<'_>, Refusal>
-    ensures { HasTerms (terms_with ram_pages harts (entries_of entries.now) init) result }
+    ensures { IsRead terms_value (terms_with ram_pages harts (entries_of entries.now) init) result }
 {
     match init {
         Some(init) => Ok(Terms {

@@ -1,5 +1,6 @@
 -- From what is ready of `resume` to what is answered.
-use Rattle.std.proofs.Common.{◌≡◌, ℕ, List, IsTrue, refl, sym, subst, Option, Some, None, Result, Ok, Err, IsErrOf}
+use Rattle.std.proofs.Common.{◌≡◌, ℕ, List, IsTrue, refl, sym, subst, Option, Some, None, Result, Ok, Err, IsErrOf, inl, inr}
+use Rattle.std.specs.Result.{is_ok}
 use Rattle.std.specs.Option.{option_copied}
 use Rattle.sv_types.specs.Schedule.{first_events}
 use Rattle.sv_types.specs.declared.event.Event.{Event}
@@ -23,7 +24,7 @@ use Rattle.cli_plans.proofs.PlanLemmas.{may_save, may_follow}
 use Rattle.secvisor_cli.proofs.TopLemmas.{refused_writes}
 use Rattle.cli_resume.specs.ResumePlans.{resume_plan, words_plan}
 use Rattle.cli_resume.specs.ResumeReady.{IsResumedWhere, Resumes}
-use Rattle.cli_resume.specs.ResumeWords.{ResumeWords, resume_judged}
+use Rattle.cli_plans.specs.CommandLine.{ResumeWords, resume_judged}
 
 -- ---- what is ready
 
@@ -113,7 +114,15 @@ words_may words value files is may = subst (λ (j : Result ResumeWords Refusal).
 pub words_performed : (words : Result ResumeWords Refusal) (value : ResumeWords) (old new : Outside) (result : Result Status Trouble) → words ≡ Ok value →
     Performs (words_plan value) old new result → Performs (resume_plan words) old new result
 unfolding resume_plan
-words_performed words value old new result is it = subst (λ (j : Result ResumeWords Refusal). Performs (resume_plan j) old new result) (sym is) it
+words_performed words value old new result is it =
+    subst (λ (j : Result ResumeWords Refusal). Performs (resume_plan j) old new result) (sym is)
+    (record { reached = it.reached; read = it.read; follows = inr it.follows; answers = it.answers })
+
+-- memory ran out for words that are good
+pub words_want : (words : Result ResumeWords Refusal) (old : Outside) → IsTrue (is_ok words) → Performs (resume_plan words) old old (Err Memory)
+unfolding resume_plan
+words_want (Ok words) old good = record { reached = None; read = old.files; follows = inl (refl, refl); answers = (refl, refl) }
+words_want (Err refusal) old good = absurd (cc good)
 
 -- where all names may be asked for and saved under
 pub resume_follows : (words : List (List ℕ)) (files : FilesState) → ((asked : List (List ℕ × ℕ)) → IsTrue (files.permits asked)) →

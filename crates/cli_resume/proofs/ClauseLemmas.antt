@@ -20,10 +20,9 @@ use Rattle.host_io.specs.declared.trouble.Trouble.{Trouble}
 use Rattle.cli_plans.proofs.PlanLemmas.{HasFault, HasFoundFaults}
 use Rattle.cli_plans.proofs.FoundFaults.{policy_found_faults, run_no_read_fault, script_found_faults}
 use Rattle.secvisor_cli.proofs.TopLemmas.{plan_fault, refused_same}
-use Rattle.cli_plans.proofs.WordLemmas.{NoReadFault}
+use Rattle.cli_plans.proofs.WordLemmas.{NoReadFault, resume_no_read_fault}
 use Rattle.cli_resume.specs.ResumePlans.{after_policy, behind_script, after_snapshot, contents_judged, events_after, resume_plan, resumed_due, snapshot_part, words_plan}
-use Rattle.cli_resume.specs.ResumeWords.{ResumeWords, resume_judged}
-use Rattle.cli_resume.proofs.WordLemmas.{resume_no_read_fault}
+use Rattle.cli_plans.specs.CommandLine.{ResumeWords, resume_judged}
 
 -- ---- words that are refused
 

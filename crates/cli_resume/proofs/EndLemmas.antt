@@ -12,7 +12,7 @@ use Rattle.snapshot_format.specs.declared.refusal.SnapRefusal.{SnapRefusal}
 use Rattle.snapshot_format.specs.declared.refusal.SnapRefusal.TheVariants.{TooLong}
 use Rattle.snapshot_resume.specs.ResumedStates.{resumed_state}
 use Rattle.snapshot_resume.specs.declared.refusal.ResumeRefusal.{ResumeRefusal}
-use Rattle.cli_plans.specs.CommandLine.{Source, Rounds, Auto, Bursts, Text}
+use Rattle.cli_plans.specs.CommandLine.{Source, Rounds, Auto, Bursts, Text, ResumeWords, resume_judged}
 use Rattle.secvisor_cli.specs.DueIn.{due_in}
 use Rattle.cli_plans.specs.Plans.{RunFrom, Plan, Judge, max_policy_bytes, max_script_bytes, part_judged, policy_judged, policy_part, script_part, text_part}
 use Rattle.cli_plans.specs.declared.file_fault.FileFault.{FileFault}
@@ -21,7 +21,6 @@ use Rattle.cli_plans.specs.declared.refusal.Refusal.{Refusal}
 use Rattle.secvisor_cli.proofs.DueLemmas.{due_held, run_ends}
 use Rattle.cli_resume.specs.ResumeEnds.{HoldPolicy, HoldResumable, HoldScript, HoldText, ResumeEndsLaw}
 use Rattle.cli_resume.specs.ResumePlans.{after_policy, behind_script, after_snapshot, contents_judged, events_after, resume_plan, resumed_due, snapshot_part, words_plan}
-use Rattle.cli_resume.specs.ResumeWords.{ResumeWords, resume_judged}
 
 -- ---- the snapshot
 
@@ -76,7 +75,7 @@ module _ (held : List ℕ → Option (List ℕ)) where
       ∙ script_due words.script rules.harts script (behind_script words s rules) it.events
       ∙ ap (λ (refusal : Option ResumeRefusal). resumed_due rules s (events_after s.events words.events script) words.save refusal) it.accepted
 
-plan_due : (held : List ℕ → Option (List ℕ)) (judged : Result ResumeWords Refusal) (words : ResumeWords) (s : Contents) (rules : Rules) (script : Schedule) → judged ≡ Ok words →
+pub plan_due : (held : List ℕ → Option (List ℕ)) (judged : Result ResumeWords Refusal) (words : ResumeWords) (s : Contents) (rules : Rules) (script : Schedule) → judged ≡ Ok words →
     HoldResumable held words s rules script → due_in held (resume_plan judged) ≡ RunFrom (resumed_state rules s) (events_after s.events words.events script) words.save
 unfolding resume_plan
 plan_due held judged words s rules script is it =

@@ -1,4 +1,3 @@
-pub mod WordLemmas
 pub mod SkipLemmas
 pub mod CountLemmas
 pub mod StageLemmas

@@ -1,4 +1,3 @@
-pub mod ResumeWords
 pub mod ResumePlans
 pub mod ResumeReady
 pub mod SnapAndResume

@@ -10,11 +10,10 @@ use Rattle.snapshot_format.specs.Snapshots.{Contents, snapshot_read}
 use Rattle.snapshot_resume.specs.Judgements.{resume_refusal}
 use Rattle.snapshot_resume.specs.ResumedStates.{resumed_state}
 use Rattle.secvisor_cli.specs.Answers.{Outside, Headline}
-use Rattle.cli_plans.specs.CommandLine.{Source, Rounds, Auto, Bursts, Text}
+use Rattle.cli_plans.specs.CommandLine.{Source, Rounds, Auto, Bursts, Text, ResumeWords, resume_judged}
 use Rattle.secvisor_cli.specs.DueIn.{AreReadWhole, EndsAs}
 use Rattle.cli_plans.specs.Plans.{max_policy_bytes, max_script_bytes}
 use Rattle.cli_resume.specs.ResumePlans.{resume_plan}
-use Rattle.cli_resume.specs.ResumeWords.{ResumeWords, resume_judged}
 use Rattle.cli_resume.specs.SnapAndResume.{resumed_end}
 
 -- a text that reads as a policy

@@ -13,7 +13,7 @@ use Rattle.cli_plans.specs.declared.file_fault.FileFault.{FileFault}
 use Rattle.cli_plans.specs.declared.file_fault.Part.{Part}
 use Rattle.cli_plans.specs.declared.refusal.Refusal.{Refusal}
 use Rattle.cli_plans.specs.declared.refusal.Refusal.TheVariants.{File}
-use Rattle.cli_resume.specs.ResumeWords.{ResumeWords}
+use Rattle.cli_plans.specs.CommandLine.{ResumeWords}
 
 -- ---- the snapshot
 
@@ -52,4 +52,4 @@ words_plan words = snapshot_part words.saved (after_snapshot words)
 
 unfoldable pub resume_plan : Result ResumeWords Refusal → Plan
 resume_plan (Err refusal) = End (Refuse refusal)
-resume_plan (Ok words) = words_plan words
+resume_plan (Ok words) = Judge (words_plan words)

@@ -7,10 +7,11 @@ ghost use Rattle.spec_processor.specs.Counters.{CanCount};
 ghost use Rattle.secvisor_cli.specs.Answers.{outside, Headline, Performs};
 ghost use Rattle.cli_plans.specs.Reading.{MayFollow, IsNamed, SavesUnder};
 ghost use Rattle.cli_resume.specs.ResumePlans.{resume_plan, words_plan};
-ghost use Rattle.cli_resume.specs.ResumeWords.{resume_judged, resume_value};
+ghost use Rattle.cli_plans.specs.CommandLine.{resume_judged};
+ghost use Rattle.cli_plans.specs.Words.{resume_value};
 
 use crate::ready::prepare_resume;
-use crate::words::{Resume, read_resume};
+use cli_plans::{Resume, Unread, ask_resume};
 use host_io::{Files, Sink};
 use secvisor_cli::{Bench, Status, Stop, Trouble, refuse, run_on_bench, status_of_end};
 use std::alloc::Global;
@@ -78,9 +79,10 @@ fn answer<R: Threads + Sync, F: Files, O: Sink>(
         (outside (F.state files.old) (O.state out.old) bench.old.machine)
         (outside (F.state files.new) (O.state out.new) bench.new.machine) result }
 {
-    match read_resume(words) {
+    match ask_resume(alloc, words) {
         Ok(resume) => answer_resume(rt, alloc, &resume, files, out, bench),
-        Err(refusal) => refuse(alloc, &refusal, out),
+        Err(Unread::Refused(refusal)) => refuse(alloc, &refusal, out),
+        Err(Unread::Memory) => Err(Trouble::Memory),
     }
 }
 

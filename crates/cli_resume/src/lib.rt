@@ -6,7 +6,6 @@ mod laws;
 mod ready;
 mod skipping;
 mod snapshot_file;
-mod words;
 
 pub use answer::secvisor_resume;
 pub use laws::{law_resume_ends, law_snap_and_resume};

@@ -7,13 +7,12 @@ ghost use Rattle.snapshot_resume.specs.Judgements.{resume_refusal};
 ghost use Rattle.snapshot_format.specs.Snapshots as form;
 ghost use Rattle.cli_resume.specs.ResumePlans.{events_after, resumed_due, words_plan};
 ghost use Rattle.cli_resume.specs.ResumeReady.{IsMachine, IsResumed, Resumes};
-ghost use Rattle.cli_resume.specs.ResumeWords.{resume_value};
+ghost use Rattle.cli_plans.specs.Words.{resume_value};
 ghost use Rattle.spec_processor.specs.Counters.{CanCount};
 
 use crate::skipping::events_left;
 use crate::snapshot_file::read_snapshot;
-use crate::words::Resume;
-use cli_plans::{FileFault, Refusal};
+use cli_plans::{FileFault, Refusal, Resume};
 use host_io::Files;
 use machine::{Machine, ResumeFailure};
 use script::Script;

@@ -1,4 +1,3 @@
-pub mod WordLemmas
 pub mod AnswerLemmas
 pub mod LineLists
 pub mod PageLists

@@ -1,5 +1,5 @@
 -- How `show` ends: what it wrote, how it asked the files, and its status. This project's own.
-use Rattle.std.specs.Prelude.{◌≡◌, ℕ, List, [], ◌∷◌, IsTrue, Option, Some, None, Result, Ok, Err, IsErrOf, Vec}
+use Rattle.std.specs.Prelude.{◌≡◌, ◌<◌, ◌⊎◌, ℕ, List, [], ◌∷◌, IsTrue, Option, Some, None, Result, Ok, Err, IsErrOf, Vec}
 use Rattle.std.specs.declared.alloc.Global.{Global}
 use Rattle.sv_types.specs.declared.status.Status.{Status}
 use Rattle.host_io.specs.declared.FileRefusal.{FileRefusal}
@@ -41,10 +41,14 @@ pub record ShowsFile (name : List ℕ) (files read : FilesState) (old new : Sink
   pub leaves : ReadLeaves files read name max_snapshot_bytes found
   pub ends : EndsAfter found old new result
 
+-- memory ran out before the file was read
+abbrev pub Wants : FilesState → FilesState → SinkState → SinkState → Result Status Trouble → Type 0
+Wants files read old new result = IsErrOf result Memory × (read ≡ files) × (new ≡ old)
+
 -- words of no command read no file
 abbrev pub Shows : Option (List ℕ) → FilesState → FilesState → SinkState → SinkState → Result Status Trouble → Type 0
 Shows None files read old new result = (read ≡ files) × Refuses NoCommand old new result
-Shows (Some name) files read old new result = ShowsFile name files read old new result
+Shows (Some name) files read old new result = Wants files read old new result ⊎ ShowsFile name files read old new result
 
 -- the same by its status
 pub record Headline (name : Option (List ℕ)) (files read : FilesState) (old new : SinkState) (answer : Status) : Type 0 where
@@ -63,3 +67,8 @@ pub record Answers (due : Due) (old new : SinkState) (answer : Status) : Type 0 
 abbrev pub MayAsk : Option (List ℕ) → FilesState → Type 0
 MayAsk None files = Unit {0}
 MayAsk (Some name) files = IsTrue (files.permits ((name, max_snapshot_bytes) ∷ []))
+
+-- Where a snapshot's text is due, the answer is 0; or a write failed, which is counted; or memory ran out.
+abbrev pub ShowEnds : Type 0
+ShowEnds = (text : List ℕ) (old new : SinkState) (answer : Status) → Answers (Ok text) old new answer →
+    (answer ≡ Status.Done) ⊎ (((answer ≡ Status.WriteFault) × (old.faults < new.faults)) ⊎ (answer ≡ Status.Memory))

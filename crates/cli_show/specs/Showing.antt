@@ -1,26 +1,25 @@
 -- What `show` owes to what is asked of it: the text of a snapshot's file, or the line that says why there is none. This
 -- project's own.
-use Rattle.std.specs.Prelude.{ℕ, ◌&&◌, not, List, [], ◌∷◌, ◌++◌, Option, Some, None, Result, Ok, Err, codes, if◌then◌else◌}
-use Rattle.std.specs.Str.{bytes_eq}
+use Rattle.std.specs.Prelude.{ℕ, List, ◌++◌, Option, Some, None, Result, Ok, Err, codes}
 use Rattle.sv_types.specs.Output.{line_end}
 use Rattle.sv_types.specs.declared.status.Status.{Status}
 use Rattle.snapshot_format.specs.Snapshots.{Contents, snapshot_read}
 use Rattle.snapshot_format.specs.declared.refusal.SnapRefusal.{SnapRefusal}
 use Rattle.cli_show.specs.SnapshotTexts.{snapshot_text}
-use Rattle.cli_words.specs.Commands.{has_dash}
+use Rattle.cli_plans.specs.declared.refusal.Refusal.{Refusal}
+use Rattle.cli_plans.specs.CommandLine.{show_judged}
 use Rattle.cli_show.specs.declared.refusal.ShowRefusal.{ShowRefusal}
 use Rattle.cli_show.specs.declared.refusal.ShowRefusal.TheVariants.{NoCommand, ReadFault, NoSnapshot}
 
 -- ---- show SNAPSHOT
 
--- a word that begins with a dash is no name
-abbrev pub name_after : (command name : List ℕ) → Option (List ℕ)
-name_after command name = if bytes_eq command (codes "show") && not (has_dash name) then Some name else None
+abbrev pub name_of : Result (List ℕ) Refusal → Option (List ℕ)
+name_of (Ok name) = Some name
+name_of (Err refusal) = None
 
 -- the name of the file, where the words are those of the command
 abbrev pub name_in : List (List ℕ) → Option (List ℕ)
-name_in (command ∷ name ∷ []) = name_after command name
-name_in _ = None
+name_in words = name_of (show_judged words)
 
 -- ---- what is due
 

@@ -9,7 +9,7 @@ ghost use Rattle.cli_show.specs.Answers.{Ends, Refuses, ShowsFile, Shows, Headli
 
 use crate::refusal::ShowRefusal;
 use crate::whole::snapshot_text;
-use crate::words::name_in;
+use cli_plans::{Unread, ask_show};
 use host_io::{FileRefusal, Files, Sink, Trouble, status_of_end, write_all};
 use snapshot_format::{SnapRefusal, Snapshot};
 use snapshot_reader::{MAX_SNAPSHOT_BYTES, ReadError, read};
@@ -56,9 +56,10 @@ fn answer<F: Files, O: Sink>(
     requires reads { CanCount (F.state files.old).read_faults }
     ensures { Shows (spec.name_in (map string_bytes words.now)) (F.state files.old) (F.state files.new) (O.state out.old) (O.state out.new) result }
 {
-    match name_in(words) {
-        Some(name) => show_file(alloc, name, files, out),
-        None => refuse(ShowRefusal::NoCommand, out),
+    match ask_show(alloc, words) {
+        Ok(name) => show_file(alloc, name, files, out),
+        Err(Unread::Refused(_)) => refuse(ShowRefusal::NoCommand, out),
+        Err(Unread::Memory) => Err(Trouble::Memory),
     }
 }
 

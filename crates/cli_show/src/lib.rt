@@ -4,11 +4,12 @@
 mod answer;
 mod devices;
 mod harts;
+mod laws;
 mod lines;
 mod modules;
 mod pages;
 mod refusal;
 mod whole;
-mod words;
 
 pub use answer::secvisor_show;
+pub use laws::law_show_ends;

@@ -13,17 +13,16 @@ use Rattle.policy.specs.Refusals.{Judged}
 use Rattle.policy.specs.Text.{rules_of_text}
 use Rattle.spec_reference.specs.States.{State, has_number}
 use Rattle.script.specs.AutoScripts.{events_of_text, first_refused}
-use Rattle.cli_words.specs.Commands.{RunSplit, has_dash, shape_split, split_words}
+use Rattle.cli_words.specs.Commands.{RunSplit, has_dash, named_shape, named_words}
 use Rattle.cli_words.specs.declared.command.DiskKind.{DiskKind}
-use Rattle.cli_plans.specs.CommandLine.{RunWords, Source, Rounds, Auto, Bursts, Text, judgement_of_words, run_words, source_of, split_judged, unless_none}
+use Rattle.cli_plans.specs.CommandLine.{RunWords, Source, Rounds, Auto, Bursts, Text, judgement_of_words, run_words, source_of, command_after, named_judged, snap_after, unless_none, SnapWords, block_run, snap_judged, snap_words}
 use Rattle.secvisor_cli.specs.DueIn.{due_in}
-use Rattle.cli_plans.specs.Plans.{Due, Refuse, RunFrom, Make, Plan, Found, Faulty, Missing, Longer, Held, boot_judged, boot_plan, command_plan, disk_part, disk_refusal, found_plan, image_measure, image_plan, kernel_part, part_judged, plan_of, policy_judged, policy_part, run_plan, script_part, start_with, text_part}
+use Rattle.cli_plans.specs.Plans.{Due, Refuse, RunFrom, Make, Plan, Found, Faulty, Missing, Longer, Held, boot_judged, boot_plan, command_plan, disk_part, disk_refusal, found_plan, image_measure, image_plan, kernel_part, part_judged, plan_of, policy_judged, policy_part, run_plan, script_part, start_with, text_part, snap_plan}
 use Rattle.cli_plans.specs.declared.file_fault.FileFault.{FileFault}
 use Rattle.cli_plans.specs.declared.file_fault.Part.{Part}
 use Rattle.cli_plans.specs.declared.refusal.Refusal.{Refusal}
 use Rattle.cli_plans.specs.declared.refusal.Refusal.TheVariants.{NoCommand, Measure, Entry}
 use Rattle.cli_snap.specs.SnapEnds.{IsAccepted, SnapLine, run_line, snap_line}
-use Rattle.cli_snap.specs.SnapWords.{SnapWords, block_run, snap_judged, snap_plan, snap_shape, snap_words}
 
 -- ---- the plan but for the save
 
@@ -146,15 +145,15 @@ words_by held line save (Some source) (Some count) start events kept words due =
 
 undashed : (line : SnapLine) → list_any has_dash (snap_line line) ≡ false →
     snap_judged (snap_line line) ≡ snap_words line.image line.policy line.disk line.out (source_of line.script) (number_within 0 max_events line.events)
-unfolding snap_judged
-undashed line none = ap (λ (b : Bool). if b then Err NoCommand else snap_shape (snap_line line)) none
+unfolding snap_judged named_words
+undashed line none = ap (λ (b : Bool). named_judged snap_after (if b then None else named_shape (snap_line line))) none
 
 no_run : (held : List ℕ → Option (List ℕ)) (refusal : Refusal) (start : State) (events : List Event) (kept : Option (List ℕ)) → due_in held (plan_of (Err refusal)) ≡ RunFrom start events kept → ⊥
 unfolding plan_of
 no_run held refusal start events kept is = cc is
 
 line_by : (held : List ℕ → Option (List ℕ)) (line : SnapLine) (save : List ℕ) (dashed : Bool) (start : State) (events : List Event) (kept : Option (List ℕ)) → has_dash line.out ≡ false →
-    list_any has_dash (run_line line save) ≡ dashed → due_in held (plan_of (split_judged (if dashed then None else shape_split (run_line line save)))) ≡ RunFrom start events kept →
+    list_any has_dash (run_line line save) ≡ dashed → due_in held (plan_of (named_judged command_after (if dashed then None else named_shape (run_line line save)))) ≡ RunFrom start events kept →
     SnapAccepted held line start events
 line_by held line save true start events kept good any due = absurd (no_run held NoCommand start events kept due)
 line_by held line save false start events kept good any due =
@@ -162,5 +161,5 @@ line_by held line save false start events kept good any due =
     words_by held line save (source_of line.script) (number_within 0 max_events line.events) start events kept (undashed line none) due
 
 pub snap_accepted : (held : List ℕ → Option (List ℕ)) (line : SnapLine) (start : State) (events : List Event) → has_dash line.out ≡ false → IsAccepted held line start events → SnapAccepted held line start events
-unfolding judgement_of_words split_words
+unfolding judgement_of_words named_words
 snap_accepted held line start events good it = line_by held line it.save (list_any has_dash (run_line line it.save)) start events it.kept good refl it.due

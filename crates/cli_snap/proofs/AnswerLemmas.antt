@@ -1,5 +1,6 @@
 -- From what is ready of `snap` to what is answered.
-use Rattle.std.proofs.Common.{◌≡◌, ℕ, List, [], ◌∷◌, IsTrue, refl, sym, subst, Option, Some, None, Result, Ok, Err, IsErrOf}
+use Rattle.std.proofs.Common.{◌≡◌, ℕ, List, [], ◌∷◌, IsTrue, refl, sym, subst, Option, Some, None, Result, Ok, Err, IsErrOf, inl, inr}
+use Rattle.std.specs.Result.{is_ok}
 use Rattle.sv_types.specs.Schedule.{first_events}
 use Rattle.sv_types.specs.declared.event.Event.{Event}
 use Rattle.sv_types.specs.declared.status.Status.{Status}
@@ -8,7 +9,7 @@ use Rattle.spec_hardware.specs.Machine.{Machine}
 use Rattle.spec_hardware.specs.Reaches.{IsNew}
 use Rattle.host_io.specs.Outside.{FilesState, SinkState, MaySaveUnder}
 use Rattle.secvisor_cli.specs.Answers.{Outside, outside, Writes, WritesAndSaves}
-use Rattle.cli_plans.specs.Plans.{Due, Refuse, RunFrom, Make, Plan, run_plan}
+use Rattle.cli_plans.specs.Plans.{Due, Refuse, RunFrom, Make, Plan, run_plan, snap_plan}
 use Rattle.cli_plans.specs.Reading.{MayFollow}
 use Rattle.secvisor_cli.specs.Ready.{IsFresh}
 use Rattle.cli_plans.specs.Refusals.{refusal_line, refusal_status, takes_memory}
@@ -21,8 +22,8 @@ use Rattle.host_io.specs.declared.trouble.Trouble.TheVariants.{Memory}
 use Rattle.secvisor_cli.proofs.TopLemmas.{refused_writes}
 use Rattle.cli_plans.proofs.PlanLemmas.{may_follow}
 use Rattle.cli_snap.specs.SnapAnswers.{RunsSnap, AnswersSnapReached, PerformsRun, PerformsSnap}
-use Rattle.cli_snap.specs.SnapReady.{StartsBlock, IsPreparedRunWhere, Boots}
-use Rattle.cli_snap.specs.SnapWords.{SnapWords, snap_plan, out_of, snap_judged}
+use Rattle.cli_snap.specs.SnapReady.{StartsBlock, IsPreparedRunWhere, Boots, out_of}
+use Rattle.cli_plans.specs.CommandLine.{SnapWords, snap_judged}
 
 -- ---- what is ready
 
@@ -103,7 +104,15 @@ name_may words value files is may = subst (λ (j : Result SnapWords Refusal). Ma
 pub words_performed : (words : Result SnapWords Refusal) (value : SnapWords) (old new : Outside) (result : Result Status Trouble) → words ≡ Ok value →
     PerformsRun (run_plan value.run) value.out old new result → PerformsSnap words old new result
 unfolding snap_plan
-words_performed words value old new result is it = subst (λ (j : Result SnapWords Refusal). PerformsSnap j old new result) (sym is) it
+words_performed words value old new result is it =
+    subst (λ (j : Result SnapWords Refusal). PerformsSnap j old new result) (sym is)
+    (record { reached = it.reached; read = it.read; follows = inr it.follows; answers = it.answers })
+
+-- memory ran out for words that are good
+pub words_want : (words : Result SnapWords Refusal) (old : Outside) → IsTrue (is_ok words) → PerformsSnap words old old (Err Memory)
+unfolding snap_plan
+words_want (Ok words) old good = record { reached = None; read = old.files; follows = inl (refl, refl); answers = (refl, refl) }
+words_want (Err refusal) old good = absurd (cc good)
 
 -- where all names may be asked for and saved under
 pub snap_follows : (words : List (List ℕ)) (files : FilesState) → ((asked : List (List ℕ × ℕ)) → IsTrue (files.permits asked)) →

@@ -8,7 +8,7 @@ use Rattle.spec_reference.specs.States.{State}
 use Rattle.host_io.specs.Outside.{FilesState, SinkState}
 use Rattle.secvisor_cli.specs.Answers.{Outside, outside, Writes}
 use Rattle.host_io.specs.Endings.{status_of_end}
-use Rattle.cli_plans.specs.Plans.{Due, Refuse, RunFrom, Make, Plan}
+use Rattle.cli_plans.specs.Plans.{Due, Refuse, RunFrom, Make, Plan, snap_plan}
 use Rattle.cli_plans.specs.Reading.{Follows}
 use Rattle.cli_plans.specs.declared.refusal.Refusal.{Refusal}
 use Rattle.host_io.specs.declared.trouble.Trouble.{Trouble}
@@ -17,10 +17,10 @@ use Rattle.cli_plans.proofs.PlanLemmas.{HasFault, HasFoundFaults, follows_keeps}
 use Rattle.secvisor_cli.proofs.SaveLemmas.{changes, ChangesOut, changes_none, writes_faults}
 use Rattle.cli_plans.proofs.FoundFaults.{run_found_faults}
 use Rattle.secvisor_cli.proofs.TopLemmas.{EffectOut, effect_out, refused_fault}
-use Rattle.cli_plans.proofs.WordLemmas.{NoReadFault}
+use Rattle.cli_plans.proofs.WordLemmas.{NoReadFault, snap_no_read_fault}
 use Rattle.cli_snap.specs.SnapAnswers.{saving_of, SavesMade, SavesSnapshot, RunsSnap, AnswersSnapReached, PerformsSnap}
-use Rattle.cli_snap.specs.SnapWords.{SnapWords, snap_judged, snap_plan, out_of}
-use Rattle.cli_snap.proofs.WordLemmas.{snap_no_read_fault}
+use Rattle.cli_plans.specs.CommandLine.{SnapWords, snap_judged}
+use Rattle.cli_snap.specs.SnapReady.{out_of}
 
 -- ---- the sink
 

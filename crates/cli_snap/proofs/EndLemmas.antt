@@ -8,7 +8,7 @@ use Rattle.host_io.specs.Outside.{FilesState, after_taking}
 use Rattle.secvisor_cli.specs.Answers.{Outside, outside, Writes}
 use Rattle.host_io.specs.Endings.{status_of_end}
 use Rattle.secvisor_cli.specs.DueIn.{due_in, AreReadWhole}
-use Rattle.cli_plans.specs.Plans.{Due, RunFrom, Plan}
+use Rattle.cli_plans.specs.Plans.{Due, RunFrom, Plan, snap_plan}
 use Rattle.cli_plans.specs.Reading.{Follows}
 use Rattle.cli_plans.specs.declared.refusal.Refusal.{Refusal}
 use Rattle.host_io.specs.declared.trouble.Trouble.{Trouble}
@@ -17,7 +17,7 @@ use Rattle.secvisor_cli.proofs.DueLemmas.{comes_to_due, ends_after}
 use Rattle.cli_plans.proofs.PlanLemmas.{Keeps, follows_keeps}
 use Rattle.cli_snap.specs.SnapAnswers.{AnswersSnapReached, PerformsSnap, RunsSnap, SavesMade, SavesSnapshot, SnapHeadline}
 use Rattle.cli_snap.specs.SnapEnds.{SnapEnds, SnapEndsLaw}
-use Rattle.cli_snap.specs.SnapWords.{SnapWords, snap_plan}
+use Rattle.cli_plans.specs.CommandLine.{SnapWords}
 use Rattle.cli_snap.proofs.AcceptedLemmas.{SnapAccepted, snap_accepted}
 use Rattle.cli_snap.proofs.ClauseLemmas.{reached_changes}
 

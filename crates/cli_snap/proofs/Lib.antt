@@ -10,4 +10,3 @@ pub mod FileHolds
 pub mod ReadyLemmas
 pub mod RunLemmas
 pub mod SaveLemmas
-pub mod WordLemmas

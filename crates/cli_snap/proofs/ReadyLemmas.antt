@@ -1,5 +1,5 @@
 -- What is made ready of `snap`, from what is made ready of a run.
-use Rattle.std.proofs.Common.{◌≡◌, ℕ, List, [], true, false, refl, sym, subst, inl, inr, Option, Some, None, Ok, Err}
+use Rattle.std.proofs.Common.{◌≡◌, ℕ, List, [], true, false, refl, sym, subst, inl, inr, Option, Some, None, Result, Ok, Err}
 use Rattle.std.specs.Prelude.{if◌then◌else◌}
 use Rattle.std.specs.Str.{bytes_eq}
 use Rattle.std.proofs.lemmas.Option.{same_Some}
@@ -18,12 +18,11 @@ use Rattle.laws_resume.specs.DiskKinds.{is_block_disk}
 use Rattle.cli_plans.specs.CommandLine.{RunWords, Source, Rounds, Auto, Bursts, Text}
 use Rattle.cli_plans.specs.Plans.{Due, Refuse, RunFrom, Make, Plan, End, Read, Judge, Found, Faulty, Missing, Longer, Held, found_plan, policy_judged, policy_part, part_judged, kernel_part, disk_refusal, disk_part, text_part, script_part, image_measure, start_with, boot_judged, boot_plan, image_plan, run_plan}
 use Rattle.cli_plans.specs.Reading.{Follows}
-use Rattle.secvisor_cli.specs.Ready.{IsReadyWhere, Prepares}
+use Rattle.secvisor_cli.specs.Ready.{IsReadyWhere, Prepares, run_ready}
 use Rattle.cli_plans.specs.declared.file_fault.FileFault.{FileFault}
 use Rattle.cli_plans.specs.declared.file_fault.Part.{Part}
 use Rattle.secvisor_cli.specs.declared.ready.PreparedRun.{PreparedRun}
-use Rattle.secvisor_cli.specs.declared.ready.Made.{Made}
-use Rattle.secvisor_cli.specs.declared.ready.Ready.TheVariants.{Run, Save}
+use Rattle.secvisor_cli.specs.declared.ready.Ready.TheVariants.{Run}
 use Rattle.secvisor_cli.specs.declared.ready.Stop.{Stop}
 use Rattle.secvisor_cli.specs.declared.ready.Stop.TheVariants.{Refused, Memory}
 use Rattle.cli_plans.specs.declared.refusal.Refusal.TheVariants.{Measure, Entry}
@@ -137,18 +136,13 @@ stopped_where (Some (Refuse refusal)) Memory it = absurd it
 stopped_where (Some (RunFrom start events save)) Memory it = absurd it
 stopped_where (Some (Make name rules line)) Memory it = absurd it
 
-made_where : (reached : Option Due) (made : Made) → ReachedBlock reached → IsReadyWhere reached (Ok (Save made)) → ⊥
-made_where None made block it = cc it
-made_where (Some (Refuse refusal)) made block it = it
-made_where (Some (RunFrom start events save)) made block it = it
-made_where (Some (Make name rules line)) made block it = block
-
-pub run_boots : (words : RunWords) (old new : FilesState) (booted : PreparedRun) → words.kind ≡ DiskKind.Block → Prepares (run_plan words) old new (Ok (Run booted)) → Boots (run_plan words) old new (Ok booted)
+run_boots : (words : RunWords) (old new : FilesState) (booted : PreparedRun) → words.kind ≡ DiskKind.Block → Prepares (run_plan words) old new (Ok (Run booted)) → Boots (run_plan words) old new (Ok booted)
 run_boots words old new booted is p =
     record { reached = p.reached; follows = p.follows; ready = booted_where p.reached booted (reached_block words old new p.reached is p.follows) p.ready }
 
-pub run_stops : (plan : Plan) (old new : FilesState) (stop : Stop) → Prepares plan old new (Err stop) → Boots plan old new (Err stop)
+run_stops : (plan : Plan) (old new : FilesState) (stop : Stop) → Prepares plan old new (Err stop) → Boots plan old new (Err stop)
 run_stops plan old new stop p = record { reached = p.reached; follows = p.follows; ready = stopped_where p.reached stop p.ready }
 
-pub makes_none : (words : RunWords) (old new : FilesState) (made : Made) → words.kind ≡ DiskKind.Block → Prepares (run_plan words) old new (Ok (Save made)) → ⊥
-makes_none words old new made is p = made_where p.reached made (reached_block words old new p.reached is p.follows) p.ready
+pub run_booted : (words : RunWords) (old new : FilesState) (result : Result PreparedRun Stop) → words.kind ≡ DiskKind.Block → Prepares (run_plan words) old new (run_ready result) → Boots (run_plan words) old new result
+run_booted words old new (Ok booted) is p = run_boots words old new booted is p
+run_booted words old new (Err stop) is p = run_stops (run_plan words) old new stop p

@@ -1,7 +1,7 @@
 -- The run of `snap`: the console's bytes and nothing else.
-use Rattle.std.proofs.Common.{◌≡◌, ℕ, suc, ◌<◌, ◌≤◌, ◌^◌, List, [], ◌∷◌, ◌++◌, length, true, refl, sym, ◌∙◌, ap, subst, arith, Result, Ok, Err, OnOk}
+use Rattle.std.proofs.Common.{◌≡◌, ℕ, suc, ◌<◌, ◌≤◌, ◌^◌, List, [], ◌∷◌, ◌++◌, length, true, refl, sym, ◌∙◌, ap, subst, arith, inl, inr, Result, Ok, Err, OnOk, IsErrOf, IsFalse}
 use Rattle.std.proofs.lemmas.List.{append-nil}
-use Rattle.sv_types.specs.Limits.{max_events}
+use Rattle.sv_types.specs.Limits.{max_events, max_printed}
 use Rattle.sv_types.specs.Schedule.{Schedule, first_events}
 use Rattle.sv_types.specs.declared.event.Counts.{Counts}
 use Rattle.sv_types.specs.declared.event.Event.{Event}
@@ -21,8 +21,8 @@ use Rattle.laws_resume.proofs.KindsStay.{kind_law}
 use Rattle.laws_resume.specs.DiskKinds.{is_block_disk}
 use Rattle.laws_resume.specs.EventCounts.{events_counted}
 use Rattle.host_io.specs.Outside.{SinkState, after_taking, TookPrefix, BreaksOff}
-use Rattle.host_io.proofs.SinkLemmas.{after_taking-append, after_taking-nil, prefix_after, prefix_of_front, prefix_same, prefix_whole, prefix_none}
-use Rattle.machine.specs.Console.{HasRun, RunBroke}
+use Rattle.host_io.proofs.SinkLemmas.{after_taking-append, prefix_after, prefix_of_front, prefix_same, prefix_whole}
+use Rattle.machine.specs.Console.{flush_is_due, HasRun, RunBroke}
 use Rattle.machine.specs.Standing.{HasState}
 use Rattle.machine.proofs.Standing.{stands_new, stands_printed, cleared_none}
 use Rattle.secvisor_cli.specs.Answers.{Writes}
@@ -75,8 +75,8 @@ none_left left none (Ok status) = none
 none_left left none (Err trouble) = tt
 
 ran_at : (first : Machine) (start : State) (events : List Event) (m : Machine) (old mid new : SinkState) (written : Result Status Trouble) → IsNew first start → HasRun first start events m old mid →
-    TookPrefix mid new m.journal.printed → StandsAfter start events m old new written
-ran_at first start events m old mid new written is_new ran prefix = record {
+    length m.journal.printed < max_printed → IsFalse (flush_is_due m.journal.printed) → (IsErrOf written Memory → ⊥) → TookPrefix mid new m.journal.printed → StandsAfter start events m old new written
+ran_at first start events m old mid new written is_new ran room undue never prefix = record {
   done = events;
   left = [];
   split = append-nil events;
@@ -85,16 +85,17 @@ ran_at first start events m old mid new written is_new ran prefix = record {
   stands = ran.stands;
   first = first;
   reaches = record { new = is_new; chain = ran.chain };
-  rest = subst (λ (k : SinkState). TookPrefix k new m.journal.printed) ran.taken prefix;
+  rest = inl (refl, room, undue, subst (λ (k : SinkState). TookPrefix k new m.journal.printed) ran.taken prefix);
+  quiet = λ w. absurd (never w);
 }
 
 pub ran_stands : (first : Machine) (start : State) (events : List Event) (m : Machine) (old mid new : SinkState) → IsNew first start → HasRun first start events m old mid →
-    new ≡ after_taking mid m.journal.printed → StandsAfter start events m old new (Ok Status.Done)
-ran_stands first start events m old mid new is_new ran whole = ran_at first start events m old mid new (Ok Status.Done) is_new ran (prefix_whole mid new m.journal.printed whole)
+    length m.journal.printed < max_printed → IsFalse (flush_is_due m.journal.printed) → new ≡ after_taking mid m.journal.printed → StandsAfter start events m old new (Ok Status.Done)
+ran_stands first start events m old mid new is_new ran room undue whole = ran_at first start events m old mid new (Ok Status.Done) is_new ran room undue (λ w. cc w) (prefix_whole mid new m.journal.printed whole)
 
 pub last_broke_stands : (first : Machine) (start : State) (events : List Event) (m : Machine) (old mid new : SinkState) → IsNew first start → HasRun first start events m old mid →
-    BreaksOff mid new m.journal.printed → StandsAfter start events m old new (Err Write)
-last_broke_stands first start events m old mid new is_new ran broke = ran_at first start events m old mid new (Err Write) is_new ran broke.prefix
+    length m.journal.printed < max_printed → IsFalse (flush_is_due m.journal.printed) → BreaksOff mid new m.journal.printed → StandsAfter start events m old new (Err Write)
+last_broke_stands first start events m old mid new is_new ran room undue broke = ran_at first start events m old mid new (Err Write) is_new ran room undue (λ w. cc w) broke.prefix
 
 pub run_broke_stands : (first : Machine) (start : State) (events : List Event) (m : Machine) (old new : SinkState) → IsNew first start → RunBroke first start events m old new →
     StandsAfter start events m old new (Err Write)
@@ -107,7 +108,8 @@ run_broke_stands first start events m old new is_new b = record {
   stands = b.stands;
   first = first;
   reaches = record { new = is_new; chain = b.chain };
-  rest = b.broke.prefix;
+  rest = inr (inl (b.room, b.due, b.broke));
+  quiet = λ w. absurd (cc w);
 }
 
 -- before the first event
@@ -121,7 +123,8 @@ new_stands m start events sink is_new = record {
   stands = stands_new m start is_new;
   first = m;
   reaches = record { new = is_new; chain = cleared_none m };
-  rest = subst (λ (k : SinkState). TookPrefix k sink m.journal.printed) (sym (after_taking-nil sink)) (prefix_none sink m.journal.printed);
+  rest = inr (inr (refl, refl));
+  quiet = λ w. refl;
 }
 
 -- ---- what the snapshot needs of it

@@ -4,5 +4,4 @@ pub mod SnapAnswers
 pub mod SnapEnds
 pub mod SnapFile
 pub mod SnapReady
-pub mod SnapWords
 pub mod Encoding

@@ -1,6 +1,6 @@
 -- What `snap` owes to what is asked of it: the console's bytes of a run, and the machine after it as a snapshot. This project's
 -- own.
-use Rattle.std.specs.Prelude.{◌≡◌, ◌⊎◌, ℕ, List, [], ◌++◌, Option, Some, None, Result, Ok, Err, OnOk, IsErrOf}
+use Rattle.std.specs.Prelude.{◌≡◌, ◌<◌, ◌≤◌, ◌⊎◌, ℕ, List, [], ◌++◌, length, IsTrue, IsFalse, Option, Some, None, Result, Ok, Err, OnOk, IsErrOf}
 use Rattle.sv_types.specs.declared.event.Event.{Event}
 use Rattle.sv_types.specs.declared.status.Status.{Status}
 use Rattle.spec_reference.specs.Run.{run}
@@ -10,16 +10,19 @@ use Rattle.spec_hardware.specs.Reaches.{Reaches}
 use Rattle.snapshot_format.specs.Snapshots.{contents, snapshot}
 use Rattle.snapshot_format.specs.declared.whole.Snapshot.{Snapshot}
 use Rattle.laws_resumed_start.specs.SnapLaws.{IsSnapshotOf}
-use Rattle.host_io.specs.Outside.{FilesState, SinkState, after_taking, TookPrefix}
+use Rattle.host_io.specs.Outside.{FilesState, SinkState, after_taking, BreaksOff, TookPrefix}
 use Rattle.machine.specs.Standing.{Stands}
+use Rattle.machine.specs.Console.{flush_is_due}
+use Rattle.sv_types.specs.Limits.{max_printed}
 use Rattle.secvisor_cli.specs.Answers.{Outside, outside, Writes, SavedAfter, WritesAndSaves}
 use Rattle.host_io.specs.Endings.{status_of_end}
-use Rattle.cli_plans.specs.Plans.{Due, Refuse, RunFrom, Make, Saving, Exactly, Plan}
+use Rattle.cli_plans.specs.Plans.{Due, Refuse, RunFrom, Make, Saving, Exactly, Plan, snap_plan}
 use Rattle.cli_plans.specs.Reading.{Follows}
 use Rattle.cli_plans.specs.declared.refusal.Refusal.{Refusal}
 use Rattle.host_io.specs.declared.trouble.Trouble.{Trouble}
 use Rattle.host_io.specs.declared.trouble.Trouble.TheVariants.{Memory}
-use Rattle.cli_snap.specs.SnapWords.{SnapWords, out_of, snap_plan}
+use Rattle.cli_plans.specs.CommandLine.{SnapWords}
+use Rattle.cli_snap.specs.SnapReady.{out_of}
 
 -- ---- the snapshot
 
@@ -41,7 +44,9 @@ SavesSnapshot start events name old new (Ok status) saved = SavesMade start even
 -- ---- the machine
 
 -- The machine stands after some of the events, and after all of them where the console's bytes were written, to which it came
--- from one that had just started. Of the bytes that it still has the sink took a prefix.
+-- from one that had just started. Either all events were made, fewer than 4,096 bytes of its console weren't taken before,
+-- which don't end with a line feed, and of these the sink took a prefix; or a write of the console failed, of 4,096 bytes or of
+-- fewer that end with a line feed; or memory ran out before the first event.
 pub record StandsAfter (start : State) (events : List Event) (machine : Machine) (old new : SinkState) (written : Result Status Trouble) : Type 0 where
   pub done : List Event
   pub left : List Event
@@ -51,7 +56,14 @@ pub record StandsAfter (start : State) (events : List Event) (machine : Machine)
   pub stands : Stands machine cleared (run start done)
   pub first : Machine
   pub reaches : Reaches first start done machine
-  pub rest : TookPrefix (after_taking old cleared) new machine.journal.printed
+  pub rest :
+      ((left ≡ []) × (length machine.journal.printed < max_printed) × IsFalse (flush_is_due machine.journal.printed)
+      × TookPrefix (after_taking old cleared) new machine.journal.printed)
+      ⊎ (((length machine.journal.printed ≤ max_printed) × IsTrue (flush_is_due machine.journal.printed)
+      × BreaksOff (after_taking old cleared) new machine.journal.printed)
+      ⊎ (IsErrOf written Memory × (done ≡ [])))
+  -- nothing is written where memory ran out
+  pub quiet : IsErrOf written Memory → new ≡ old
 
 -- ---- the answer
 

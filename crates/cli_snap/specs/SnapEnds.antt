@@ -9,12 +9,11 @@ use Rattle.snapshot_format.specs.declared.whole.Snapshot.{Snapshot}
 use Rattle.cli_words.specs.Commands.{has_dash}
 use Rattle.host_io.specs.Outside.{after_taking}
 use Rattle.secvisor_cli.specs.Answers.{Outside}
-use Rattle.cli_plans.specs.CommandLine.{judgement_of_words}
+use Rattle.cli_plans.specs.CommandLine.{judgement_of_words, snap_judged}
 use Rattle.secvisor_cli.specs.DueIn.{due_in, AreReadWhole, EndsAs}
 use Rattle.cli_plans.specs.Plans.{RunFrom, plan_of}
 use Rattle.laws_resumed_start.specs.SnapLaws.{IsSnapshotOf}
 use Rattle.cli_snap.specs.SnapAnswers.{SnapHeadline}
-use Rattle.cli_snap.specs.SnapWords.{snap_judged}
 
 -- ---- the words
 

@@ -1,11 +1,13 @@
 -- What is made ready of `snap`, before anything is written.
-use Rattle.std.specs.Prelude.{◌≡◌, true, Option, Some, None, Result, Ok, Err, IsErrOf}
+use Rattle.std.specs.Prelude.{◌≡◌, ℕ, List, [], true, Option, Some, None, Result, Ok, Err, IsErrOf}
 use Rattle.sv_types.specs.Schedule.{first_events}
 use Rattle.spec_reference.specs.States.{State}
 use Rattle.spec_hardware.specs.Machine.{Machine}
 use Rattle.spec_hardware.specs.Reaches.{IsNew}
 use Rattle.host_io.specs.Outside.{FilesState}
 use Rattle.laws_resume.specs.DiskKinds.{is_block_disk}
+use Rattle.cli_plans.specs.declared.refusal.Refusal.{Refusal}
+use Rattle.cli_plans.specs.CommandLine.{SnapWords}
 use Rattle.cli_plans.specs.Plans.{Due, Refuse, RunFrom, Make, Plan}
 use Rattle.cli_plans.specs.Reading.{Follows}
 use Rattle.secvisor_cli.specs.Ready.{IsFresh}
@@ -18,6 +20,11 @@ pub record StartsBlock (m : Machine) : Type 0 where
   pub start : State
   pub new : IsNew m start
   pub kind : is_block_disk start.devices.disk ≡ true
+
+-- the name that the snapshot is saved under
+abbrev pub out_of : Result SnapWords Refusal → List ℕ
+out_of (Ok words) = words.out
+out_of (Err refusal) = []
 
 -- what is due is ready, or refused
 abbrev pub IsPreparedRun : Due → Result PreparedRun Stop → Type 0

@@ -13,17 +13,17 @@ ghost use Rattle.machine.specs.Standing.{HasState};
 ghost use Rattle.host_io.specs.Outside.{MayWrite, MaySaveUnder};
 ghost use Rattle.spec_processor.specs.Counters.{CanCount};
 ghost use Rattle.secvisor_cli.specs.Answers.{outside, Writes};
-ghost use Rattle.cli_plans.specs.Plans.{run_plan};
+ghost use Rattle.cli_plans.specs.Plans.{run_plan, snap_plan};
 ghost use Rattle.cli_plans.specs.Reading.{MayFollow, IsNamed};
 ghost use Rattle.secvisor_cli.specs.Ready.{IsFresh};
 ghost use Rattle.cli_plans.specs.Words.{run_value};
 ghost use Rattle.cli_snap.specs.SnapAnswers.{StandsAfter, SnapsTo, RunsSnap, PerformsSnap, PerformsRun, SnapHeadline};
-ghost use Rattle.cli_snap.specs.SnapReady.{StartsBlock};
-ghost use Rattle.cli_snap.specs.SnapWords.{snap_judged, snap_plan, out_of};
+ghost use Rattle.cli_snap.specs.SnapReady.{StartsBlock, out_of};
+ghost use Rattle.cli_plans.specs.CommandLine.{snap_judged};
 
 use crate::ready::prepare_snap;
 use crate::saving::save_snapshot;
-use crate::words::{Snap, read_snap};
+use cli_plans::{Snap, Unread, ask_snap};
 use host_io::{Files, Sink, write_all};
 use machine::{Machine, run};
 use script::Script;
@@ -90,9 +90,10 @@ fn answer<R: Threads + Sync, F: Files, O: Sink>(
         (outside (F.state files.old) (O.state out.old) bench.old.machine)
         (outside (F.state files.new) (O.state out.new) bench.new.machine) result }
 {
-    match read_snap(words) {
+    match ask_snap(alloc, words) {
         Ok(snap) => answer_snap(rt, alloc, &snap, files, out, bench),
-        Err(refusal) => refuse(alloc, &refusal, out),
+        Err(Unread::Refused(refusal)) => refuse(alloc, &refusal, out),
+        Err(Unread::Memory) => Err(Trouble::Memory),
     }
 }
 

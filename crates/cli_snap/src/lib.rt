@@ -6,7 +6,6 @@ mod answer;
 mod laws;
 mod ready;
 mod saving;
-mod words;
 
 pub use answer::secvisor_snap;
 pub use laws::{law_block, law_counts, law_snap_ends, law_snap_file};

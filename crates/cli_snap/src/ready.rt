@@ -10,7 +10,7 @@ ghost use Rattle.spec_processor.specs.Counters.{CanCount};
 
 use cli_plans::Run;
 use host_io::Files;
-use secvisor_cli::{PreparedRun, Ready, Stop, prepare_run};
+use secvisor_cli::{PreparedRun, Stop, prepare_run};
 use std::alloc::Global;
 use std::thread::Threads;
 
@@ -27,9 +27,5 @@ pub fn prepare_snap<'a, R: Threads + Sync, F: Files>(
     requires events { asked.now.events ≤ max_events }
     ensures { Boots (run_plan (run_value asked.now)) (F.state files.old) (F.state files.new) result }
 {
-    let ready = prepare_run(rt, alloc, asked, files)?;
-    match ready {
-        Ready::Run(booted) => Ok(booted),
-        Ready::Save(_) => unreachable!(),
-    }
+    prepare_run(rt, alloc, asked, files)
 }

@@ -10,10 +10,10 @@ use Rattle.clap.specs.declared.builder.value_parser.ValueParser.TheVariants as v
 use Rattle.clap.specs.declared.parser.matches.ValueSource.TheVariants.{CommandLine}
 use Rattle.clap.proofs.WalkLemmas.{both}
 use Rattle.cli_words.specs.declared.command.DiskKind.{DiskKind}
-use Rattle.cli_words.specs.declared.name.CommandName.{CommandName}
-use Rattle.cli_words.specs.declared.name.CommandName.TheVariants as command
-use Rattle.cli_words.specs.Commands.{Split, flat_split, gen_split, run_split, measure_split, convert_split, has_dash}
-use Rattle.cli_words.specs.Parsing.{HasWords, Want, app_of_wants, bare_app, rule_of_want, flat_wants, gen_wants, run_wants, measure_wants, convert_wants, wants_of, split_as, found_as, flat_found, gen_found, run_found, measure_found, convert_found}
+use Rattle.cli_words.specs.declared.table.CommandName.{CommandName}
+use Rattle.cli_words.specs.declared.table.CommandName.TheVariants as command
+use Rattle.cli_words.specs.Commands.{flat_split, gen_split, run_split, live_split, snap_split, resume_split, show_split, measure_split, convert_split, has_dash}
+use Rattle.cli_words.specs.Parsing.{Finds, HasWords, IsKnown, Want, app_of_wants, bare_app, rule_of_want, flat_wants, gen_wants, run_wants, live_wants, snap_wants, resume_wants, show_wants, measure_wants, convert_wants, wants_of, flat_found, gen_found, run_found, live_found, snap_found, resume_found, show_found, measure_found, convert_found}
 use Rattle.cli_words.proofs.PlainWords.{IsOn, NoneTrails, walk_after, placed_pass, pass_is, walk_is}
 
 -- ---- the words of any command
@@ -36,10 +36,10 @@ record IsAlone (wants : List Want) (s : Shape) : Type 0 where
   trails : NoneTrails s.rules
 
 -- `clap` takes the words, and what it finds is the split
-pub record IsRead (wants : List Want) (found : List Row → Split) (words : List Text) (split : Option Split) : Type 0 where
+pub record IsRead {S : Type 0} (wants : List Want) (found : List Row → S) (words : List Text) (split : Option S) : Type 0 where
   pub taken : takes (app_of_wants wants) words ≡ true
   pub has : (rows : List Row) → rows ≡ matches_of (app_of_wants wants) words → HasWords wants rows
-  pub is : (rows : List Row) (s : Split) → rows ≡ matches_of (app_of_wants wants) words → s ≡ found rows → split ≡ Some s
+  pub is : (rows : List Row) (s : S) → rows ≡ matches_of (app_of_wants wants) words → s ≡ found rows → split ≡ Some s
 
 pub takes_simple : (app : App) (words : List Text) → takes app words ≡ true → is_simple app ≡ true
 takes_simple app words taken = (both (is_simple app) (built_takes (built app) nothing_held (argument_words app words)) taken).0
@@ -74,7 +74,7 @@ module _ (wants : List Want) (s : Shape) (is : IsAlone wants s) (words : List Te
       ap (λ b. rows_after s.rules [] (if b then words else drop 1 words)) is.bare in
       first ∙ second ∙ ap (λ (w : Walk). finished s.rules w.held) (walk_is s.rules start words is.trails start_on plain)
 
-  read_by : (found : List Row → Split) (split : Option Split) → list_any has_dash words ≡ false
+  read_by : {S : Type 0} (found : List Row → S) (split : Option S) → list_any has_dash words ≡ false
       → ends_well (placed_pass s start words) end ≡ true
       → HasWords wants (finished s.rules end.held)
       → split ≡ Some (found (finished s.rules end.held))
@@ -109,6 +109,18 @@ gen_is = record { simple = refl; shape = refl; bare = refl; trails = refl }
 run_is : IsAlone run_wants (shape_of_wants run_wants)
 run_is = record { simple = refl; shape = refl; bare = refl; trails = refl }
 
+live_is : IsAlone live_wants (shape_of_wants live_wants)
+live_is = record { simple = refl; shape = refl; bare = refl; trails = refl }
+
+snap_is : IsAlone snap_wants (shape_of_wants snap_wants)
+snap_is = record { simple = refl; shape = refl; bare = refl; trails = refl }
+
+resume_is : IsAlone resume_wants (shape_of_wants resume_wants)
+resume_is = record { simple = refl; shape = refl; bare = refl; trails = refl }
+
+show_is : IsAlone show_wants (shape_of_wants show_wants)
+show_is = record { simple = refl; shape = refl; bare = refl; trails = refl }
+
 measure_is : IsAlone measure_wants (shape_of_wants measure_wants)
 measure_is = record { simple = refl; shape = refl; bare = refl; trails = refl }
 
@@ -131,6 +143,26 @@ run_read : (kind : DiskKind) (words : List Text) → is_some (run_split kind wor
     → IsRead run_wants (run_found kind) words (run_split kind words)
 run_read kind (a ∷ b ∷ c ∷ d ∷ e ∷ f ∷ []) known plain = read_by _ _ run_is _ _ _ plain refl (refl, (refl, (refl, (refl, (refl, (refl, tt)))))) refl
 run_read kind _ known plain = absurd (true≢false (sym known))
+
+live_read : (words : List Text) → is_some (live_split words) ≡ true → list_any has_dash words ≡ false
+    → IsRead live_wants live_found words (live_split words)
+live_read (a ∷ b ∷ c ∷ d ∷ e ∷ []) known plain = read_by _ _ live_is _ _ _ plain refl (refl, (refl, (refl, (refl, (refl, tt))))) refl
+live_read _ known plain = absurd (true≢false (sym known))
+
+snap_read : (words : List Text) → is_some (snap_split words) ≡ true → list_any has_dash words ≡ false
+    → IsRead snap_wants snap_found words (snap_split words)
+snap_read (a ∷ b ∷ c ∷ d ∷ e ∷ f ∷ []) known plain = read_by _ _ snap_is _ _ _ plain refl (refl, (refl, (refl, (refl, (refl, (refl, tt)))))) refl
+snap_read _ known plain = absurd (true≢false (sym known))
+
+resume_read : (words : List Text) → is_some (resume_split words) ≡ true → list_any has_dash words ≡ false
+    → IsRead resume_wants resume_found words (resume_split words)
+resume_read (a ∷ b ∷ c ∷ d ∷ e ∷ []) known plain = read_by _ _ resume_is _ _ _ plain refl (refl, (refl, (refl, (refl, (refl, tt))))) refl
+resume_read _ known plain = absurd (true≢false (sym known))
+
+show_read : (words : List Text) → is_some (show_split words) ≡ true → list_any has_dash words ≡ false
+    → IsRead show_wants show_found words (show_split words)
+show_read (a ∷ []) known plain = read_by _ _ show_is _ _ _ plain refl (refl, tt) refl
+show_read _ known plain = absurd (true≢false (sym known))
 
 convert_read : (words : List Text) → is_some (convert_split words) ≡ true → list_any has_dash words ≡ false
     → IsRead convert_wants convert_found words (convert_split words)
@@ -196,10 +228,28 @@ measure_read _ known plain = absurd (true≢false (sym known))
 
 -- ---- by the name of the command
 
-pub words_read : (name : CommandName) (words : List Text) → is_some (split_as name words) ≡ true → list_any has_dash words ≡ false
-    → IsRead (wants_of name) (found_as name) words (split_as name words)
-words_read command.Flat words known plain = flat_read words known plain
-words_read command.Generated words known plain = gen_read words known plain
-words_read (command.Run kind) words known plain = run_read kind words known plain
-words_read command.Measure words known plain = measure_read words known plain
-words_read command.Convert words known plain = convert_read words known plain
+-- `clap` takes the words, and what it finds is what they are by their places
+pub record ReadsAs (name : CommandName) (words : List Text) : Type 0 where
+  pub taken : takes (app_of_wants (wants_of name)) words ≡ true
+  pub has : (rows : List Row) → rows ≡ matches_of (app_of_wants (wants_of name)) words → HasWords (wants_of name) rows
+  pub finds : (rows : List Row) → rows ≡ matches_of (app_of_wants (wants_of name)) words → Finds name words rows
+
+pub words_read : (name : CommandName) (words : List Text) → IsKnown name words → list_any has_dash words ≡ false → ReadsAs name words
+words_read command.Flat words known plain =
+    let it = flat_read words known plain in record { taken = it.taken; has = it.has; finds = λ rows e. it.is rows _ e refl }
+words_read command.Generated words known plain =
+    let it = gen_read words known plain in record { taken = it.taken; has = it.has; finds = λ rows e. it.is rows _ e refl }
+words_read (command.Run kind) words known plain =
+    let it = run_read kind words known plain in record { taken = it.taken; has = it.has; finds = λ rows e. it.is rows _ e refl }
+words_read command.Live words known plain =
+    let it = live_read words known plain in record { taken = it.taken; has = it.has; finds = λ rows e. it.is rows _ e refl }
+words_read command.Snap words known plain =
+    let it = snap_read words known plain in record { taken = it.taken; has = it.has; finds = λ rows e. it.is rows _ e refl }
+words_read command.Resume words known plain =
+    let it = resume_read words known plain in record { taken = it.taken; has = it.has; finds = λ rows e. it.is rows _ e refl }
+words_read command.Show words known plain =
+    let it = show_read words known plain in record { taken = it.taken; has = it.has; finds = λ rows e. it.is rows _ e refl }
+words_read command.Measure words known plain =
+    let it = measure_read words known plain in record { taken = it.taken; has = it.has; finds = λ rows e. it.is rows _ e refl }
+words_read command.Convert words known plain =
+    let it = convert_read words known plain in record { taken = it.taken; has = it.has; finds = λ rows e. it.is rows _ e refl }

@@ -3,6 +3,8 @@ use Rattle.std.specs.Prelude.{ℕ, Bool, false, ◌==◌, List, [], ◌∷◌, O
 use Rattle.std.specs.List.{list_any}
 use Rattle.std.specs.Str.{bytes_eq}
 use Rattle.cli_words.specs.declared.command.DiskKind.{DiskKind}
+use Rattle.cli_words.specs.declared.table.CommandName.{CommandName}
+use Rattle.cli_words.specs.declared.table.CommandName.TheVariants as command
 
 -- flat FILE MEASURE EVENTS
 pub record FlatSplit : Type 0 where
@@ -17,6 +19,31 @@ pub record RunSplit : Type 0 where
   pub image : List ℕ
   pub policy : List ℕ
   pub disk : List ℕ
+  pub script : List ℕ
+  pub events : List ℕ
+  pub save : List ℕ
+
+-- live IMAGE POLICY DISK EVENTS OUT
+pub record LiveSplit : Type 0 where
+  pub image : List ℕ
+  pub policy : List ℕ
+  pub disk : List ℕ
+  pub events : List ℕ
+  pub out : List ℕ
+
+-- snap IMAGE POLICY DISK SCRIPT EVENTS OUT
+pub record SnapSplit : Type 0 where
+  pub image : List ℕ
+  pub policy : List ℕ
+  pub disk : List ℕ
+  pub script : List ℕ
+  pub events : List ℕ
+  pub out : List ℕ
+
+-- resume SNAPSHOT POLICY SCRIPT EVENTS SAVE
+pub record ResumeSplit : Type 0 where
+  pub saved : List ℕ
+  pub policy : List ℕ
   pub script : List ℕ
   pub events : List ℕ
   pub save : List ℕ
@@ -38,26 +65,34 @@ pub record ConvertSplit : Type 0 where
   pub given : List ℕ
   pub out : List ℕ
 
-pub data Split : Type 0 where
-  Flat : FlatSplit → Split
-  -- gen N
-  Gen : (calls : List ℕ) → Split
-  Run : RunSplit → Split
-  Measure : MeasureSplit → Split
-  Convert : ConvertSplit → Split
+-- ---- the commands by their names
 
--- ---- by the number of words after the name
+abbrev pub name_of : List ℕ → Option CommandName
+name_of name =
+    if bytes_eq name (codes "flat") then Some command.Flat
+    else if bytes_eq name (codes "gen") then Some command.Generated
+    else if bytes_eq name (codes "run") then Some (command.Run DiskKind.Block)
+    else if bytes_eq name (codes "vrun") then Some (command.Run DiskKind.Virtio)
+    else if bytes_eq name (codes "live") then Some command.Live
+    else if bytes_eq name (codes "snap") then Some command.Snap
+    else if bytes_eq name (codes "resume") then Some command.Resume
+    else if bytes_eq name (codes "show") then Some command.Show
+    else if bytes_eq name (codes "measure") then Some command.Measure
+    else if bytes_eq name (codes "convert") then Some command.Convert
+    else None
 
-abbrev pub flat_split : List (List ℕ) → Option Split
-flat_split (file ∷ wanted ∷ events ∷ []) = Some (Flat (record { file = file; wanted = wanted; events = events }))
+-- ---- the words after the name, by their number
+
+abbrev pub flat_split : List (List ℕ) → Option FlatSplit
+flat_split (file ∷ wanted ∷ events ∷ []) = Some (record { file = file; wanted = wanted; events = events })
 flat_split _ = None
 
-abbrev pub gen_split : List (List ℕ) → Option Split
-gen_split (calls ∷ []) = Some (Gen calls)
+abbrev pub gen_split : List (List ℕ) → Option (List ℕ)
+gen_split (calls ∷ []) = Some calls
 gen_split _ = None
 
-abbrev pub run_split : DiskKind → List (List ℕ) → Option Split
-run_split kind (image ∷ policy ∷ disk ∷ script ∷ events ∷ save ∷ []) = Some (Run (record {
+abbrev pub run_split : DiskKind → List (List ℕ) → Option RunSplit
+run_split kind (image ∷ policy ∷ disk ∷ script ∷ events ∷ save ∷ []) = Some (record {
   kind = kind;
   image = image;
   policy = policy;
@@ -65,11 +100,30 @@ run_split kind (image ∷ policy ∷ disk ∷ script ∷ events ∷ save ∷ [])
   script = script;
   events = events;
   save = save;
-}))
+})
 run_split kind _ = None
 
-abbrev pub measure_split : List (List ℕ) → Option Split
-measure_split (out ∷ kernel ∷ ram ∷ harts ∷ entries ∷ init ∷ modules) = Some (Measure (record {
+abbrev pub live_split : List (List ℕ) → Option LiveSplit
+live_split (image ∷ policy ∷ disk ∷ events ∷ out ∷ []) =
+    Some (record { image = image; policy = policy; disk = disk; events = events; out = out })
+live_split _ = None
+
+abbrev pub snap_split : List (List ℕ) → Option SnapSplit
+snap_split (image ∷ policy ∷ disk ∷ script ∷ events ∷ out ∷ []) =
+    Some (record { image = image; policy = policy; disk = disk; script = script; events = events; out = out })
+snap_split _ = None
+
+abbrev pub resume_split : List (List ℕ) → Option ResumeSplit
+resume_split (saved ∷ policy ∷ script ∷ events ∷ save ∷ []) =
+    Some (record { saved = saved; policy = policy; script = script; events = events; save = save })
+resume_split _ = None
+
+abbrev pub show_split : List (List ℕ) → Option (List ℕ)
+show_split (saved ∷ []) = Some saved
+show_split _ = None
+
+abbrev pub measure_split : List (List ℕ) → Option MeasureSplit
+measure_split (out ∷ kernel ∷ ram ∷ harts ∷ entries ∷ init ∷ modules) = Some (record {
   out = out;
   kernel = kernel;
   ram = ram;
@@ -77,26 +131,14 @@ measure_split (out ∷ kernel ∷ ram ∷ harts ∷ entries ∷ init ∷ modules
   entries = entries;
   init = init;
   modules = modules;
-}))
+})
 measure_split _ = None
 
-abbrev pub convert_split : List (List ℕ) → Option Split
-convert_split (kernel ∷ given ∷ out ∷ []) = Some (Convert (record { kernel = kernel; given = given; out = out }))
+abbrev pub convert_split : List (List ℕ) → Option ConvertSplit
+convert_split (kernel ∷ given ∷ out ∷ []) = Some (record { kernel = kernel; given = given; out = out })
 convert_split _ = None
 
-abbrev pub named_split : List ℕ → List (List ℕ) → Option Split
-named_split name rest =
-    if bytes_eq name (codes "flat") then flat_split rest
-    else if bytes_eq name (codes "gen") then gen_split rest
-    else if bytes_eq name (codes "run") then run_split DiskKind.Block rest
-    else if bytes_eq name (codes "vrun") then run_split DiskKind.Virtio rest
-    else if bytes_eq name (codes "measure") then measure_split rest
-    else if bytes_eq name (codes "convert") then convert_split rest
-    else None
-
-abbrev pub shape_split : List (List ℕ) → Option Split
-shape_split [] = None
-shape_split (name ∷ rest) = named_split name rest
+-- ---- words that are no names
 
 abbrev pub hyphen : ℕ
 hyphen = 45
@@ -106,6 +148,21 @@ abbrev pub has_dash : List ℕ → Bool
 has_dash [] = false
 has_dash (first ∷ rest) = first == hyphen
 
--- the words of a command by their names, where no word begins with a dash and a command has words of this shape
-unfoldable pub split_words : List (List ℕ) → Option Split
-split_words words = if list_any has_dash words then None else shape_split words
+-- ---- the command that words name
+
+-- a command, and the words after its name
+pub record Named : Type 0 where
+  pub command : CommandName
+  pub rest : List (List ℕ)
+
+abbrev pub named_by : Option CommandName → List (List ℕ) → Option Named
+named_by None rest = None
+named_by (Some command) rest = Some (record { command = command; rest = rest })
+
+abbrev pub named_shape : List (List ℕ) → Option Named
+named_shape [] = None
+named_shape (name ∷ rest) = named_by (name_of name) rest
+
+-- the command that the first word names, where no word begins with a dash
+unfoldable pub named_words : List (List ℕ) → Option Named
+named_words words = if list_any has_dash words then None else named_shape words

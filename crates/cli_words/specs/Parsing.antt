@@ -1,35 +1,14 @@
 -- The commands as `clap` is told them, and the words that it gives back.
-use Rattle.std.specs.Prelude.{IsTrue, ⊤, true, List, [], ◌∷◌, fold, Option, Some, None, codes, is_some, if◌then◌else◌, unwrap_or}
-use Rattle.std.specs.Str.{bytes_eq}
+use Rattle.std.specs.Prelude.{ℕ, ◌≡◌, IsTrue, ⊤, true, List, [], ◌∷◌, fold, Some, codes, is_some, unwrap_or}
 use Rattle.clap.specs.Words.{App, Row, Rule, Text, new_app, new_rule, with_rule, first_of, all_of}
 use Rattle.clap.specs.Simple.{on_top}
 use Rattle.clap.specs.declared.builder.ArgAction.TheVariants.{Set, Append}
 use Rattle.cli_words.specs.declared.command.DiskKind.{DiskKind}
-use Rattle.cli_words.specs.declared.name.CommandName.{CommandName}
-use Rattle.cli_words.specs.declared.name.CommandName.TheVariants as command
-use Rattle.cli_words.specs.declared.commands.Argument.{Argument}
-use Rattle.cli_words.specs.declared.commands.Argument.TheVariants as argument
-use Rattle.cli_words.specs.Commands.{Split, Flat, Gen, Run, Measure, Convert, flat_split, gen_split, run_split, measure_split, convert_split}
-
--- ---- the commands
-
-abbrev pub name_of : Text → Option CommandName
-name_of name =
-    if bytes_eq name (codes "flat") then Some command.Flat
-    else if bytes_eq name (codes "gen") then Some command.Generated
-    else if bytes_eq name (codes "run") then Some (command.Run DiskKind.Block)
-    else if bytes_eq name (codes "vrun") then Some (command.Run DiskKind.Virtio)
-    else if bytes_eq name (codes "measure") then Some command.Measure
-    else if bytes_eq name (codes "convert") then Some command.Convert
-    else None
-
--- the words after the name of the command
-abbrev pub split_as : CommandName → List Text → Option Split
-split_as command.Flat words = flat_split words
-split_as command.Generated words = gen_split words
-split_as (command.Run kind) words = run_split kind words
-split_as command.Measure words = measure_split words
-split_as command.Convert words = convert_split words
+use Rattle.cli_words.specs.declared.table.CommandName.{CommandName}
+use Rattle.cli_words.specs.declared.table.CommandName.TheVariants as command
+use Rattle.cli_words.specs.declared.table.Argument.{Argument}
+use Rattle.cli_words.specs.declared.table.Argument.TheVariants as argument
+use Rattle.cli_words.specs.Commands.{FlatSplit, RunSplit, LiveSplit, SnapSplit, ResumeSplit, MeasureSplit, ConvertSplit, flat_split, gen_split, run_split, live_split, snap_split, resume_split, show_split, measure_split, convert_split}
 
 -- what a command has under a name
 pub data Want : Type 0 where
@@ -51,6 +30,18 @@ gen_wants = One (codes "N") ∷ []
 abbrev pub run_wants : List Want
 run_wants = One (codes "IMAGE") ∷ One (codes "POLICY") ∷ One (codes "DISK") ∷ One (codes "SCRIPT") ∷ One (codes "EVENTS") ∷ One (codes "SAVE") ∷ []
 
+abbrev pub live_wants : List Want
+live_wants = One (codes "IMAGE") ∷ One (codes "POLICY") ∷ One (codes "DISK") ∷ One (codes "EVENTS") ∷ One (codes "OUT") ∷ []
+
+abbrev pub snap_wants : List Want
+snap_wants = One (codes "IMAGE") ∷ One (codes "POLICY") ∷ One (codes "DISK") ∷ One (codes "SCRIPT") ∷ One (codes "EVENTS") ∷ One (codes "OUT") ∷ []
+
+abbrev pub resume_wants : List Want
+resume_wants = One (codes "SNAPSHOT") ∷ One (codes "POLICY") ∷ One (codes "SCRIPT") ∷ One (codes "EVENTS") ∷ One (codes "SAVE") ∷ []
+
+abbrev pub show_wants : List Want
+show_wants = One (codes "SNAPSHOT") ∷ []
+
 abbrev pub measure_wants : List Want
 measure_wants =
     One (codes "OUT") ∷ One (codes "KERNEL") ∷ One (codes "RAM") ∷ One (codes "HARTS") ∷ One (codes "ENTRIES") ∷ One (codes "INIT") ∷ Any (codes "MODULES") ∷ []
@@ -62,6 +53,10 @@ abbrev pub wants_of : CommandName → List Want
 wants_of command.Flat = flat_wants
 wants_of command.Generated = gen_wants
 wants_of (command.Run kind) = run_wants
+wants_of command.Live = live_wants
+wants_of command.Snap = snap_wants
+wants_of command.Resume = resume_wants
+wants_of command.Show = show_wants
 wants_of command.Measure = measure_wants
 wants_of command.Convert = convert_wants
 
@@ -92,18 +87,18 @@ HasWords (Any name ∷ rest) rows = HasWords rest rows
 abbrev pub word_of : Text → List Row → Text
 word_of name rows = unwrap_or (first_of name rows) []
 
-abbrev pub flat_found : List Row → Split
-flat_found rows = Flat (record {
+abbrev pub flat_found : List Row → FlatSplit
+flat_found rows = record {
   file = word_of (codes "FILE") rows;
   wanted = word_of (codes "MEASURE") rows;
   events = word_of (codes "EVENTS") rows;
-})
+}
 
-abbrev pub gen_found : List Row → Split
-gen_found rows = Gen (word_of (codes "N") rows)
+abbrev pub gen_found : List Row → List ℕ
+gen_found rows = word_of (codes "N") rows
 
-abbrev pub run_found : DiskKind → List Row → Split
-run_found kind rows = Run (record {
+abbrev pub run_found : DiskKind → List Row → RunSplit
+run_found kind rows = record {
   kind = kind;
   image = word_of (codes "IMAGE") rows;
   policy = word_of (codes "POLICY") rows;
@@ -111,13 +106,44 @@ run_found kind rows = Run (record {
   script = word_of (codes "SCRIPT") rows;
   events = word_of (codes "EVENTS") rows;
   save = word_of (codes "SAVE") rows;
-})
+}
+
+abbrev pub live_found : List Row → LiveSplit
+live_found rows = record {
+  image = word_of (codes "IMAGE") rows;
+  policy = word_of (codes "POLICY") rows;
+  disk = word_of (codes "DISK") rows;
+  events = word_of (codes "EVENTS") rows;
+  out = word_of (codes "OUT") rows;
+}
+
+abbrev pub snap_found : List Row → SnapSplit
+snap_found rows = record {
+  image = word_of (codes "IMAGE") rows;
+  policy = word_of (codes "POLICY") rows;
+  disk = word_of (codes "DISK") rows;
+  script = word_of (codes "SCRIPT") rows;
+  events = word_of (codes "EVENTS") rows;
+  out = word_of (codes "OUT") rows;
+}
+
+abbrev pub resume_found : List Row → ResumeSplit
+resume_found rows = record {
+  saved = word_of (codes "SNAPSHOT") rows;
+  policy = word_of (codes "POLICY") rows;
+  script = word_of (codes "SCRIPT") rows;
+  events = word_of (codes "EVENTS") rows;
+  save = word_of (codes "SAVE") rows;
+}
+
+abbrev pub show_found : List Row → List ℕ
+show_found rows = word_of (codes "SNAPSHOT") rows
 
 abbrev pub modules_found : List Row → List Text
 modules_found rows = unwrap_or (all_of (codes "MODULES") rows) []
 
-abbrev pub measure_found : List Row → Split
-measure_found rows = Measure (record {
+abbrev pub measure_found : List Row → MeasureSplit
+measure_found rows = record {
   out = word_of (codes "OUT") rows;
   kernel = word_of (codes "KERNEL") rows;
   ram = word_of (codes "RAM") rows;
@@ -125,18 +151,35 @@ measure_found rows = Measure (record {
   entries = word_of (codes "ENTRIES") rows;
   init = word_of (codes "INIT") rows;
   modules = modules_found rows;
-})
+}
 
-abbrev pub convert_found : List Row → Split
-convert_found rows = Convert (record {
+abbrev pub convert_found : List Row → ConvertSplit
+convert_found rows = record {
   kernel = word_of (codes "KERNEL") rows;
   given = word_of (codes "IN") rows;
   out = word_of (codes "OUT") rows;
-})
+}
 
-abbrev pub found_as : CommandName → List Row → Split
-found_as command.Flat rows = flat_found rows
-found_as command.Generated rows = gen_found rows
-found_as (command.Run kind) rows = run_found kind rows
-found_as command.Measure rows = measure_found rows
-found_as command.Convert rows = convert_found rows
+-- the command has words of this shape
+abbrev pub IsKnown : CommandName → List Text → Type 0
+IsKnown command.Flat words = IsTrue (is_some (flat_split words))
+IsKnown command.Generated words = IsTrue (is_some (gen_split words))
+IsKnown (command.Run kind) words = IsTrue (is_some (run_split kind words))
+IsKnown command.Live words = IsTrue (is_some (live_split words))
+IsKnown command.Snap words = IsTrue (is_some (snap_split words))
+IsKnown command.Resume words = IsTrue (is_some (resume_split words))
+IsKnown command.Show words = IsTrue (is_some (show_split words))
+IsKnown command.Measure words = IsTrue (is_some (measure_split words))
+IsKnown command.Convert words = IsTrue (is_some (convert_split words))
+
+-- what was found under the names is what the words are by their places
+abbrev pub Finds : CommandName → List Text → List Row → Type 0
+Finds command.Flat words rows = flat_split words ≡ Some (flat_found rows)
+Finds command.Generated words rows = gen_split words ≡ Some (gen_found rows)
+Finds (command.Run kind) words rows = run_split kind words ≡ Some (run_found kind rows)
+Finds command.Live words rows = live_split words ≡ Some (live_found rows)
+Finds command.Snap words rows = snap_split words ≡ Some (snap_found rows)
+Finds command.Resume words rows = resume_split words ≡ Some (resume_found rows)
+Finds command.Show words rows = show_split words ≡ Some (show_found rows)
+Finds command.Measure words rows = measure_split words ≡ Some (measure_found rows)
+Finds command.Convert words rows = convert_split words ≡ Some (convert_found rows)

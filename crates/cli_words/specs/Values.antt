@@ -1,10 +1,12 @@
 -- What the words of a command are, by value.
-use Rattle.std.specs.Prelude.{map}
-use Rattle.cli_words.specs.Commands.{Split, FlatSplit, RunSplit, MeasureSplit, ConvertSplit, Flat, Gen, Run, Measure, Convert}
-use Rattle.cli_words.specs.declared.command.CommandWords.{CommandWords}
-use Rattle.cli_words.specs.declared.command.CommandWords.TheVariants as words
+use Rattle.std.specs.Prelude.{map, string_bytes}
+use Rattle.cli_words.specs.Commands.{Named, FlatSplit, RunSplit, LiveSplit, SnapSplit, ResumeSplit, MeasureSplit, ConvertSplit}
+use Rattle.cli_words.specs.declared.naming.Naming.{Naming}
 use Rattle.cli_words.specs.declared.command.FlatWords.{FlatWords}
 use Rattle.cli_words.specs.declared.command.RunWords.{RunWords}
+use Rattle.cli_words.specs.declared.command.LiveWords.{LiveWords}
+use Rattle.cli_words.specs.declared.command.SnapWords.{SnapWords}
+use Rattle.cli_words.specs.declared.command.ResumeWords.{ResumeWords}
 use Rattle.cli_words.specs.declared.command.MeasureWords.{MeasureWords}
 use Rattle.cli_words.specs.declared.command.ConvertWords.{ConvertWords}
 
@@ -17,6 +19,34 @@ run_split_of w = record {
   image = w.image.now;
   policy = w.policy.now;
   disk = w.disk.now;
+  script = w.script.now;
+  events = w.events.now;
+  save = w.save.now;
+}
+
+abbrev pub live_split_of : LiveWords → LiveSplit
+live_split_of w = record {
+  image = w.image.now;
+  policy = w.policy.now;
+  disk = w.disk.now;
+  events = w.events.now;
+  out = w.out.now;
+}
+
+abbrev pub snap_split_of : SnapWords → SnapSplit
+snap_split_of w = record {
+  image = w.image.now;
+  policy = w.policy.now;
+  disk = w.disk.now;
+  script = w.script.now;
+  events = w.events.now;
+  out = w.out.now;
+}
+
+abbrev pub resume_split_of : ResumeWords → ResumeSplit
+resume_split_of w = record {
+  saved = w.saved.now;
+  policy = w.policy.now;
   script = w.script.now;
   events = w.events.now;
   save = w.save.now;
@@ -36,9 +66,5 @@ measure_split_of w = record {
 abbrev pub convert_split_of : ConvertWords → ConvertSplit
 convert_split_of w = record { kernel = w.kernel.now; given = w.given.now; out = w.out.now }
 
-abbrev pub split_of : CommandWords → Split
-split_of (words.Flat w) = Flat (flat_split_of w)
-split_of (words.Generated calls) = Gen calls.now
-split_of (words.Run w) = Run (run_split_of w)
-split_of (words.Measure w) = Measure (measure_split_of w)
-split_of (words.Convert w) = Convert (convert_split_of w)
+abbrev pub named_of : Naming → Named
+named_of n = record { command = n.command; rest = map string_bytes n.rest.now }

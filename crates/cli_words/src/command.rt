@@ -9,17 +9,6 @@ pub enum DiskKind {
     Virtio,
 }
 
-/// The words of a command.
-#[derive(Drop)]
-pub enum CommandWords<'a> {
-    Flat(FlatWords<'a>),
-    /// `gen N`
-    Generated(&'a str),
-    Run(RunWords<'a>),
-    Measure(MeasureWords<'a>),
-    Convert(ConvertWords<'a>),
-}
-
 /// `flat FILE MEASURE EVENTS`
 #[derive(Drop)]
 pub struct FlatWords<'a> {
@@ -35,6 +24,38 @@ pub struct RunWords<'a> {
     pub image: &'a str,
     pub policy: &'a str,
     pub disk: &'a str,
+    pub script: &'a str,
+    pub events: &'a str,
+    pub save: &'a str,
+}
+
+/// `live IMAGE POLICY DISK EVENTS OUT`
+#[derive(Drop)]
+pub struct LiveWords<'a> {
+    pub image: &'a str,
+    pub policy: &'a str,
+    pub disk: &'a str,
+    pub events: &'a str,
+    pub out: &'a str,
+}
+
+/// `snap IMAGE POLICY DISK SCRIPT EVENTS OUT`
+#[derive(Drop)]
+pub struct SnapWords<'a> {
+    pub image: &'a str,
+    pub policy: &'a str,
+    pub disk: &'a str,
+    pub script: &'a str,
+    pub events: &'a str,
+    pub out: &'a str,
+}
+
+/// `resume SNAPSHOT POLICY SCRIPT EVENTS SAVE`
+#[derive(Drop)]
+pub struct ResumeWords<'a> {
+    /// The name of the snapshot.
+    pub saved: &'a str,
+    pub policy: &'a str,
     pub script: &'a str,
     pub events: &'a str,
     pub save: &'a str,

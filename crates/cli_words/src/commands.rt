@@ -2,67 +2,12 @@
 ghost use Rattle.std.specs.Prelude.{◌≡◌, IfOk, IsTrue, false, map, string_bytes};
 ghost use Rattle.clap.specs.Words.{app_of, found_of, kind_of, matches_of, rows_of, rule_of, takes};
 ghost use Rattle.clap.specs.declared.builder.Command.TheViews.{out-Command};
-ghost use Rattle.cli_words.specs.Parsing.{want_of, wants_of, rule_of_want, app_of_wants, bare_app};
+ghost use Rattle.cli_words.specs.Parsing.{want_of, rule_of_want, app_of_wants, bare_app};
 
-use crate::name::CommandName;
+use crate::table::Argument;
 use clap::error::ErrorKind;
 use clap::{Arg, ArgAction, ArgMatches, Command, Error};
 use std::alloc::{AllocError, Global};
-
-/// What a command has under a name.
-#[derive(Clone, Copy)]
-pub enum Argument<'a> {
-    /// One word.
-    One(&'a str),
-    /// Any number of words, none too.
-    Any(&'a str),
-}
-
-static FLAT: [Argument<'static>; 3] = [
-    Argument::One("FILE"),
-    Argument::One("MEASURE"),
-    Argument::One("EVENTS"),
-];
-
-static GENERATED: [Argument<'static>; 1] = [Argument::One("N")];
-
-static RUN: [Argument<'static>; 6] = [
-    Argument::One("IMAGE"),
-    Argument::One("POLICY"),
-    Argument::One("DISK"),
-    Argument::One("SCRIPT"),
-    Argument::One("EVENTS"),
-    Argument::One("SAVE"),
-];
-
-static MEASURE: [Argument<'static>; 7] = [
-    Argument::One("OUT"),
-    Argument::One("KERNEL"),
-    Argument::One("RAM"),
-    Argument::One("HARTS"),
-    Argument::One("ENTRIES"),
-    Argument::One("INIT"),
-    Argument::Any("MODULES"),
-];
-
-static CONVERT: [Argument<'static>; 3] = [
-    Argument::One("KERNEL"),
-    Argument::One("IN"),
-    Argument::One("OUT"),
-];
-
-/// What the command wants after its name, in order.
-pub fn arguments_of(command: CommandName) -> &'static [Argument<'static>]
-    ensures { map want_of result.now ≡ wants_of command }
-{
-    match command {
-        CommandName::Flat => &FLAT,
-        CommandName::Generated => &GENERATED,
-        CommandName::Run(_) => &RUN,
-        CommandName::Measure => &MEASURE,
-        CommandName::Convert => &CONVERT,
-    }
-}
 
 /// What `clap` finds in words of which it refuses none.
 pub fn read<'a>(

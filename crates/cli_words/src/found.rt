@@ -1,55 +1,38 @@
-// The words that `clap` found, by their names.
+// What `clap` found under the names of a command's words.
 ghost use Rattle.std.specs.Prelude.{◌≡◌, IfOk, IsTrue, is_some, map};
 ghost use Rattle.clap.specs.Words.{found_of, first_of, rows_of};
-ghost use Rattle.cli_words.specs.Parsing.{HasWords, word_of, wants_of, flat_wants, gen_wants, run_wants, measure_wants, convert_wants, found_as, flat_found, gen_found, run_found, measure_found, modules_found, convert_found};
-ghost use Rattle.cli_words.specs.Values.{split_of};
+ghost use Rattle.cli_words.specs.Parsing.{HasWords, word_of, flat_wants, gen_wants, run_wants, live_wants, snap_wants, resume_wants, show_wants, measure_wants, convert_wants, flat_found, gen_found, run_found, live_found, snap_found, resume_found, show_found, measure_found, modules_found, convert_found};
+ghost use Rattle.cli_words.specs.Values.{flat_split_of, run_split_of, live_split_of, snap_split_of, resume_split_of, measure_split_of, convert_split_of};
 
-use crate::command::{CommandWords, ConvertWords, DiskKind, FlatWords, MeasureWords, RunWords};
-use crate::name::CommandName;
+use crate::command::{
+    ConvertWords, DiskKind, FlatWords, LiveWords, MeasureWords, ResumeWords, RunWords, SnapWords,
+};
 use clap::ArgMatches;
 use std::alloc::{AllocError, Global};
 
-/// The words of a command that has what it wants.
-pub fn words_of_command<'a>(
-    alloc: Global,
-    command: CommandName,
-    matches: &ArgMatches<'a>,
-) -> Result<CommandWords<'a>, AllocError>
-    requires { HasWords (wants_of command) (rows_of (found_of matches.now)) }
-    ensures { IfOk result (λ words. split_of words ≡ found_as command (rows_of (found_of matches.now))) }
-{
-    match command {
-        CommandName::Flat => Ok(flat(matches)),
-        CommandName::Generated => Ok(generated(matches)),
-        CommandName::Run(kind) => Ok(run(kind, matches)),
-        CommandName::Measure => measure(alloc, matches),
-        CommandName::Convert => Ok(convert(matches)),
-    }
-}
-
-fn flat<'a>(matches: &ArgMatches<'a>) -> CommandWords<'a>
+pub fn flat<'a>(matches: &ArgMatches<'a>) -> FlatWords<'a>
     requires { HasWords flat_wants (rows_of (found_of matches.now)) }
-    ensures { split_of result ≡ flat_found (rows_of (found_of matches.now)) }
+    ensures { flat_split_of result ≡ flat_found (rows_of (found_of matches.now)) }
 {
-    CommandWords::Flat(FlatWords {
+    FlatWords {
         file: word(matches, "FILE"),
         wanted: word(matches, "MEASURE"),
         events: word(matches, "EVENTS"),
-    })
+    }
 }
 
-fn generated<'a>(matches: &ArgMatches<'a>) -> CommandWords<'a>
+pub fn generated<'a>(matches: &ArgMatches<'a>) -> &'a str
     requires { HasWords gen_wants (rows_of (found_of matches.now)) }
-    ensures { split_of result ≡ gen_found (rows_of (found_of matches.now)) }
+    ensures { result.now ≡ gen_found (rows_of (found_of matches.now)) }
 {
-    CommandWords::Generated(word(matches, "N"))
+    word(matches, "N")
 }
 
-fn run<'a>(kind: DiskKind, matches: &ArgMatches<'a>) -> CommandWords<'a>
+pub fn run<'a>(kind: DiskKind, matches: &ArgMatches<'a>) -> RunWords<'a>
     requires { HasWords run_wants (rows_of (found_of matches.now)) }
-    ensures { split_of result ≡ run_found kind (rows_of (found_of matches.now)) }
+    ensures { run_split_of result ≡ run_found kind (rows_of (found_of matches.now)) }
 {
-    CommandWords::Run(RunWords {
+    RunWords {
         kind,
         image: word(matches, "IMAGE"),
         policy: word(matches, "POLICY"),
@@ -57,15 +40,62 @@ fn run<'a>(kind: DiskKind, matches: &ArgMatches<'a>) -> CommandWords<'a>
         script: word(matches, "SCRIPT"),
         events: word(matches, "EVENTS"),
         save: word(matches, "SAVE"),
-    })
+    }
 }
 
-fn measure<'a>(alloc: Global, matches: &ArgMatches<'a>) -> Result<CommandWords<'a>, AllocError>
+pub fn live<'a>(matches: &ArgMatches<'a>) -> LiveWords<'a>
+    requires { HasWords live_wants (rows_of (found_of matches.now)) }
+    ensures { live_split_of result ≡ live_found (rows_of (found_of matches.now)) }
+{
+    LiveWords {
+        image: word(matches, "IMAGE"),
+        policy: word(matches, "POLICY"),
+        disk: word(matches, "DISK"),
+        events: word(matches, "EVENTS"),
+        out: word(matches, "OUT"),
+    }
+}
+
+pub fn snap<'a>(matches: &ArgMatches<'a>) -> SnapWords<'a>
+    requires { HasWords snap_wants (rows_of (found_of matches.now)) }
+    ensures { snap_split_of result ≡ snap_found (rows_of (found_of matches.now)) }
+{
+    SnapWords {
+        image: word(matches, "IMAGE"),
+        policy: word(matches, "POLICY"),
+        disk: word(matches, "DISK"),
+        script: word(matches, "SCRIPT"),
+        events: word(matches, "EVENTS"),
+        out: word(matches, "OUT"),
+    }
+}
+
+pub fn resume<'a>(matches: &ArgMatches<'a>) -> ResumeWords<'a>
+    requires { HasWords resume_wants (rows_of (found_of matches.now)) }
+    ensures { resume_split_of result ≡ resume_found (rows_of (found_of matches.now)) }
+{
+    ResumeWords {
+        saved: word(matches, "SNAPSHOT"),
+        policy: word(matches, "POLICY"),
+        script: word(matches, "SCRIPT"),
+        events: word(matches, "EVENTS"),
+        save: word(matches, "SAVE"),
+    }
+}
+
+pub fn show<'a>(matches: &ArgMatches<'a>) -> &'a str
+    requires { HasWords show_wants (rows_of (found_of matches.now)) }
+    ensures { result.now ≡ show_found (rows_of (found_of matches.now)) }
+{
+    word(matches, "SNAPSHOT")
+}
+
+pub fn measure<'a>(alloc: Global, matches: &ArgMatches<'a>) -> Result<MeasureWords<'a>, AllocError>
     requires { HasWords measure_wants (rows_of (found_of matches.now)) }
-    ensures { IfOk result (λ words. split_of words ≡ measure_found (rows_of (found_of matches.now))) }
+    ensures { IfOk result (λ words. measure_split_of words ≡ measure_found (rows_of (found_of matches.now))) }
 {
     let modules = modules(alloc, matches)?;
-    Ok(CommandWords::Measure(MeasureWords {
+    Ok(MeasureWords {
         out: word(matches, "OUT"),
         kernel: word(matches, "KERNEL"),
         ram: word(matches, "RAM"),
@@ -73,18 +103,18 @@ fn measure<'a>(alloc: Global, matches: &ArgMatches<'a>) -> Result<CommandWords<'
         entries: word(matches, "ENTRIES"),
         init: word(matches, "INIT"),
         modules,
-    }))
+    })
 }
 
-fn convert<'a>(matches: &ArgMatches<'a>) -> CommandWords<'a>
+pub fn convert<'a>(matches: &ArgMatches<'a>) -> ConvertWords<'a>
     requires { HasWords convert_wants (rows_of (found_of matches.now)) }
-    ensures { split_of result ≡ convert_found (rows_of (found_of matches.now)) }
+    ensures { convert_split_of result ≡ convert_found (rows_of (found_of matches.now)) }
 {
-    CommandWords::Convert(ConvertWords {
+    ConvertWords {
         kernel: word(matches, "KERNEL"),
         given: word(matches, "IN"),
         out: word(matches, "OUT"),
-    })
+    }
 }
 
 // A word that the command wants.

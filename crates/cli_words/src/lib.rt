@@ -3,11 +3,19 @@
 
 mod command;
 mod commands;
-mod dash;
 mod found;
-mod name;
+mod naming;
 mod reading;
+mod table;
 
-pub use command::{CommandWords, ConvertWords, DiskKind, FlatWords, MeasureWords, RunWords};
-pub use dash::has_dash;
-pub use reading::split;
+pub use command::{
+    ConvertWords, DiskKind, FlatWords, LiveWords, MeasureWords, ResumeWords, RunWords, SnapWords,
+};
+pub use naming::{Naming, named};
+pub use reading::{
+    split_convert, split_flat, split_generated, split_live, split_measure, split_resume, split_run,
+    split_show, split_snap,
+};
+pub use table::{
+    Argument, COMMANDS, CommandName, CommandRow, WORDS, WordRow, arguments_of, command_of_name,
+};

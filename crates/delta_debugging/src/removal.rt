@@ -4,6 +4,7 @@ ghost use Rattle.delta_debugging.specs.Minimal.{IsReduced, without};
 
 use crate::stops::Stops;
 use std::alloc::{AllocError, Global};
+use std::thread::Threads;
 
 // The items without those from one place up to another.
 fn without<T: Copy + Drop>(
@@ -23,7 +24,8 @@ fn without<T: Copy + Drop>(
 }
 
 /// Takes the items from one place up to another away, where it stops so without them. Answers whether it does.
-pub(crate) fn try_without<T: Copy + Drop, S: Stops<T>>(
+pub(crate) fn try_without<R: Threads + Sync, T: Copy + Drop, S: Stops<T>>(
+    rt: &R,
     alloc: Global,
     test: &S,
     items: &mut Vec<T>,
@@ -38,7 +40,7 @@ pub(crate) fn try_without<T: Copy + Drop, S: Stops<T>>(
     ensures items { IfOk result (λ gone. items.new.items ≡ (if gone then without items.old.items from to else items.old.items)) }
 {
     let rest = without(alloc, items, from, to)?;
-    let gone = test.stops_so(&rest)?;
+    let gone = test.stops_so(rt, &rest)?;
     if gone {
         *items = rest;
     }

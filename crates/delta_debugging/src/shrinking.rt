@@ -6,6 +6,7 @@ ghost use Rattle.delta_debugging.specs.declared.shrinking.Round.TheVariants.{Sam
 use crate::removal::try_without;
 use crate::stops::Stops;
 use std::alloc::{AllocError, Global};
+use std::thread::Threads;
 
 /// How a round over all items went.
 #[derive(Clone, Copy, PartialEq, Eq, Drop)]
@@ -19,7 +20,8 @@ enum Round {
 }
 
 // Tries each piece of so many items, from the first on. What can be spared is taken away at once.
-fn take_pieces<T: Copy + Drop, S: Stops<T>>(
+fn take_pieces<R: Threads + Sync, T: Copy + Drop, S: Stops<T>>(
+    rt: &R,
     alloc: Global,
     test: &S,
     items: &mut Vec<T>,
@@ -35,7 +37,7 @@ fn take_pieces<T: Copy + Drop, S: Stops<T>>(
     'pieces: while from < items.len() && *runs > 0 {
         *runs -= 1;
         let to = from + size.min(items.len() - from);
-        if !try_without(alloc, test, items, from, to)? {
+        if !try_without(rt, alloc, test, items, from, to)? {
             from = to;
         }
     }
@@ -43,7 +45,8 @@ fn take_pieces<T: Copy + Drop, S: Stops<T>>(
 }
 
 // Tries each item alone, from the first on.
-fn take_single_items<T: Copy + Drop, S: Stops<T>>(
+fn take_single_items<R: Threads + Sync, T: Copy + Drop, S: Stops<T>>(
+    rt: &R,
     alloc: Global,
     test: &S,
     items: &mut Vec<T>,
@@ -62,7 +65,7 @@ fn take_single_items<T: Copy + Drop, S: Stops<T>>(
             return Ok(Round::NoRunsLeft);
         }
         *runs -= 1;
-        if try_without(alloc, test, items, at, at + 1)? {
+        if try_without(rt, alloc, test, items, at, at + 1)? {
             round = Round::Fewer;
         } else {
             at += 1;
@@ -74,7 +77,8 @@ fn take_single_items<T: Copy + Drop, S: Stops<T>>(
 /// Takes items away while it still stops so: halves of the list first, then ever smaller pieces, at last single items. Each trial
 /// uses up a run of those that are left. True where the runs sufficed: then it stops so no more without any one of the items that
 /// are left. Out of memory it keeps what was reached.
-pub fn minimize<T: Copy + Drop, S: Stops<T>>(
+pub fn minimize<R: Threads + Sync, T: Copy + Drop, S: Stops<T>>(
+    rt: &R,
     alloc: Global,
     test: &S,
     items: &mut Vec<T>,
@@ -87,11 +91,11 @@ pub fn minimize<T: Copy + Drop, S: Stops<T>>(
 {
     let mut size = items.len() / 2;
     'sizes: while size > 1 {
-        take_pieces(alloc, test, items, size, runs)?;
+        take_pieces(rt, alloc, test, items, size, runs)?;
         size /= 2;
     }
     'rounds: while *runs > 0 {
-        match take_single_items(alloc, test, items, runs)? {
+        match take_single_items(rt, alloc, test, items, runs)? {
             Round::Same => return Ok(true),
             Round::Fewer => {}
             Round::NoRunsLeft => return Ok(false),

@@ -5,3 +5,4 @@ pub mod TextMeasured
 pub mod ResumesRun
 pub mod Guaranteed
 pub mod ProgramHolds
+pub mod SnapResumed

@@ -12,16 +12,15 @@ use Rattle.host_io.specs.Endings.{status_of_end}
 use Rattle.host_io.specs.declared.trouble.Trouble.{Trouble}
 use Rattle.host_io.specs.declared.trouble.Trouble.TheVariants.{Write, Memory}
 use Rattle.cli_plans.specs.Refusals.{refusal_line, refusal_status}
-use Rattle.cli_plans.specs.Plans.{Due, Refuse, RunFrom, Make, Plan, Saving, Exactly}
+use Rattle.cli_plans.specs.Plans.{Due, Refuse, RunFrom, Make, Plan, Saving, Exactly, live_plan, snap_plan}
 use Rattle.cli_plans.specs.Reading.{Follows, Saved}
 use Rattle.cli_plans.specs.declared.refusal.Refusal.{Refusal}
 use Rattle.secvisor_cli.specs.Answers.{Outside, outside, is_answer, Writes, WritesAndSaves, MeetsSavesAfter, MeetsReached}
 use Rattle.cli_live.specs.LiveAnswers.{LiveOutside, live_outside, SavesScript, after_reading, AnswersLiveReached}
 use Rattle.cli_live.specs.LiveReady.{out_of}
-use Rattle.cli_live.specs.LiveWords.{LiveWords, live_plan}
+use Rattle.cli_plans.specs.CommandLine.{LiveWords, SnapWords}
 use Rattle.cli_snap.specs.SnapAnswers.{saving_of, SavesSnapshot, AnswersSnapReached}
-use Rattle.cli_snap.specs.SnapWords.{SnapWords, snap_plan}
-use Rattle.cli_snap.specs.SnapWords.{out_of as snap_out}
+use Rattle.cli_snap.specs.SnapReady.{out_of as snap_out}
 use Rattle.laws_guarantee.specs.Guarded.{IsGuarded}
 use Rattle.laws_guarantee.proofs.GuardedHolds.{guarded_law}
 use Rattle.laws_program.specs.Starts.{IsMeasuredStart}

@@ -21,7 +21,7 @@ use Rattle.cli_plans.specs.Reading.{FoundAs, Follows}
 use Rattle.cli_plans.specs.declared.file_fault.Part.{Part}
 use Rattle.cli_plans.specs.declared.refusal.Refusal.{Refusal}
 use Rattle.cli_resume.specs.ResumePlans.{contents_judged, snapshot_part, events_after, resumed_due, behind_script, after_policy, after_snapshot, words_plan, resume_plan}
-use Rattle.cli_resume.specs.ResumeWords.{ResumeWords}
+use Rattle.cli_plans.specs.CommandLine.{ResumeWords}
 use Rattle.laws_program.specs.ResumeLaw.{HoldBytes, IsResumedStart, ResumeLaw}
 use Rattle.laws_program.proofs.PolicyWords.{GoodRules}
 use Rattle.laws_program.proofs.PlanWalks.{DueRuns, Runs, followed, policy_runs, script_runs}
@@ -71,7 +71,8 @@ pub resume_due : (asked : Result ResumeWords Refusal) (old read : FilesState) (d
     → DueRuns ⊥ IsResumedStart due
 unfolding resume_plan words_plan snapshot_part
 resume_due (Err refusal) old read due holds f = followed ⊥ IsResumedStart (End (Refuse refusal)) old read due tt f
-resume_due (Ok words) old read due holds f =
+resume_due (Ok words) old read due holds (inl none) = absurd (cc none.0)
+resume_due (Ok words) old read due holds (inr f) =
     read_runs words.saved _ _ old read due holds
     (λ bytes are. contents_runs (after_snapshot words) (snapshot_read bytes) (λ c is. snapshot_runs words c (snapshot_law.only bytes c are is).1)) f
 

@@ -7,13 +7,12 @@ use Rattle.spec_reference.specs.Origins.{is_kernel_text, ownership}
 use Rattle.spec_reference.specs.Run.{run}
 use Rattle.spec_reference.specs.States.{State}
 use Rattle.host_io.specs.Outside.{FilesState}
-use Rattle.cli_plans.specs.CommandLine.{Command}
+use Rattle.cli_plans.specs.CommandLine.{Command, ResumeWords}
 use Rattle.cli_plans.specs.Plans.{RunFrom, plan_of}
 use Rattle.cli_plans.specs.Reading.{Follows}
 use Rattle.cli_plans.specs.declared.refusal.Refusal.{Refusal}
 use Rattle.secvisor_cli.specs.Answers.{Headline, Outside}
 use Rattle.cli_resume.specs.ResumePlans.{resume_plan}
-use Rattle.cli_resume.specs.ResumeWords.{ResumeWords}
 use Rattle.laws_guarantee.specs.Reached.{IsReached}
 use Rattle.laws_program.specs.ResumeLaw.{HoldBytes}
 

@@ -2,3 +2,4 @@ pub mod Starts
 pub mod ResumeLaw
 pub mod GuaranteedLaw
 pub mod ProgramLaw
+pub mod SnapResumed

@@ -15,7 +15,7 @@ use Rattle.cli_plans.specs.Plans.{RunFrom}
 use Rattle.cli_plans.specs.Reading.{Follows}
 use Rattle.cli_plans.specs.declared.refusal.Refusal.{Refusal}
 use Rattle.cli_resume.specs.ResumePlans.{resume_plan}
-use Rattle.cli_resume.specs.ResumeWords.{ResumeWords}
+use Rattle.cli_plans.specs.CommandLine.{ResumeWords}
 use Rattle.laws_guarantee.specs.Reached.{IsReached}
 
 -- the files tell what they hold, and that is bytes

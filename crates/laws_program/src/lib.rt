@@ -6,6 +6,7 @@ ghost use Rattle.laws_guarantee.specs.Reached.{ReachedLaw};
 ghost use Rattle.laws_program.specs.GuaranteedLaw.{GuaranteedLaw};
 ghost use Rattle.laws_program.specs.ProgramLaw.{ProgramLaw};
 ghost use Rattle.laws_program.specs.ResumeLaw.{ResumeLaw};
+ghost use Rattle.laws_program.specs.SnapResumed.{SnapResumedLaw};
 ghost use Rattle.laws_program.specs.Starts.{MeasuredLaw, StartsLaw};
 
 /// Where the program was asked for a run and answered 0, 1 or 7, its console, report and saved disk are those of a run in which
@@ -39,4 +40,10 @@ pub fn law_guaranteed()
 /// Each state that a run reaches from a start whose text was measured is sound, has its origins and the digests of its text.
 pub fn law_reached()
     ensures { ReachedLaw }
+{}
+
+/// What `snap` saves is what `resume` reads: with these bytes under SNAPSHOT, the policy of the run and its script, `resume` is due
+/// the run from the snapshot's state with the events that are left, and both together print and leave what the whole run does.
+pub fn law_snap_resumed()
+    ensures { SnapResumedLaw }
 {}

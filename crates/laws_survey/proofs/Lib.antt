@@ -1,2 +1,3 @@
 pub mod PassesHold
 pub mod SurveysHold
+pub mod HwPassesHold

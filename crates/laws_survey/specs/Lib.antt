@@ -1,2 +1,3 @@
 pub mod Passing
 pub mod SurveyLaws
+pub mod HwPassing

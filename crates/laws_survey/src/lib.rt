@@ -1,6 +1,7 @@
 //! The laws of surveys: runs that pass over each instruction that would stop the machine at a write, and go on.
 #![tactic(auto)]
 
+ghost use Rattle.laws_survey.specs.HwPassing.{HwPassLaw};
 ghost use Rattle.laws_survey.specs.SurveyLaws.{MovesOnLaw, PassLaw, PassSoundLaw, SameRunLaw, SurveyedLaw};
 
 /// A pass changes nothing but the pc of a hart and the verdict: no byte, register, reservation, count, page or device.
@@ -27,4 +28,9 @@ pub fn law_surveyed()
 /// Where no write stops the run, the survey of the same events is that run.
 pub fn law_same_run()
     ensures { SameRunLaw }
+{}
+
+/// A machine that stands for a state stands, after the same pass on it, for the state after the pass.
+pub fn law_hw_pass()
+    ensures { HwPassLaw }
 {}

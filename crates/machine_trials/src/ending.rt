@@ -38,8 +38,9 @@ pub(crate) fn end_of_run(machine: Machine, script: Script, events: u64) -> Endin
 {
     let mut machine = machine;
     let mut out = Silent;
-    if run(&mut machine, script, events, &mut out).is_err() {
-        unreachable!();
+    match run(&mut machine, script, events, &mut out) {
+        Ok(()) => {}
+        Err(_) => unreachable!(),
     }
     Ending {
         outcome: Outcome::of(machine.verdict()),

@@ -1,6 +1,7 @@
 // How a run ends.
 ghost use Rattle.std.specs.Prelude.{◌≡◌};
-ghost use Rattle.run_tally.specs.Tallies.{outcome_of};
+ghost use Rattle.run_tally.specs.Tallies.{outcome_of, same};
+ghost use Rattle.run_tally.specs.Lines.{is_stop};
 
 use sv_types::{Rule, Verdict};
 
@@ -29,6 +30,24 @@ impl Outcome {
                 Rule::Entry { target } => Outcome::Entry { target },
                 Rule::Write { pc, gpa } => Outcome::Write { pc, gpa },
             },
+        }
+    }
+
+    /// Whether it is the same way to end.
+    #[tactic(auto, using(crate::proofs::Counting::derived_same))]
+    pub fn is(self, other: Outcome) -> bool
+        ensures { result ≡ same self other }
+    {
+        self == other
+    }
+
+    /// Whether the run stopped.
+    pub fn is_stop(self) -> bool
+        ensures { result ≡ is_stop self }
+    {
+        match self {
+            Outcome::Entry { .. } | Outcome::Write { .. } => true,
+            Outcome::ShutDown | Outcome::Ended => false,
         }
     }
 }

@@ -1,6 +1,6 @@
 // The ways to stop that came.
 ghost use Rattle.std.specs.Prelude.{◌≡◌, ◌++◌, ◌∷◌, [], IfOk, OnOk, slice_get, take};
-ghost use Rattle.run_tally.specs.Lines.{is_stop, stops_of, max_stop_lines};
+ghost use Rattle.run_tally.specs.Lines.{stops_of, max_stop_lines};
 
 use crate::outcome::Outcome;
 use crate::tally::{Tallies, Tally};
@@ -17,20 +17,11 @@ fn entry_at(tallies: &Tallies, place: usize) -> Option<(Outcome, Tally)>
     Some((*outcome, *tally))
 }
 
-fn is_stop(outcome: Outcome) -> bool
-    ensures { result ≡ is_stop outcome }
-{
-    match outcome {
-        Outcome::Entry { .. } | Outcome::Write { .. } => true,
-        Outcome::ShutDown | Outcome::Ended => false,
-    }
-}
-
 // An entry more, where it is of a way to stop.
 fn push_stop(stops: &mut Vec<(Outcome, Tally)>, entry: (Outcome, Tally)) -> Result<(), AllocError>
     ensures { OnOk result (stops.new.items ≡ stops.old.items ++ stops_of (entry ∷ [])) }
 {
-    if is_stop(entry.0) {
+    if entry.0.is_stop() {
         stops.push(entry)?;
     }
     Ok(())

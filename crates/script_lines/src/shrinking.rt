@@ -6,6 +6,7 @@ use crate::listing::{halved, joined};
 use delta_debugging::{Stops, minimize};
 use script::EventRun;
 use std::alloc::{AllocError, Global};
+use std::thread::Threads;
 
 // How many lines there are, and how many events.
 fn size_of_lines(lines: &[EventRun]) -> (usize, u64) {
@@ -23,7 +24,8 @@ fn is_smaller(lines: &[EventRun], other: &[EventRun]) -> bool {
 }
 
 // Whether a run stops so under these lines, where one is left.
-fn try_lines<S: Stops<EventRun>>(
+fn try_lines<R: Threads + Sync, S: Stops<EventRun>>(
+    rt: &R,
     test: &S,
     lines: &[EventRun],
     runs: &mut u64,
@@ -36,12 +38,13 @@ fn try_lines<S: Stops<EventRun>>(
         return Ok(false);
     }
     *runs -= 1;
-    test.stops_so(lines)
+    test.stops_so(rt, lines)
 }
 
 // Tries to do with halves of some lines, and joins what then stands together. False where that makes nothing smaller: then the
 // lines stay as they are.
-fn spare_halves<S: Stops<EventRun>>(
+fn spare_halves<R: Threads + Sync, S: Stops<EventRun>>(
+    rt: &R,
     alloc: Global,
     test: &S,
     lines: &mut Vec<EventRun>,
@@ -54,12 +57,12 @@ fn spare_halves<S: Stops<EventRun>>(
     ensures used { IfOk result (λ spared. spared ≡ true → runs.new < runs.old) }
 {
     let mut halves = halved(alloc, lines)?;
-    if !try_lines(test, &halves, runs)? {
+    if !try_lines(rt, test, &halves, runs)? {
         return Ok(false);
     }
-    minimize(alloc, test, &mut halves, runs)?;
+    minimize(rt, alloc, test, &mut halves, runs)?;
     let joined = joined(alloc, &halves)?;
-    if !is_smaller(&joined, lines) || !try_lines(test, &joined, runs)? {
+    if !is_smaller(&joined, lines) || !try_lines(rt, test, &joined, runs)? {
         return Ok(false);
     }
     *lines = joined;
@@ -68,7 +71,8 @@ fn spare_halves<S: Stops<EventRun>>(
 
 /// Takes lines away, and halves of their counts, while a run stops so under those that are left, by at most so many runs. True
 /// where the runs sufficed: then it stops so no more without any one of the lines. Out of memory it keeps what was reached.
-pub fn shrink_lines<S: Stops<EventRun>>(
+pub fn shrink_lines<R: Threads + Sync, S: Stops<EventRun>>(
+    rt: &R,
     alloc: Global,
     test: &S,
     lines: &mut Vec<EventRun>,
@@ -80,10 +84,10 @@ pub fn shrink_lines<S: Stops<EventRun>>(
     ensures runs { runs.new ≤ runs.old }
 {
     'rounds: while *runs > 0 {
-        if !minimize(alloc, test, lines, runs)? {
+        if !minimize(rt, alloc, test, lines, runs)? {
             return Ok(false);
         }
-        if !spare_halves(alloc, test, lines, runs)? {
+        if !spare_halves(rt, alloc, test, lines, runs)? {
             return Ok(true);
         }
     }

@@ -2,13 +2,12 @@
 #![tactic(auto)]
 
 mod again;
-mod help;
+mod version;
 
 use again::PlainFiles;
-use cli_diagnostics::{Ending, MostBytes, remark, stop_remark};
+use cli_diagnostics::{Ending, MostBytes, WordRemark, help, remark, stop_remark, word_remark};
 use cli_dispatch::answer;
-use help::help;
-use host_files::{RealFiles, StdSink};
+use host_files::{Escaped, RealFiles, StdSink};
 use live_keys::{ReaderKeys, Still};
 use secvisor_cli::{
     Bench, MAX_DISK_BYTES, MAX_FLAT_BYTES, MAX_IMAGE_BYTES, MAX_OBJECT_BYTES, MAX_POLICY_BYTES,
@@ -20,6 +19,7 @@ use std::env;
 use std::io::{ErrorKind, IsTerminal};
 use std::process::ExitCode;
 use std::thread::Threads;
+use version::VERSION;
 
 // Every end has its status, out of memory before the program is called too.
 fn main(rt: HostRuntime) -> ExitCode {
@@ -46,8 +46,8 @@ fn main(rt: HostRuntime) -> ExitCode {
         &Still,
         &mut bench,
     );
+    explain(&rt, &rt, &words, status);
     if rt.stderr().is_terminal() {
-        explain(&rt, &rt, &words, status);
         explain_ending(&rt, &words, &bench);
     }
     ExitCode::from(status.number())
@@ -64,19 +64,18 @@ const MAX_BYTES: MostBytes = MostBytes {
     snapshot: MAX_SNAPSHOT_BYTES,
 };
 
-// To a person at a terminal alone, so that other programs read of a refusal the one line. A failure changes nothing.
+// To a person, on standard error. A failure changes nothing.
 #[inline(never)]
 fn explain<R: Threads + Sync>(rt: &HostRuntime, threads: &R, words: &[String], status: Status) {
     match status {
-        Status::Usage => {
-            let _written = eprint!(rt; "{}", help());
-        }
+        Status::Usage => explain_words(rt, words),
         Status::Refused => {
             let files = PlainFiles { rt };
             if let Some(said) = remark(threads, rt.alloc(), words, &files, &MAX_BYTES) {
-                let _written = eprintln!(rt; "secvisor: {said}");
+                say(rt, said.as_str());
             }
         }
+        Status::Memory => say(rt, "out of memory"),
         _ => {}
     }
 }
@@ -91,9 +90,45 @@ fn explain_ending(rt: &HostRuntime, words: &[String], bench: &Bench) {
         };
         let files = PlainFiles { rt };
         if let Some(said) = stop_remark(rt.alloc(), words, &files, &MAX_BYTES, &ending) {
-            let _written = eprintln!(rt; "secvisor: {said}");
+            say(rt, said.as_str());
         }
     }
+}
+
+// All of the help where it is asked for, and else what is wrong with which word.
+fn explain_words(rt: &HostRuntime, words: &[String]) {
+    match words {
+        [] => explain_all(rt),
+        [first, ..] => match first.as_str() {
+            "help" | "--help" => explain_all(rt),
+            "--version" => {
+                let _written = eprint!(rt; "{}", VERSION);
+            }
+            _ => {
+                if let Ok(said) = word_remark(rt.alloc(), words) {
+                    explain_word(rt, &said);
+                }
+            }
+        },
+    }
+}
+
+fn explain_all(rt: &HostRuntime) {
+    if let Ok(text) = help(rt.alloc()) {
+        let _written = eprint!(rt; "{}", text.as_str());
+    }
+}
+
+fn explain_word(rt: &HostRuntime, said: &WordRemark) {
+    say(rt, said.what.as_str());
+    say(rt, said.permitted.as_str());
+    say(rt, said.usage.as_str());
+}
+
+// A line, in which control characters are escapes.
+fn say(rt: &HostRuntime, text: &str) {
+    let text = Escaped { text };
+    let _written = eprintln!(rt; "secvisor: {text}");
 }
 
 // The words after the program's name. Where one is no UTF-8 text they are none, which are of no command. It is

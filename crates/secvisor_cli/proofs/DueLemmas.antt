@@ -9,10 +9,11 @@ use Rattle.sv_types.specs.Output.{run_status}
 use Rattle.spec_reference.specs.Report.{output}
 use Rattle.spec_reference.specs.Run.{run}
 use Rattle.spec_reference.specs.States.{State}
+use Rattle.sv_types.specs.Policies.{Rules}
 use Rattle.host_io.specs.Outside.{FilesState}
 use Rattle.cli_plans.specs.declared.file_fault.Part.{Part}
 use Rattle.secvisor_cli.specs.Answers.{Outside, outside, is_answer, MeetsSavesAfter, Meets, MeetsReached}
-use Rattle.secvisor_cli.specs.DueIn.{found_in, due_in, ComesToDue, AreReadWhole, EndsAs, RunEnds}
+use Rattle.secvisor_cli.specs.DueIn.{found_in, due_in, ComesToDue, AreReadWhole, EndsAs, RunEnds, MakeEnds}
 use Rattle.cli_plans.specs.Plans.{Due, Refuse, RunFrom, Make, Plan, End, Read, Judge, Found, Faulty, Missing, Longer, Held, found_plan, read_part, Saving, policy_saving, saves_due}
 use Rattle.cli_plans.specs.Reading.{FoundAs, Follows, Saved, SaveBroke}
 use Rattle.cli_plans.specs.Refusals.{refusal_line}
@@ -143,17 +144,30 @@ ends_after due old read new answer same ends =
     subst (λ (n : ℕ). (answer ≡ due)
     ⊎ (((answer ≡ Status.WriteFault) × ((old.sink.faults < new.sink.faults) ⊎ (n < new.files.save_faults))) ⊎ (answer ≡ Status.Memory))) same ends
 
-reached_ends : (plan : Plan) (start : State) (events : List Event) (save : Option (List ℕ)) (old new : Outside) (read : FilesState) (reached : Option Due) (answer : Status) →
-    AreReadWhole old.files new.files → due_in old.files.held plan ≡ RunFrom start events save → Follows plan old.files read reached →
-    MeetsReached reached (outside read old.sink old.bench) new answer → EndsAs (run_status (run start events).journal.verdict) old new answer
-reached_ends plan start events save old new read None answer whole is follows m = inr (inr m.0)
-reached_ends plan start events save old new read (Some due) answer whole is follows m =
+reached_ends : (plan : Plan) (asked : Due) (status : Status) (old new : Outside) (read : FilesState) (reached : Option Due) (answer : Status) →
+    ((before : Outside) → Meets asked before new answer → EndsAs status before new answer) → AreReadWhole old.files new.files → due_in old.files.held plan ≡ asked →
+    Follows plan old.files read reached → MeetsReached reached (outside read old.sink old.bench) new answer → EndsAs status old new answer
+reached_ends plan asked status old new read None answer ends whole is follows m = inr (inr m.0)
+reached_ends plan asked status old new read (Some due) answer ends whole is follows m =
     let count = meets_unread due (outside read old.sink old.bench) new answer (kind_of answer) m in
-    let same : due ≡ RunFrom start events save = sym (comes_to_due plan old.files read due whole.tells (sym count ∙ whole.unfailed) follows) ∙ is in
-    ends_after (run_status (run start events).journal.verdict) old read new answer (follows_keeps plan old.files read (Some due) follows).saves
-    (run_met start events save (outside read old.sink old.bench) new answer (kind_of answer)
-    (subst (λ (d : Due). Meets d (outside read old.sink old.bench) new answer) same m))
+    let same : due ≡ asked = sym (comes_to_due plan old.files read due whole.tells (sym count ∙ whole.unfailed) follows) ∙ is in
+    ends_after status old read new answer (follows_keeps plan old.files read (Some due) follows).saves
+    (ends (outside read old.sink old.bench) (subst (λ (d : Due). Meets d (outside read old.sink old.bench) new answer) same m))
 
 pub run_ends : RunEnds
 run_ends plan start events save old new answer whole is h =
-    reached_ends plan start events save old new h.read h.reached answer whole is h.follows h.meets
+    reached_ends plan (RunFrom start events save) (run_status (run start events).journal.verdict) old new h.read h.reached answer
+    (λ before m. run_met start events save before new answer (kind_of answer) m) whole is h.follows h.meets
+
+made_met : (name : List ℕ) (rules : Rules) (line : List ℕ) (old new : Outside) (answer : Status) → Kind answer → Meets (Make name rules line) old new answer → EndsAs Status.Done old new answer
+made_met name rules line old new answer (Proper good) m = inl (m.status good)
+made_met name rules line old new answer (Faulted fault) m = elim (m.saves.broke fault) [
+  | inl it ↦ inr (inl (fault, inr it.0.faults))
+  | inr it ↦ inr (inl (fault, inl it.1))
+]
+made_met name rules line old new answer (Wanting is) m = inr (inr is)
+
+pub make_ends : MakeEnds
+make_ends plan name rules line old new answer whole is h =
+    reached_ends plan (Make name rules line) Status.Done old new h.read h.reached answer
+    (λ before m. made_met name rules line before new answer (kind_of answer) m) whole is h.follows h.meets

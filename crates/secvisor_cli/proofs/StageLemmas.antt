@@ -23,6 +23,9 @@ use Rattle.sv_types.specs.Limits.{max_disk_bytes}
 use Rattle.cli_plans.specs.declared.file_fault.Part.{Part}
 use Rattle.cli_plans.specs.declared.file_fault.FileFault.{FileFault}
 use Rattle.cli_plans.specs.declared.refusal.Refusal.{Refusal}
+use Rattle.cli_plans.specs.declared.asking.Unread.{Unread}
+use Rattle.cli_plans.specs.declared.asking.Unread.TheVariants as unread
+use Rattle.cli_plans.specs.Words.{IsAsked, command_of}
 use Rattle.cli_plans.specs.declared.refusal.Refusal.TheVariants.{File, Measure, Entry}
 use Rattle.secvisor_cli.specs.declared.ready.Ready.{Ready}
 use Rattle.secvisor_cli.specs.declared.ready.Stop.{Stop}
@@ -30,7 +33,7 @@ use Rattle.secvisor_cli.specs.declared.ready.Stop.TheVariants.{Refused, Memory}
 use Rattle.cli_plans.specs.CommandLine.{Command, RunWords, Rounds, Auto, Bursts, Text}
 use Rattle.cli_plans.specs.Plans.{Due, Refuse, RunFrom, Plan, End, Judge, Held, found_plan, read_part, max_policy_bytes, max_script_bytes, policy_judged, policy_part, part_judged, kernel_part, disk_refusal, disk_part, text_part, script_part, image_measure, boot_judged, boot_plan, command_plan, plan_of, start_with}
 use Rattle.cli_plans.specs.Reading.{FoundAs, Follows, MayFollow}
-use Rattle.secvisor_cli.specs.Ready.{PartRead, stop_of, IsReady, Prepares, Passes, Staged, MayStage, IsPolicy, IsKernel, IsScript}
+use Rattle.secvisor_cli.specs.Ready.{PartRead, stop_of, stop_of_unread, IsReady, Prepares, Passes, Staged, MayStage, IsPolicy, IsKernel, IsScript}
 use Rattle.secvisor_cli.proofs.ReadyLemmas.{end_ready, judge_ready, judge_wants, judge_end, read_ready, stopped_ready, bytes_eq-same, bytes_eq-other}
 
 -- ---- any stage
@@ -52,6 +55,11 @@ pub words_want : (asked : Result Command Refusal) (files : FilesState) → IsTru
 unfolding plan_of
 words_want (Ok command) files good = judge_wants (command_plan command) files
 words_want (Err refusal) files good = absurd (cc good)
+
+-- words that aren't read
+pub words_unread : (asked : Result Command Refusal) (why : Unread) (files : FilesState) → IsAsked command_of asked (Err why) → Prepares (plan_of asked) files files (Err (stop_of_unread why))
+words_unread asked (unread.Refused refusal) files is = words_refused asked refusal files is
+words_unread asked unread.Memory files good = words_want asked files good
 
 pub words_may : (asked : Result Command Refusal) (command : Command) (files : FilesState) → asked ≡ Ok command → MayFollow (plan_of asked) files → MayFollow (command_plan command) files
 unfolding plan_of

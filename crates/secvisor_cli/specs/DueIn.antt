@@ -5,9 +5,10 @@ use Rattle.sv_types.specs.declared.status.Status.{Status}
 use Rattle.sv_types.specs.Output.{run_status}
 use Rattle.spec_reference.specs.Run.{run}
 use Rattle.spec_reference.specs.States.{State}
+use Rattle.sv_types.specs.Policies.{Rules}
 use Rattle.host_io.specs.Outside.{FilesState}
 use Rattle.secvisor_cli.specs.Answers.{Outside, Headline}
-use Rattle.cli_plans.specs.Plans.{Due, RunFrom, Plan, End, Read, Judge, Found, Missing, Longer, Held}
+use Rattle.cli_plans.specs.Plans.{Due, RunFrom, Make, Plan, End, Read, Judge, Found, Missing, Longer, Held}
 use Rattle.cli_plans.specs.Reading.{Follows}
 
 -- ---- what is due in files that hold something
@@ -48,3 +49,9 @@ abbrev pub RunEnds : Type 0
 RunEnds = (plan : Plan) (start : State) (events : List Event) (save : Option (List ℕ)) (old new : Outside) (answer : Status) →
     AreReadWhole old.files new.files → due_in old.files.held plan ≡ RunFrom start events save → Headline plan old new answer →
     EndsAs (run_status (run start events).journal.verdict) old new answer
+
+-- Where it asks for a policy, nothing is refused either: the answer is 0.
+abbrev pub MakeEnds : Type 0
+MakeEnds = (plan : Plan) (name : List ℕ) (rules : Rules) (line : List ℕ) (old new : Outside) (answer : Status) →
+    AreReadWhole old.files new.files → due_in old.files.held plan ≡ Make name rules line → Headline plan old new answer →
+    EndsAs Status.Done old new answer

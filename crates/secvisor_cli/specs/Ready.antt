@@ -29,6 +29,8 @@ use Rattle.machine.specs.declared.boot.BootRefusal.{BootRefusal}
 use Rattle.cli_plans.specs.declared.file_fault.Part.{Part}
 use Rattle.cli_plans.specs.declared.file_fault.FileFault.{FileFault}
 use Rattle.cli_plans.specs.declared.refusal.Refusal.{Refusal}
+use Rattle.cli_plans.specs.declared.asking.Unread.{Unread}
+use Rattle.cli_plans.specs.declared.asking.Unread.TheVariants as unread
 use Rattle.cli_plans.specs.declared.refusal.Refusal.TheVariants.{ReadFault, File}
 use Rattle.secvisor_cli.specs.declared.ready.Ready.{Ready}
 use Rattle.secvisor_cli.specs.declared.ready.Ready.TheVariants.{Run, Save}
@@ -54,6 +56,16 @@ abbrev pub PartRead : Part → List ℕ → ℕ → FilesState → FilesState �
 PartRead part name limit old new (Ok bytes) = FoundAs old new name limit (Held bytes.items)
 PartRead part name limit old new (Err (Refused refusal)) = (found : Found) × FoundAs old new name limit found × (read_refusal part found ≡ Some refusal)
 PartRead part name limit old new (Err Memory) = new ≡ after_asking name limit old
+
+-- words that aren't read
+abbrev pub stop_of_unread : Unread → Stop
+stop_of_unread (unread.Refused refusal) = Refused refusal
+stop_of_unread unread.Memory = Memory
+
+-- what is ready of a command that runs a machine
+abbrev pub run_ready : Result PreparedRun Stop → Result Ready Stop
+run_ready (Ok booted) = Ok (Run booted)
+run_ready (Err stop) = Err stop
 
 -- a boot that is refused
 abbrev pub stop_of : BootRefusal → Stop
@@ -86,9 +98,8 @@ pub record IsRunnable (ready : PreparedRun) : Type 0 where
   pub console : ready.machine.journal.printed ≡ []
 
 -- the events are drawn after a number, for as many harts as the machine has
-abbrev pub DrawsFrom : (number : ℕ) → Ready → Type 0
-DrawsFrom number (Run booted) = booted.script ≡ Schedule.Auto booted.machine.rules.harts number
-DrawsFrom number (Save made) = ⊥
+abbrev pub DrawsFrom : (number : ℕ) → PreparedRun → Type 0
+DrawsFrom number booted = booted.script ≡ Schedule.Auto booted.machine.rules.harts number
 
 -- a text that reads as the policy, under its name, and the line that is printed after it
 pub record IsMade (name : List ℕ) (rules : Rules) (line : List ℕ) (made : Made) : Type 0 where

@@ -26,10 +26,9 @@ use crate::flat::prepare_flat;
 use crate::generated::prepare_gen;
 use crate::image_run::prepare_run;
 use crate::making::prepare_policy;
-use crate::ready::{Made, PreparedRun, Ready, Stop};
+use crate::ready::{Made, PreparedRun, Ready, Stop, run_ready};
 use crate::save::save_disk;
-use cli_plans::{Command, Refusal, judge, read_words};
-use cli_words::split;
+use cli_plans::{Command, Refusal, ask};
 use host_io::{Files, Sink, Trouble, status_of_end, write_all};
 use machine::{Machine, run};
 use report::{report, status_of};
@@ -122,9 +121,7 @@ fn prepare<'a, R: Threads + Sync, F: Files>(
     requires reads { CanCount (F.state files.old).read_faults }
     ensures { Prepares (plan_of (judgement_of_words (map string_bytes words.now))) (F.state files.old) (F.state files.new) result }
 {
-    judge(words)?;
-    let words = split(alloc, words)?;
-    let command = read_words(words)?;
+    let command = ask(alloc, words)?;
     prepare_command(rt, alloc, &command, files)
 }
 
@@ -143,7 +140,7 @@ fn prepare_command<'a, R: Threads + Sync, F: Files>(
     match command {
         Command::Flat(flat) => prepare_flat(rt, alloc, flat, files),
         Command::Generated(calls) => prepare_gen(rt, alloc, *calls),
-        Command::Run(run) => prepare_run(rt, alloc, run, files),
+        Command::Run(run) => run_ready(prepare_run(rt, alloc, run, files)),
         Command::MakePolicy(policy) => prepare_policy(rt, alloc, policy, files),
         Command::Convert(convert) => prepare_converted(rt, alloc, convert, files),
     }

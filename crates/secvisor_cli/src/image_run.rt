@@ -13,13 +13,13 @@ ghost use Rattle.policy.specs.Text.{rules_of_text};
 ghost use Rattle.cli_plans.specs.CommandLine.{Auto};
 ghost use Rattle.cli_plans.specs.Plans.{policy_part, kernel_part, disk_part, text_part, script_part, boot_plan, run_plan, start_with};
 ghost use Rattle.cli_plans.specs.Reading.{MayFollow};
-ghost use Rattle.secvisor_cli.specs.Ready.{Prepares, Staged, MayStage, DrawsFrom, IsPolicy, IsKernel, IsScript};
+ghost use Rattle.secvisor_cli.specs.Ready.{Prepares, Staged, MayStage, DrawsFrom, IsPolicy, IsKernel, IsScript, run_ready};
 ghost use Rattle.cli_plans.specs.Words.{source_value, run_value};
 ghost use Rattle.script.specs.HartCounts.{IsHartCount};
 ghost use Rattle.spec_processor.specs.Counters.{CanCount};
 
 use crate::parts::read_part;
-use crate::ready::{PreparedRun, Ready, Stop};
+use crate::ready::{PreparedRun, Stop};
 use cli_plans::{FileFault, Part, Refusal, Run, Source};
 use cli_words::DiskKind;
 use elf64_load::{ElfRefusal, KernelImage, read_kernel};
@@ -49,11 +49,11 @@ pub fn prepare_run<'a, R: Threads + Sync, F: Files>(
     alloc: Global,
     asked: &Run<'a>,
     files: &mut F,
-) -> Result<Ready<'a>, Stop>
+) -> Result<PreparedRun<'a>, Stop>
     requires permitted { MayFollow (run_plan (run_value asked.now)) (F.state files.old) }
     requires reads { CanCount (F.state files.old).read_faults }
     requires events { asked.now.events ≤ max_events }
-    ensures prepares { Prepares (run_plan (run_value asked.now)) (F.state files.old) (F.state files.new) result }
+    ensures prepares { Prepares (run_plan (run_value asked.now)) (F.state files.old) (F.state files.new) (run_ready result) }
     ensures draws { (number : ℕ) → source_value asked.now.script ≡ Auto number → IfOk result (DrawsFrom number) }
 {
     let policy = read_policy(alloc, asked.policy, files)?;
@@ -69,24 +69,24 @@ fn boot_file<'a, R: Threads + Sync, F: Files>(
     policy: Policy,
     file: &[u8],
     files: &mut F,
-) -> Result<Ready<'a>, Stop>
+) -> Result<PreparedRun<'a>, Stop>
     requires permitted { MayFollow (kernel_part (rules_of policy) file.now (boot_plan (run_value asked.now) (rules_of policy) file.now)) (F.state files.old) }
     requires reads { CanCount (F.state files.old).read_faults }
     requires events { asked.now.events ≤ max_events }
     requires within { IsTrue (rules_within (rules_of policy)) }
-    ensures prepares { Prepares (kernel_part (rules_of policy) file.now (boot_plan (run_value asked.now) (rules_of policy) file.now)) (F.state files.old) (F.state files.new) result }
+    ensures prepares { Prepares (kernel_part (rules_of policy) file.now (boot_plan (run_value asked.now) (rules_of policy) file.now)) (F.state files.old) (F.state files.new) (run_ready result) }
     ensures draws { (number : ℕ) → source_value asked.now.script ≡ Auto number → IfOk result (DrawsFrom number) }
 {
     let image = judge_kernel(alloc, file, policy.ram_pages)?;
     let disk = read_disk(alloc, asked.disk, files)?;
     let script = read_script(alloc, &asked.script, policy.harts, files)?;
     let machine = boot_with(rt, alloc, asked.kind, &image, policy, disk)?;
-    Ok(Ready::Run(PreparedRun {
+    Ok(PreparedRun {
         machine,
         script,
         events: asked.events,
         save: asked.save,
-    }))
+    })
 }
 
 // A machine with a disk of such a kind.

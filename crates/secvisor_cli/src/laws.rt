@@ -6,7 +6,7 @@ ghost use Rattle.sv_types.specs.declared.status.Status.{Status};
 ghost use Rattle.secvisor_cli.specs.Answers.{Headline, Outside};
 ghost use Rattle.cli_plans.specs.CommandLine.{Convert};
 ghost use Rattle.secvisor_cli.specs.Converted.{IsConverted};
-ghost use Rattle.secvisor_cli.specs.DueIn.{ComesToDue, RunEnds};
+ghost use Rattle.secvisor_cli.specs.DueIn.{ComesToDue, MakeEnds, RunEnds};
 ghost use Rattle.cli_plans.specs.Plans.{plan_of};
 
 /// Where `convert` ends with status 0, the policy that its name holds was saved with its entries bound to their places in the
@@ -24,4 +24,10 @@ pub fn law_due()
 /// or a save failed, or memory ran out.
 pub fn law_run_ends()
     ensures { RunEnds }
+{}
+
+/// Of a command that is due a policy in such files, `measure` or `convert`, nothing is refused: it ends with status 0, or a write
+/// or the save failed, or memory ran out.
+pub fn law_make_ends()
+    ensures { MakeEnds }
 {}

@@ -20,7 +20,7 @@ pub use image_run::{
     MAX_DISK_BYTES, MAX_IMAGE_BYTES, MAX_POLICY_BYTES, MAX_SCRIPT_BYTES, prepare_run, read_policy,
     read_script,
 };
-pub use laws::{law_converted, law_due, law_run_ends};
+pub use laws::{law_converted, law_due, law_make_ends, law_run_ends};
 pub use making::MAX_OBJECT_BYTES;
 pub use parts::read_part;
 pub use ready::{Made, PreparedRun, Ready, Stop};

@@ -2,9 +2,9 @@
 ghost use Rattle.std.specs.Prelude.{◌≡◌};
 ghost use Rattle.secvisor_cli.specs.declared.ready.Stop.TheVariants.{Refused, Memory};
 ghost use Rattle.cli_plans.specs.Plans.{binding_refusal, making_fault};
-ghost use Rattle.secvisor_cli.specs.Ready.{stop_of, stop_of_binding, stop_of_making};
+ghost use Rattle.secvisor_cli.specs.Ready.{run_ready, stop_of, stop_of_binding, stop_of_making, stop_of_unread};
 
-use cli_plans::{FileFault, Refusal};
+use cli_plans::{FileFault, Refusal, Unread};
 use machine::{BootRefusal, Machine};
 use policy_limits::PolicyFault;
 use policy_making::{BindFault, BindRefusal, MakingFault, MakingRefusal};
@@ -42,6 +42,27 @@ pub enum Stop {
     Refused(Refusal),
     /// Memory ran out.
     Memory,
+}
+
+/// What is ready of a command that runs a machine.
+pub fn run_ready(run: Result<PreparedRun<'_>, Stop>) -> Result<Ready<'_>, Stop>
+    ensures { result ≡ run_ready run.entry }
+{
+    match run {
+        Ok(booted) => Ok(Ready::Run(booted)),
+        Err(stop) => Err(stop),
+    }
+}
+
+impl From<Unread> for Stop {
+    ghost from_gives = { λ u s. s ≡ stop_of_unread u };
+
+    fn from(unread: Unread) -> Self {
+        match unread {
+            Unread::Refused(refusal) => Stop::Refused(refusal),
+            Unread::Memory => Stop::Memory,
+        }
+    }
 }
 
 impl From<Refusal> for Stop {

@@ -14,6 +14,7 @@ use snapshot_reader::MAX_SNAPSHOT_BYTES;
 use std::alloc::{AllocError, Global};
 use std::io;
 use std::io::Write;
+use std::sync::Wait;
 use std::thread::Threads;
 
 /// The words of a call. In them `{measure}` is the measure.
@@ -23,7 +24,7 @@ pub fn line(alloc: Global, case: &Case, words: &str) -> Result<Vec<String>, Allo
 }
 
 /// Makes the call with these words.
-pub fn make_call<R: Threads + Sync>(
+pub fn make_call<R: Threads + Wait + Sync>(
     rt: &R,
     alloc: Global,
     case: &Case,
@@ -83,7 +84,7 @@ const MAX_BYTES: MostBytes = MostBytes {
 };
 
 /// Prints what a person at a terminal is told of the file that is refused of a command.
-pub fn print_remark<R: Threads + Sync + AllocGlobal + Print>(
+pub fn print_remark<R: Threads + Wait + Sync + AllocGlobal + Print>(
     rt: &R,
     case: &Case,
     words: &str,
@@ -111,7 +112,7 @@ pub fn tell<R: AllocGlobal + Print>(
 }
 
 // Makes a call, and tells of it.
-fn call_and_tell<R: Threads + Sync + AllocGlobal + Print>(
+fn call_and_tell<R: Threads + Wait + Sync + AllocGlobal + Print>(
     rt: &R,
     case: &mut Case,
     words: &str,
@@ -133,7 +134,7 @@ pub fn print_lines<R: Print>(rt: &R, bytes: &[u8]) -> io::Result<()> {
 }
 
 /// Makes a call and prints its status alone.
-pub fn count<R: Threads + Sync + AllocGlobal + Print>(
+pub fn count<R: Threads + Wait + Sync + AllocGlobal + Print>(
     rt: &R,
     case: &mut Case,
     words: &str,
@@ -143,7 +144,7 @@ pub fn count<R: Threads + Sync + AllocGlobal + Print>(
 }
 
 /// Makes a call, prints its status and all that it prints, and what a person is told where a file is refused.
-pub fn print<R: Threads + Sync + AllocGlobal + Print>(
+pub fn print<R: Threads + Wait + Sync + AllocGlobal + Print>(
     rt: &R,
     case: &mut Case,
     words: &str,
@@ -158,7 +159,7 @@ pub fn print<R: Threads + Sync + AllocGlobal + Print>(
 }
 
 /// Makes a call, prints its status and all that it prints, and says where that is other where the sink takes little at a time.
-pub fn print_pieces<R: Threads + Sync + AllocGlobal + Print>(
+pub fn print_pieces<R: Threads + Wait + Sync + AllocGlobal + Print>(
     rt: &R,
     case: &mut Case,
     words: &str,
@@ -171,7 +172,7 @@ pub fn print_pieces<R: Threads + Sync + AllocGlobal + Print>(
 }
 
 // Says where the call prints something else if the sink takes so many bytes at a time.
-fn compare<R: Threads + Sync + AllocGlobal + Print>(
+fn compare<R: Threads + Wait + Sync + AllocGlobal + Print>(
     rt: &R,
     case: &Case,
     line: &[String],
@@ -193,7 +194,7 @@ pub fn is_same(left: &Left, other: &Left) -> bool {
 
 /// Makes a call and prints its status; makes it over a sink that takes a byte at a time, each of whose writes fails in turn,
 /// and says which of these faults doesn't end the call right there.
-pub fn print_writes<R: Threads + Sync + AllocGlobal + Print>(
+pub fn print_writes<R: Threads + Wait + Sync + AllocGlobal + Print>(
     rt: &R,
     case: &mut Case,
     words: &str,
@@ -207,7 +208,7 @@ pub fn print_writes<R: Threads + Sync + AllocGlobal + Print>(
 }
 
 // Says where the call goes on when the write after these bytes fails.
-fn stop_after<R: Threads + Sync + AllocGlobal + Print>(
+fn stop_after<R: Threads + Wait + Sync + AllocGlobal + Print>(
     rt: &R,
     case: &Case,
     line: &[String],

@@ -3,9 +3,11 @@
 use crate::values::line_of;
 use host_files::RealFiles;
 use host_io::MemSink;
-use secvisor_cli::{Bench, secvisor};
+use live_keys::{MemKeys, Still};
+use secvisor_cli::Bench;
 use std::io;
 use std::io::Write;
+use std::sync::Wait;
 use std::thread::Threads;
 
 // The most bytes that a call prints.
@@ -19,14 +21,24 @@ pub static ENDLESS: [&str; 2] = [
 
 /// Prints what a call with these words says of a file without end.
 pub fn refuse_endless<
-    R: Threads + Sync + AllocGlobal + Print,
+    R: Threads + Wait + Sync + AllocGlobal + Print,
     H: std::rt::Files + AllocGlobal + Eprint + Drop,
 >(rt: &R, host: H, words: &str) -> io::Result<()> {
     let line = line_of(rt.alloc(), words)?;
     let mut out = MemSink::new(rt.alloc(), ROOM, ROOM, &[])?;
     let mut files = RealFiles::new(host, false);
     let mut bench = Bench { machine: None };
-    let status = secvisor(rt, rt.alloc(), &line, &mut files, &mut out, &mut bench);
+    let mut keys = MemKeys::new(Vec::new(rt.alloc()), Vec::new(rt.alloc()));
+    let status = cli_dispatch::answer(
+        rt,
+        rt.alloc(),
+        &line,
+        &mut files,
+        &mut keys,
+        &mut out,
+        &Still,
+        &mut bench,
+    );
     println!(rt; "status {}", status.number())?;
     io::writer(rt).write_all(out.taken_bytes())
 }

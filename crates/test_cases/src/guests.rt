@@ -8,6 +8,7 @@ use crate::values::line_of;
 use host_io::{MemFiles, MemSink};
 use std::io::Write;
 use std::rt::Files;
+use std::sync::Wait;
 use std::thread::Threads;
 use std::{fs, io};
 
@@ -28,7 +29,7 @@ struct Left {
 }
 
 // The call with these words, over the files that they name. The file that it is to make isn't there yet.
-fn call<R: Threads + Sync + Files + AllocGlobal>(
+fn call<R: Threads + Wait + Sync + Files + AllocGlobal>(
     rt: &R,
     words: &[String],
     made: &str,
@@ -42,7 +43,7 @@ fn call<R: Threads + Sync + Files + AllocGlobal>(
 }
 
 /// Prints of each guest of a list its name, the status of its run and all that the run prints.
-pub fn run_guests<R: Threads + Sync + Files + AllocGlobal + Print>(
+pub fn run_guests<R: Threads + Wait + Sync + Files + AllocGlobal + Print>(
     rt: &R,
     list: &str,
 ) -> io::Result<()> {
@@ -56,7 +57,7 @@ pub fn run_guests<R: Threads + Sync + Files + AllocGlobal + Print>(
 }
 
 /// Says of each policy of a list whether it is what the call makes.
-pub fn compare_policies<R: Threads + Sync + Files + AllocGlobal + Print>(
+pub fn compare_policies<R: Threads + Wait + Sync + Files + AllocGlobal + Print>(
     rt: &R,
     list: &str,
 ) -> io::Result<()> {
@@ -69,7 +70,7 @@ pub fn compare_policies<R: Threads + Sync + Files + AllocGlobal + Print>(
     Ok(())
 }
 
-fn run_guest<R: Threads + Sync + Files + AllocGlobal + Print>(
+fn run_guest<R: Threads + Wait + Sync + Files + AllocGlobal + Print>(
     rt: &R,
     name: &str,
     words: &str,
@@ -78,7 +79,7 @@ fn run_guest<R: Threads + Sync + Files + AllocGlobal + Print>(
     print_run(rt, name, &left)
 }
 
-fn compare_policy<R: Threads + Sync + Files + AllocGlobal + Print>(
+fn compare_policy<R: Threads + Wait + Sync + Files + AllocGlobal + Print>(
     rt: &R,
     name: &str,
     words: &str,
@@ -96,7 +97,7 @@ fn named_words(line: &str) -> Option<(&str, &str)> {
     }
 }
 
-fn call_words<R: Threads + Sync + Files + AllocGlobal>(
+fn call_words<R: Threads + Wait + Sync + Files + AllocGlobal>(
     rt: &R,
     name: &str,
     words: &str,

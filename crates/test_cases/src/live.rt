@@ -2,42 +2,18 @@
 ghost use Rattle.std.specs.Prelude.{◌≡◌, ◌<◌, ◌-◌, IfOk};
 ghost use Rattle.spec_processor.specs.Counters.{CanCount};
 
+use crate::answers::answer_with;
 use crate::calls::{is_same, line, make_call, print_lines, tell};
 use crate::case::Case;
-use crate::memory::{Answer, GOOD, Left, PRINTED_ROOM, hold, left_behind};
+use crate::memory::{GOOD, Left, PRINTED_ROOM, hold, left_behind};
 use crate::values::{first_word, number};
-use cli_live::secvisor_live;
 use host_io::{Failed, MemFiles, MemSink};
 use live_keys::{Keys, MemKeys, Pace, Still};
-use secvisor_cli::Bench;
 use std::alloc::{AllocError, Global};
 use std::io;
 use std::sync::Wait;
 use std::sync::atomic::{AtomicU64, Ordering};
 use std::thread::Threads;
-
-// The call with these words. Each parameter is a thing of its own outside of the program.
-fn answer_live<R: Threads + Wait + Sync, K: Keys + Send, P: Pace + Sync>(
-    rt: &R,
-    alloc: Global,
-    line: &[String],
-    files: &mut MemFiles,
-    keys: &mut K,
-    out: &mut MemSink,
-    pace: &P,
-) -> Answer
-    requires reads { CanCount files.old.read_faults }
-    requires saves { CanCount files.old.save_faults }
-    requires keys { CanCount (K.state keys.old).faults }
-    requires writes { CanCount out.old.faults }
-{
-    let mut bench = Bench { machine: None };
-    let status = secvisor_live(rt, alloc, line, files, keys, out, pace, &mut bench);
-    Answer {
-        status,
-        is_booted: bench.machine.is_some(),
-    }
-}
 
 // The live run of a case.
 fn live<R: Threads + Wait + Sync, K: Keys + Send, P: Pace + Sync>(
@@ -58,7 +34,7 @@ fn live<R: Threads + Wait + Sync, K: Keys + Send, P: Pace + Sync>(
         outside.piece.max(1),
         &[outside.failing_write],
     )?;
-    let answer = answer_live(rt, alloc, line, &mut files, keys, &mut out, pace);
+    let answer = answer_with(rt, alloc, line, &mut files, keys, &mut out, pace);
     left_behind(alloc, answer, &files, &out)
 }
 
@@ -243,7 +219,7 @@ fn keep_script(alloc: Global, case: &mut Case, left: &Left) -> Result<(), AllocE
 }
 
 // Prints whether the run over what was saved prints the same.
-fn print_again<R: Threads + Sync + AllocGlobal + Print>(
+fn print_again<R: Threads + Wait + Sync + AllocGlobal + Print>(
     rt: &R,
     case: &Case,
     left: &Left,

@@ -1,9 +1,13 @@
 //! Whole runs of the program over files and a sink in memory. It runs the stored guests, and prints of each its name, the
 //! status of its run and all that the run prints; it says of each stored policy whether it is what `measure` makes of its
 //! image. Then it follows the orders of the cases, a line each, and prints what each call leaves behind.
-//! `data/parts.cases` says what the orders are.
+//! `data/parts.cases` says what the orders are. At last it makes a call of each command over the files that lie in its folder,
+//! standard input and standard output.
 #![tactic(auto)]
 
+mod real;
+
+use real::call_real;
 use std::rt::Files;
 use std::sync::Wait;
 use std::thread::Threads;
@@ -34,6 +38,12 @@ fn main(rt: HostRuntime) -> io::Result<()> {
     println!(rt; "== files without end")?;
     for words in &ENDLESS {
         refuse_endless(&rt, rt.clone()?, words)?;
+    }
+    let lines = fs::read_to_string(&rt, "real.txt")?;
+    for words in lines.as_str().lines() {
+        if !words.starts_with('#') {
+            call_real(&rt, &rt, words)?;
+        }
     }
     Ok(())
 }

@@ -1,5 +1,5 @@
 use Rattle.std.proofs.Common.{sym, ◌∙◌, ap, map, string_bytes}
-use Rattle.cli_live.specs.LiveWords.{live_judged}
+use Rattle.cli_plans.specs.CommandLine.{live_judged}
 use Rattle.cli_live.proofs.ClauseLemmas.{replays, live_fault, live_effect, live_writes, live_keys, live_keyless, live_unread, live_unsaved}
 use Rattle.cli_live.proofs.answer.secvisor_live.Goals as goal
 

@@ -1,6 +1,6 @@
 use Rattle.std.proofs.Common.{◌∙◌, sym, map, string_bytes}
 use Rattle.secvisor_cli.proofs.TopLemmas.{effect, headline, headline_writes}
-use Rattle.cli_resume.specs.ResumeWords.{resume_judged}
+use Rattle.cli_plans.specs.CommandLine.{resume_judged}
 use Rattle.cli_resume.proofs.ClauseLemmas.{resume_fault, unread}
 use Rattle.cli_resume.proofs.answer.secvisor_resume.Goals as goal
 

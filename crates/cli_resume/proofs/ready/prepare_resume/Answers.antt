@@ -2,11 +2,10 @@ use Rattle.std.proofs.Common.{Err}
 use Rattle.sv_types.specs.Policies.{rules_of}
 use Rattle.snapshot_format.specs.Snapshots.{contents}
 use Rattle.cli_plans.specs.Plans.{policy_part, script_part}
-use Rattle.cli_plans.specs.Words.{source_value}
+use Rattle.cli_plans.specs.Words.{source_value, resume_value}
 use Rattle.secvisor_cli.proofs.ReadyLemmas.{err_by}
 use Rattle.cli_resume.specs.ResumePlans.{after_policy, behind_script, after_snapshot, snapshot_part, words_plan}
 use Rattle.cli_resume.specs.ResumeReady.{Resumes}
-use Rattle.cli_resume.specs.ResumeWords.{resume_value}
 use Rattle.cli_resume.proofs.StageLemmas.{judge_end, pass, stops}
 use Rattle.cli_resume.proofs.ready.prepare_resume.Goals as goal
 

@@ -1,5 +1,5 @@
 use Rattle.std.proofs.Common.{sym, ◌∙◌, map, string_bytes}
-use Rattle.cli_snap.specs.SnapWords.{snap_judged}
+use Rattle.cli_plans.specs.CommandLine.{snap_judged}
 use Rattle.cli_snap.proofs.ClauseLemmas.{snap_fault, snap_effect, snap_writes, snap_unread}
 use Rattle.cli_snap.proofs.answer.secvisor_snap.Goals as goal
 

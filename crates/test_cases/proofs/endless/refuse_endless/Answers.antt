@@ -1,6 +1,9 @@
 use Rattle.std.proofs.Common.{refl}
-use Rattle.secvisor_cli.proofs.TopLemmas.{words_follow}
+use Rattle.std.specs.Prelude.{map, string_bytes}
+use Rattle.cli_dispatch.specs.Choice.{top_call_of}
+use Rattle.cli_dispatch.proofs.Permits.{may_answer}
 use Rattle.test_cases.proofs.endless.refuse_endless.Goals as goal
 
-pub secvisor-status-requires-clause-permitted : goal.secvisor-status-requires-clause-permitted
-secvisor-status-requires-clause-permitted g c = λ κs lives. words_follow _ _ (λ asked. refl) (λ saves. refl)
+pub answer-status-requires-clause-permitted : goal.answer-status-requires-clause-permitted
+answer-status-requires-clause-permitted g c = λ κs lives.
+    may_answer (top_call_of (map string_bytes c.in_ok-line.line.items)) (map string_bytes c.in_ok-line.line.items) _ (λ asked. refl) (λ saves. refl)

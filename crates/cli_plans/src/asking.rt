@@ -1,0 +1,252 @@
+// What words ask for: judged without memory, and then read by their names.
+ghost use Rattle.std.specs.Prelude.{◌≡◌, ◌≤◌, IfOk, Ok, false, map, string_bytes};
+ghost use Rattle.std.specs.List.{list_any};
+ghost use Rattle.sv_types.specs.Limits.{max_events};
+ghost use Rattle.cli_words.specs.Commands.{has_dash, flat_split, gen_split, run_split, live_split, snap_split, resume_split, show_split, measure_split, convert_split};
+ghost use Rattle.cli_plans.specs.CommandLine.{Convert, split_judged, flat_judged, gen_judged, run_judged, live_of, snap_of, resume_of, making_judged, command_after, live_after, snap_after, resume_after, show_after, judgement_of_words, live_judged, snap_judged, resume_judged, show_judged};
+ghost use Rattle.cli_plans.specs.Words.{IsAsked, IsInRange, IsDrawnRun, IsBlockRun, command_of, live_value, snap_value, resume_value};
+ghost use Rattle.cli_plans.specs.declared.asking.Unread.TheVariants.{Refused, Memory};
+
+use crate::judgement::{
+    judge_convert, judge_flat, judge_generated, judge_live, judge_measure, judge_resume, judge_run,
+    judge_show, judge_snap,
+};
+use crate::refusal::Refusal;
+use crate::words::{
+    Command, Live, Resume, Snap, read_flat, read_generated, read_live, read_measure, read_resume,
+    read_run, read_snap,
+};
+use cli_words::{
+    CommandName, DiskKind, named, split_convert, split_flat, split_generated, split_live,
+    split_measure, split_resume, split_run, split_show, split_snap,
+};
+use std::alloc::{AllocError, Global};
+
+/// Why words aren't read.
+#[derive(Clone, Copy, Drop)]
+pub enum Unread {
+    Refused(Refusal),
+    /// Memory ran out.
+    Memory,
+}
+
+impl From<Refusal> for Unread {
+    ghost from_gives = { λ r u. u ≡ Refused r };
+
+    fn from(refusal: Refusal) -> Self {
+        Unread::Refused(refusal)
+    }
+}
+
+impl From<AllocError> for Unread {
+    ghost from_gives = { λ _ u. u ≡ Memory };
+
+    fn from(_: AllocError) -> Self {
+        Unread::Memory
+    }
+}
+
+/// What words ask the top call for.
+#[tactic(auto, unfolding(crate::specs::CommandLine::judgement_of_words))]
+pub fn ask<'a>(alloc: Global, words: &'a [String]) -> Result<Command<'a>, Unread>
+    ensures asked { IsAsked command_of (judgement_of_words (map string_bytes words.now)) result }
+    ensures range { IfOk result IsInRange }
+{
+    match named(words) {
+        Some(naming) => ask_after(alloc, naming.command, naming.rest),
+        None => Err(Unread::Refused(Refusal::NoCommand)),
+    }
+}
+
+fn ask_after<'a>(
+    alloc: Global,
+    command: CommandName,
+    rest: &'a [String],
+) -> Result<Command<'a>, Unread>
+    requires plain { list_any has_dash (map string_bytes rest.now) ≡ false }
+    ensures asked { IsAsked command_of (command_after command (map string_bytes rest.now)) result }
+    ensures range { IfOk result IsInRange }
+{
+    match command {
+        CommandName::Flat => ask_flat(alloc, rest),
+        CommandName::Generated => ask_generated(alloc, rest),
+        CommandName::Run(kind) => ask_run(alloc, kind, rest),
+        CommandName::Measure => ask_measure(alloc, rest),
+        CommandName::Convert => ask_convert(alloc, rest),
+        CommandName::Live | CommandName::Snap | CommandName::Resume | CommandName::Show => {
+            Err(Unread::Refused(Refusal::NoCommand))
+        }
+    }
+}
+
+#[tactic(auto, using(crate::proofs::WordLemmas::split_is_some))]
+fn ask_flat<'a>(alloc: Global, rest: &'a [String]) -> Result<Command<'a>, Unread>
+    requires plain { list_any has_dash (map string_bytes rest.now) ≡ false }
+    ensures asked { IsAsked command_of (split_judged flat_judged (flat_split (map string_bytes rest.now))) result }
+    ensures range { IfOk result IsInRange }
+{
+    judge_flat(rest)?;
+    let words = split_flat(alloc, rest)?;
+    Ok(read_flat(&words)?)
+}
+
+#[tactic(auto, using(crate::proofs::WordLemmas::split_is_some))]
+fn ask_generated<'a>(alloc: Global, rest: &'a [String]) -> Result<Command<'a>, Unread>
+    requires plain { list_any has_dash (map string_bytes rest.now) ≡ false }
+    ensures asked { IsAsked command_of (split_judged gen_judged (gen_split (map string_bytes rest.now))) result }
+    ensures range { IfOk result IsInRange }
+{
+    judge_generated(rest)?;
+    let calls = split_generated(alloc, rest)?;
+    Ok(read_generated(calls)?)
+}
+
+#[tactic(auto, using(crate::proofs::WordLemmas::split_is_some))]
+fn ask_run<'a>(alloc: Global, kind: DiskKind, rest: &'a [String]) -> Result<Command<'a>, Unread>
+    requires plain { list_any has_dash (map string_bytes rest.now) ≡ false }
+    ensures asked { IsAsked command_of (split_judged run_judged (run_split kind (map string_bytes rest.now))) result }
+    ensures range { IfOk result IsInRange }
+{
+    judge_run(kind, rest)?;
+    let words = split_run(alloc, kind, rest)?;
+    Ok(read_run(&words)?)
+}
+
+#[tactic(auto, using(crate::proofs::WordLemmas::split_is_some, crate::proofs::WordLemmas::has_module_names))]
+fn ask_measure<'a>(alloc: Global, rest: &'a [String]) -> Result<Command<'a>, Unread>
+    requires plain { list_any has_dash (map string_bytes rest.now) ≡ false }
+    ensures asked { IsAsked command_of (split_judged making_judged (measure_split (map string_bytes rest.now))) result }
+    ensures range { IfOk result IsInRange }
+{
+    judge_measure(rest)?;
+    let words = split_measure(alloc, rest)?;
+    Ok(read_measure(words)?)
+}
+
+#[tactic(auto, using(crate::proofs::WordLemmas::split_is_some))]
+fn ask_convert<'a>(alloc: Global, rest: &'a [String]) -> Result<Command<'a>, Unread>
+    requires plain { list_any has_dash (map string_bytes rest.now) ≡ false }
+    ensures asked { IsAsked command_of (split_judged (λ w. Ok (Convert w)) (convert_split (map string_bytes rest.now))) result }
+    ensures range { IfOk result IsInRange }
+{
+    judge_convert(rest)?;
+    let words = split_convert(alloc, rest)?;
+    Ok(Command::Convert(words))
+}
+
+/// What words ask `live` for.
+#[tactic(auto, unfolding(crate::specs::CommandLine::live_judged))]
+pub fn ask_live<'a>(alloc: Global, words: &'a [String]) -> Result<Live<'a>, Unread>
+    ensures asked { IsAsked live_value (live_judged (map string_bytes words.now)) result }
+    ensures drawn { IfOk result IsDrawnRun }
+{
+    match named(words) {
+        Some(naming) => live_after(alloc, naming.command, naming.rest),
+        None => Err(Unread::Refused(Refusal::NoCommand)),
+    }
+}
+
+#[tactic(auto, using(crate::proofs::WordLemmas::split_is_some))]
+fn live_after<'a>(
+    alloc: Global,
+    command: CommandName,
+    rest: &'a [String],
+) -> Result<Live<'a>, Unread>
+    requires plain { list_any has_dash (map string_bytes rest.now) ≡ false }
+    ensures asked { IsAsked live_value (live_after command (map string_bytes rest.now)) result }
+    ensures drawn { IfOk result IsDrawnRun }
+{
+    let CommandName::Live = command else {
+        return Err(Unread::Refused(Refusal::NoCommand));
+    };
+    judge_live(rest)?;
+    let words = split_live(alloc, rest)?;
+    Ok(read_live(&words)?)
+}
+
+/// What words ask `snap` for.
+#[tactic(auto, unfolding(crate::specs::CommandLine::snap_judged))]
+pub fn ask_snap<'a>(alloc: Global, words: &'a [String]) -> Result<Snap<'a>, Unread>
+    ensures asked { IsAsked snap_value (snap_judged (map string_bytes words.now)) result }
+    ensures block { IfOk result IsBlockRun }
+{
+    match named(words) {
+        Some(naming) => snap_after(alloc, naming.command, naming.rest),
+        None => Err(Unread::Refused(Refusal::NoCommand)),
+    }
+}
+
+#[tactic(auto, using(crate::proofs::WordLemmas::split_is_some))]
+fn snap_after<'a>(
+    alloc: Global,
+    command: CommandName,
+    rest: &'a [String],
+) -> Result<Snap<'a>, Unread>
+    requires plain { list_any has_dash (map string_bytes rest.now) ≡ false }
+    ensures asked { IsAsked snap_value (snap_after command (map string_bytes rest.now)) result }
+    ensures block { IfOk result IsBlockRun }
+{
+    let CommandName::Snap = command else {
+        return Err(Unread::Refused(Refusal::NoCommand));
+    };
+    judge_snap(rest)?;
+    let words = split_snap(alloc, rest)?;
+    Ok(read_snap(&words)?)
+}
+
+/// What words ask `resume` for.
+#[tactic(auto, unfolding(crate::specs::CommandLine::resume_judged))]
+pub fn ask_resume<'a>(alloc: Global, words: &'a [String]) -> Result<Resume<'a>, Unread>
+    ensures asked { IsAsked resume_value (resume_judged (map string_bytes words.now)) result }
+    ensures events { IfOk result (λ resume. resume.events ≤ max_events) }
+{
+    match named(words) {
+        Some(naming) => resume_after(alloc, naming.command, naming.rest),
+        None => Err(Unread::Refused(Refusal::NoCommand)),
+    }
+}
+
+#[tactic(auto, using(crate::proofs::WordLemmas::split_is_some))]
+fn resume_after<'a>(
+    alloc: Global,
+    command: CommandName,
+    rest: &'a [String],
+) -> Result<Resume<'a>, Unread>
+    requires plain { list_any has_dash (map string_bytes rest.now) ≡ false }
+    ensures asked { IsAsked resume_value (resume_after command (map string_bytes rest.now)) result }
+    ensures events { IfOk result (λ resume. resume.events ≤ max_events) }
+{
+    let CommandName::Resume = command else {
+        return Err(Unread::Refused(Refusal::NoCommand));
+    };
+    judge_resume(rest)?;
+    let words = split_resume(alloc, rest)?;
+    Ok(read_resume(&words)?)
+}
+
+/// The snapshot that words ask `show` for.
+#[tactic(auto, unfolding(crate::specs::CommandLine::show_judged))]
+pub fn ask_show<'a>(alloc: Global, words: &'a [String]) -> Result<&'a str, Unread>
+    ensures { IsAsked (λ name. name.now) (show_judged (map string_bytes words.now)) result }
+{
+    match named(words) {
+        Some(naming) => show_after(alloc, naming.command, naming.rest),
+        None => Err(Unread::Refused(Refusal::NoCommand)),
+    }
+}
+
+#[tactic(auto, using(crate::proofs::WordLemmas::split_is_some))]
+fn show_after<'a>(
+    alloc: Global,
+    command: CommandName,
+    rest: &'a [String],
+) -> Result<&'a str, Unread>
+    requires plain { list_any has_dash (map string_bytes rest.now) ≡ false }
+    ensures { IsAsked (λ name. name.now) (show_after command (map string_bytes rest.now)) result }
+{
+    let CommandName::Show = command else {
+        return Err(Unread::Refused(Refusal::NoCommand));
+    };
+    judge_show(rest)?;
+    Ok(split_show(alloc, rest)?)
+}

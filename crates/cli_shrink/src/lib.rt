@@ -1,0 +1,7 @@
+//! A run that stops, made small: a script under which the same machine stops in the same way, from which no line can be taken away.
+#![tactic(auto)]
+
+mod shrinking;
+mod trial;
+
+pub use shrinking::{MAX_RUNS, Script, Shrunk, shrink};

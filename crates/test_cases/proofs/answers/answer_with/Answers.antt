@@ -1,0 +1,9 @@
+use Rattle.std.proofs.Common.{refl}
+use Rattle.std.specs.Prelude.{map, string_bytes}
+use Rattle.cli_dispatch.specs.Choice.{top_call_of}
+use Rattle.cli_dispatch.proofs.Permits.{may_answer}
+use Rattle.test_cases.proofs.answers.answer_with.Goals as goal
+
+pub answer-status-requires-clause-permitted : goal.answer-status-requires-clause-permitted
+answer-status-requires-clause-permitted g c = λ κs lives.
+    may_answer (top_call_of (map string_bytes c.args.line.now)) (map string_bytes c.args.line.now) _ (λ asked. refl) (λ saves. refl)
