@@ -1,20 +1,21 @@
 -- Answers to exits, and turns.
 use Rattle.std.proofs.Common.{◌≡◌, ℕ, zero, suc, ◌<◌, Bool, true, false, List, [], ◌∷◌, length, refl, sym, ◌∙◌, ap, subst, arith}
-use Rattle.std.specs.Prelude.{Option, slice_get}
+use Rattle.std.specs.Prelude.{Option, Some, None, slice_get}
 use Rattle.spec_processor.specs.Hardware.{Attempted}
 use Rattle.spec_processor.specs.declared.outcome.Outcome.{Outcome}
 use Rattle.spec_processor.specs.declared.exit.Exit.{Exit}
 use Rattle.spec_reference.specs.Counting.{with_count}
 use Rattle.laws_simulation.specs.Laws.{IsQuiet}
 use Rattle.spec_hardware.specs.HardwareEvent.{attempt_of, is_loading, left_by, hart_again, sent_again}
+use Rattle.spec_hardware.specs.HwExits.{hw_exit, served_exit}
 use Rattle.spec_hardware.specs.HwHarts.{asks_again, hw_outside}
 use Rattle.spec_hardware.specs.Machine.{Machine, HwHart, all_forget, count_outcome, update, with_core}
 use Rattle.spec_hardware.specs.Served.{is_again}
-use Rattle.spec_hardware.specs.Steps.{TurnServed, HartServed, StartedServed, AttemptServed, AttemptsServed, OutcomeServed}
+use Rattle.spec_hardware.specs.Steps.{WithTables, TurnServed, HartServed, StartedServed, AttemptServed, AttemptsServed, OutcomeServed}
 use Rattle.hw_platform.specs.Attempts.{hart_in}
-use Rattle.secvisor_core.proofs.Served.{hart_there, length_update}
+use Rattle.secvisor_core.proofs.Served.{hart_there, length_update, served_there}
 use Rattle.secvisor_core.specs.Serving.{MayServe, asked_of, left_entry}
-use Rattle.machine_events.specs.Turns.{Concluded, ExitServed, Finished, IsReadyTwice, MayAttemptAgain}
+use Rattle.machine_events.specs.Turns.{Concluded, ExitServed, Finished, IsReadyAt, IsReadyTwice, exit_of, quietly_counted}
 use Rattle.laws_simulation.proofs.TurnsServed.{forgets_none}
 
 -- ---- turns
@@ -119,11 +120,9 @@ pub turn_attempts : (m after : Machine) (h : ℕ) (o : Outcome) → h < length m
 turn_attempts m after h o below e free ready is served = turn_served m after h below e free (concluded m after h o below ready is served)
 
 -- and a second attempt may be made where the first one's exit asks for it
-pub may_again : (m : Machine) (h : ℕ) (o : Outcome) → IsReadyTwice m h → o ≡ (attempt_of m h (hart_in m.harts h)).outcome
-    → MayAttemptAgain o (left_by m h (hart_in m.harts h)) h
-may_again m h (Outcome.Retired wrote) ready is = tt
-may_again m h Outcome.GuestTrap ready is = tt
-may_again m h (Outcome.Exit exit) ready is = λ again. ready.second (asks_by m h (Outcome.Exit exit) exit ready is refl ∙ again)
+pub may_again : (m : Machine) (h : ℕ) (exit : Exit) → IsReadyTwice m h → Outcome.Exit exit ≡ (attempt_of m h (hart_in m.harts h)).outcome
+    → is_again (asked_of (left_by m h (hart_in m.harts h)) h exit) ≡ true → IsReadyAt (left_entry (left_by m h (hart_in m.harts h)) h) h
+may_again m h exit ready is again = ready.second (asks_by m h (Outcome.Exit exit) exit ready is refl ∙ again)
 
 -- ---- the second attempt
 
@@ -142,3 +141,41 @@ pub second_served : (mid left next after : Machine) (h : ℕ) (o : Outcome) → 
 second_served mid left next after h o same is made served =
     subst (λ (m : Machine). AttemptServed m h (hart_in m.harts h) after) same
     (attempt_served mid after h (hart_in mid.harts h) o is (subst (λ (m : Machine). Finished o m h after) made served))
+
+-- ---- counted attempts
+
+-- the attempt gave the exit that is left to answer
+pub exit_there : (o : Outcome) (r : Option Exit) (exit : Exit) → r ≡ exit_of o → r ≡ Some exit → o ≡ Outcome.Exit exit
+exit_there (Outcome.Retired wrote) r exit e some = absurd (cc)
+exit_there Outcome.GuestTrap r exit e some = absurd (cc)
+exit_there (Outcome.Exit x) r exit e some = cc
+
+-- an attempt without an exit, once it is counted, is all, the first of its turn and the last
+pub finished_quiet : (o : Outcome) (r : Option Exit) (m after : Machine) (h : ℕ) → r ≡ exit_of o → r ≡ None → after ≡ quietly_counted o m → Finished o m h after
+finished_quiet (Outcome.Retired wrote) r m after h e none counted = counted
+finished_quiet Outcome.GuestTrap r m after h e none counted = counted
+finished_quiet (Outcome.Exit x) r m after h e none counted = absurd (cc)
+
+pub concluded_quiet : (o : Outcome) (r : Option Exit) (m after : Machine) (h : ℕ) → r ≡ exit_of o → r ≡ None → after ≡ quietly_counted o m → Concluded o m h after
+concluded_quiet (Outcome.Retired wrote) r m after h e none counted = counted
+concluded_quiet Outcome.GuestTrap r m after h e none counted = counted
+concluded_quiet (Outcome.Exit x) r m after h e none counted = absurd (cc)
+
+-- an exit changes no count
+pub exit_counts_nothing : (o : Outcome) (exit : Exit) (m after : Machine) → o ≡ Outcome.Exit exit → after ≡ quietly_counted o m → after ≡ m
+exit_counts_nothing o exit m after is counted = counted ∙ ap (λ (x : Outcome). quietly_counted x m) is
+
+-- the answer to the exit of a last attempt
+pub finished_exit : (o : Outcome) (exit : Exit) (m mid after : Machine) (h : ℕ) → o ≡ Outcome.Exit exit → mid ≡ m → h < length mid.harts
+    → WithTables mid (hw_exit mid h (hart_in mid.harts h) (hart_in mid.harts h).core.hregs.mode exit) after → Finished o m h after
+finished_exit o exit m mid after h is same below served =
+    subst (λ (x : Outcome). Finished x m h after) (sym is)
+    (subst (λ (x : Machine). WithTables x (served_exit x h exit) after) same
+    (subst (λ (x : Machine). WithTables mid x after) (sym (served_there mid h exit below)) served))
+
+-- and to that of a first one
+pub concluded_exit : (o : Outcome) (exit : Exit) (m mid after : Machine) (h : ℕ) → o ≡ Outcome.Exit exit → mid ≡ m
+    → ExitServed (is_again (asked_of mid h exit)) mid h exit after → Concluded o m h after
+concluded_exit o exit m mid after h is same served =
+    subst (λ (x : Outcome). Concluded x m h after) (sym is)
+    (subst (λ (x : Machine). ExitServed (is_again (asked_of x h exit)) x h exit after) same served)

@@ -1,5 +1,5 @@
 -- What a turn does besides its attempt. This project's own.
-use Rattle.std.specs.Prelude.{◌≡◌, ℕ, Bool, true, false}
+use Rattle.std.specs.Prelude.{◌≡◌, ℕ, Bool, true, false, Option, Some, None}
 use Rattle.spec_processor.specs.declared.exit.Exit.{Exit}
 use Rattle.spec_processor.specs.declared.outcome.Outcome.{Outcome}
 use Rattle.spec_processor.specs.declared.mode.Mode.TheVariants.{Kernel}
@@ -13,6 +13,18 @@ use Rattle.spec_hardware.specs.Served.{is_again}
 use Rattle.spec_hardware.specs.Steps.{AttemptServed, WithTables}
 use Rattle.hw_platform.specs.Attempts.{hart_in, IsReady}
 use Rattle.secvisor_core.specs.Serving.{asked_of, left_entry}
+
+-- the exit that an attempt gives
+abbrev pub exit_of : Outcome → Option Exit
+exit_of (Outcome.Retired wrote) = None
+exit_of Outcome.GuestTrap = None
+exit_of (Outcome.Exit exit) = Some exit
+
+-- an attempt without an exit is counted
+abbrev pub quietly_counted : Outcome → Machine → Machine
+quietly_counted (Outcome.Retired wrote) m = record m { journal = with_count count_retired m.journal }
+quietly_counted Outcome.GuestTrap m = record m { journal = with_count (count_trap Kernel) m.journal }
+quietly_counted (Outcome.Exit exit) m = m
 
 -- what follows an attempt: a count, or SecVisor's answer
 abbrev pub Finished : Outcome → Machine → ℕ → Machine → Type 0
@@ -56,9 +68,3 @@ abbrev pub Concluded : Outcome → Machine → ℕ → Machine → Type 0
 Concluded (Outcome.Retired wrote) m h after = after ≡ record m { journal = with_count count_retired m.journal }
 Concluded Outcome.GuestTrap m h after = after ≡ record m { journal = with_count (count_trap Kernel) m.journal }
 Concluded (Outcome.Exit exit) m h after = ExitServed (is_again (asked_of m h exit)) m h exit after
-
--- a second attempt that this outcome asks for may be made
-abbrev pub MayAttemptAgain : Outcome → Machine → ℕ → Type 0
-MayAttemptAgain (Outcome.Retired wrote) m h = Unit {0}
-MayAttemptAgain Outcome.GuestTrap m h = Unit {0}
-MayAttemptAgain (Outcome.Exit exit) m h = is_again (asked_of m h exit) ≡ true → IsReadyAt (left_entry m h) h

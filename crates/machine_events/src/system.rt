@@ -21,7 +21,7 @@ ghost use Rattle.hw_platform.specs.Attempts.{hart_in, IsReady};
 ghost use Rattle.secvisor_core.specs.Serving.{Answered, IsGuarded, MayServe, MayTrap, asked_of, left_entry};
 ghost use Rattle.machine_events.specs.Beats.{told_noted};
 ghost use Rattle.machine_events.specs.Limits.{max_counts};
-ghost use Rattle.machine_events.specs.Turns.{Attempts, Concluded, ExitServed, Finished, IsReadyAt, IsReadyTwice, MayAttemptAgain, MayTurn};
+ghost use Rattle.machine_events.specs.Turns.{Attempts, ExitServed, IsReadyAt, IsReadyTwice, MayTurn, exit_of, quietly_counted};
 
 use dma_guard::DmaStep;
 use hw_platform::Hardware;
@@ -108,19 +108,19 @@ impl System {
         self.visor.leave_entry(&mut self.hardware, hart);
     }
 
-    // What follows the last attempt of a turn.
+    // An attempt without an exit is counted, and an exit is to be answered.
     #[inline(always)]
-    #[tactic(auto, using(secvisor_core::proofs::Served::served_there))]
-    fn finish(&mut self, hart: u8, outcome: Outcome)
-        requires hart { MayTrap self.old.harts hart }
-        requires may { MayServe self.old }
-        ensures { Finished outcome self.old hart self.new }
+    fn count_quiet(&mut self, outcome: Outcome) -> Option<Exit>
+        requires { MayCount self.old.journal.counts }
+        ensures exit { result ≡ exit_of outcome }
+        ensures counted { self.new ≡ quietly_counted outcome self.old }
     {
         match outcome {
             Outcome::Retired { wrote: _ } => self.journal.count_retired(),
             Outcome::GuestTrap => self.journal.count_trap(Mode::Kernel),
-            Outcome::Exit(exit) => self.serve_exit(hart, exit),
+            Outcome::Exit(exit) => return Some(exit),
         }
+        None
     }
 
     // It leaves its entry, and makes the second attempt of its turn.
@@ -133,7 +133,9 @@ impl System {
     {
         self.leave_entry(hart);
         let outcome = self.attempt(hart);
-        self.finish(hart, outcome);
+        if let Some(exit) = self.count_quiet(outcome) {
+            self.serve_exit(hart, exit);
+        }
     }
 
     // The answer to the exit of a first attempt, or a second attempt.
@@ -149,23 +151,6 @@ impl System {
             self.attempt_again(hart);
         } else {
             self.carry_out(hart, answer);
-        }
-    }
-
-    // What follows the first attempt of a turn.
-    #[inline(always)]
-    #[tactic(auto)]
-    fn conclude(&mut self, hart: u8, outcome: Outcome)
-        requires hart { MayTrap self.old.harts hart }
-        requires count { CanCount self.old.attempts }
-        requires may { MayServe self.old }
-        requires again { MayAttemptAgain outcome self.old hart }
-        ensures { Concluded outcome self.old hart self.new }
-    {
-        match outcome {
-            Outcome::Retired { wrote: _ } => self.journal.count_retired(),
-            Outcome::GuestTrap => self.journal.count_trap(Mode::Kernel),
-            Outcome::Exit(exit) => self.serve_first_exit(hart, exit),
         }
     }
 
@@ -198,7 +183,9 @@ impl System {
         ensures { TurnServed self.old hart (slice_get self.old.harts hart) self.new }
     {
         let outcome = self.attempt(hart);
-        self.conclude(hart, outcome);
+        if let Some(exit) = self.count_quiet(outcome) {
+            self.serve_first_exit(hart, exit);
+        }
     }
 
     // A turn of a hart, the count of turns raised already.
