@@ -2,8 +2,9 @@
 """torture.py SECVISOR [FOLDER] [--schedule auto:1]: Linux's checks of its kernel memory, its torture tests of locks and of RCU,
 and its unit tests of lib, on four harts, each to its own verdict; prints the table of docs/LINUX.md.
 
-FOLDER is where build.sh made the guests. The output of each run stays in FOLDER as NAME.txt. The status is 1 where a verdict is
-not the one that is due: the two guests that are named `busted` test a lock and an RCU that are made wrong, and have to fail."""
+FOLDER is where build.sh made the guests. The output of each run stays in FOLDER as NAME.SCHEDULE.txt. The status is 1 where a
+verdict is not the one that is due: the two guests that are named `busted` test a lock and an RCU that are made wrong, and have to
+fail."""
 import argparse
 import concurrent.futures
 import os
@@ -43,11 +44,12 @@ def run(secvisor, schedule, name):
     with open('measure.txt') as file:
         words = next(line.split()[1:] for line in file if line.startswith(f'{name}.policy '))
     subprocess.run([secvisor, *words], check=True, stdout=subprocess.DEVNULL)
-    with open(f'{name}.txt', 'wb') as out:
+    kept = f'{name}.{schedule.replace(":", "_")}.txt'
+    with open(kept, 'wb') as out:
         child = subprocess.Popen([secvisor, 'run', f'{name}.elf', f'{name}.policy', 'none', schedule, str(MOST), 'none'],
                                  stdin=subprocess.DEVNULL, stdout=out, stderr=subprocess.DEVNULL)
         _, status, used = os.wait4(child.pid, 0)
-    with open(f'{name}.txt', errors='replace') as file:
+    with open(kept, errors='replace') as file:
         text = file.read().replace('\r', '')
     events = sum(int(number) for number in re.search(r'^turns (\d+) beats (\d+) keys (\d+) ticks (\d+)', text, re.M).groups())
     verdict = re.search(r'^verdict (.*)', text, re.M)[1]

@@ -5,12 +5,12 @@
 
 static volatile u64 met;
 
-/* Waits until all harts have come as often. */
-static void meet(u64 times)
+/* Waits until all harts have come as often. How long that takes, which is the schedule's choice, goes into the gaps. */
+static void meet(u64 times, u64 *state)
 {
     __atomic_fetch_add(&met, 1, __ATOMIC_SEQ_CST);
     while (met < times * HARTS)
-        ;
+        ++*state;
 }
 
 static void go_through(u64 hart)
@@ -20,11 +20,11 @@ static void go_through(u64 hart)
     for (u64 test = 0; test < TESTS; test++)
         for (u64 round = 0; round < ROUNDS; round++) {
             u64 thread = (hart + round) % HARTS;
-            meet(++times);
+            meet(++times, &gap_state[hart]);
             if (thread < tests[test].threads)
                 tests[test].thread[thread][round & 1](round, &gap_state[hart]);
         }
-    meet(++times);
+    meet(++times, &gap_state[hart]);
 }
 
 void hart_main(u64 hart, u64 opaque)

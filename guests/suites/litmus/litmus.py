@@ -1,10 +1,10 @@
 #!/usr/bin/env python3
-"""litmus.py SECVISOR FOLDER [--linux SOURCE] [--seeds N]: litmus tests on four harts, against sequential consistency.
+"""litmus.py SECVISOR FOLDER [--linux SOURCE] [--seeds N] [--reversed]: litmus tests on four harts, against sequential consistency.
 
 Makes guests in FOLDER of the shapes of shapes.txt, once for each kind of access, and of the litmus tests of the Linux source
 at SOURCE; computes for each test the outcomes that sequential consistency allows, by trying every order; runs each guest under
-the schedules auto:1 to auto:N and bursts:1 to bursts:N; and prints, for each test, how many of its outcomes each schedule
-reached. An outcome outside the allowed ones is printed, and the status is 1.
+the schedules auto:1 to auto:N and bursts:1 to bursts:N; and prints, for each test, how many of its outcomes were reached: by
+auto without gaps, auto with gaps, bursts without and bursts with. An outcome outside the allowed ones is printed, and the status is 1.
 Debian: apt-get install gcc-riscv64-unknown-elf, and linux-source-6.1 for SOURCE."""
 import argparse
 import collections
@@ -23,7 +23,7 @@ COMMON = os.path.join(HERE, '..', '..', 'common')
 HARTS, ROUNDS = 4, 8
 # In even rounds nothing stands between the accesses, in odd ones a gap of some turns.
 VARIANTS = ('tight', 'gaps')
-KINDS = ('PLAIN', 'ATOMIC', 'RESERVED')
+KINDS = {'PLAIN': 'Loads and stores', 'ATOMIC': 'AMO', 'RESERVED': 'LR and SC'}
 SCHEDULES = ('auto', 'bursts')
 FLAGS = ('-march=rv64ima_zicsr_zifencei -mabi=lp64 -mcmodel=medany -mno-relax -msmall-data-limit=0 -Os -Wall -Wno-unused '
          '-ffreestanding -fno-builtin -fno-tree-loop-distribute-patterns -fno-asynchronous-unwind-tables -fno-pic '
@@ -181,29 +181,54 @@ def tests_of_shapes():
         return [litmus_test.Test(litmus_test.of_shape(line)) for line in file if line[0] not in '#\n']
 
 
-def table(guest):
-    """The lines of a guest's table, and the outcomes that no order explains."""
-    print(f'\n{guest.title}:\n')
-    print('| Test | Allowed | auto, tight | auto, gaps | bursts, tight | bursts, gaps | outside | Linux\'s model says of its outcome |')
-    print('|---|---|---|---|---|---|---|---|')
-    outside = []
-    for index, test in enumerate(guest.tests):
-        allowed, reached, strange = guest.allowed[index], [], 0
-        for schedule in SCHEDULES:
-            for variant in VARIANTS:
-                seen = guest.seen[index, schedule, variant]
-                reached.append(str(len(allowed & set(seen))))
-                for outcome in set(seen) - allowed:
-                    strange += 1
-                    outside.append(f'{guest.name} {test.name} {schedule} {variant}: {outcomes.words(test, outcome)}')
-        says = '' if test.result is None else test.result.lower()
-        print(f'| `{test.name}` | {len(allowed)} | {" | ".join(reached)} | {strange} | {says} |')
-    for schedule in SCHEDULES:
-        verdicts = [f'{number} runs, `{verdict}`' for (of, verdict), number in guest.runs.items()
-                    if of == schedule and verdict != 'events']
-        print(f'\n`{schedule}`: {", ".join(verdicts)}; {guest.runs[schedule, "events"]:,} events', end='')
+def reverse(test):
+    """Has each thread of a shape make its accesses in the other order, which the enumerator doesn't know of."""
+    for thread, body in enumerate(test.bodies):
+        lines = body.split('\n')
+        declared = [line for line in lines if line.startswith('\tint')]
+        test.bodies[thread] = '\n'.join(declared + [line for line in reversed(lines) if line not in declared])
+
+
+def reached(guest, index):
+    """How many allowed outcomes of a test were reached by each schedule and variant, and the outcomes outside."""
+    test, allowed = guest.tests[index], guest.allowed[index]
+    seen = {(schedule, variant): set(guest.seen[index, schedule, variant]) for schedule in SCHEDULES for variant in VARIANTS}
+    outside = [f'{guest.name} {test.name} {schedule} {variant}: {outcomes.words(test, outcome)}'
+               for (schedule, variant), found in seen.items() for outcome in sorted(found - allowed, key=str)]
+    return ' '.join(str(len(found & allowed)) for found in seen.values()), outside
+
+
+def table(guests):
+    """Prints the table of guests of the same tests; the outcomes that no order explains."""
+    model = any(test.result for test in guests[0].tests)
+    print('\n| Test | Allowed |' + ''.join(f' {guest.title} |' for guest in guests) + ' Outside |' + (' Linux |' if model else ''))
+    print('|---|---|' + '---|' * (len(guests) + 1 + model))
+    every = []
+    for index, test in enumerate(guests[0].tests):
+        found = [reached(guest, index) for guest in guests]
+        outside = [line for _, lines in found for line in lines]
+        every += outside
+        cells = [f'`{test.name}`', str(len(guests[0].allowed[index])), *(numbers for numbers, _ in found), str(len(outside))]
+        print('| ' + ' | '.join(cells + ([test.result.lower()] if model else [])) + ' |')
     print()
-    return outside
+    for guest in guests:
+        for schedule in SCHEDULES:
+            verdicts = [f'{number} runs `{verdict}`' for (of, verdict), number in guest.runs.items()
+                        if of == schedule and verdict != 'events']
+            print(f'{guest.title}, `{schedule}`: {", ".join(verdicts)}, {guest.runs[schedule, "events"] / 1e6:,.0f} million events')
+    sys.stdout.flush()
+    return every
+
+
+def run_all(guest, secvisor, words):
+    """All runs of a guest."""
+    guest.build(secvisor, words.folder)
+    seeds = range(1, words.seeds + 1)
+    batches = [(schedule, seeds[at:at + 50]) for schedule in SCHEDULES for at in range(0, len(seeds), 50)]
+    with concurrent.futures.ThreadPoolExecutor(words.jobs) as pool:
+        for made in pool.map(lambda batch: guest.run(secvisor, *batch), batches):
+            guest.count(*made)
+    print(f'{guest.name}: all runs made', file=sys.stderr)
 
 
 def main():
@@ -211,28 +236,29 @@ def main():
     words.add_argument('secvisor')
     words.add_argument('folder')
     words.add_argument('--linux', help='the source of Linux')
+    words.add_argument('--reversed', action='store_true',
+                       help='a trial of this trial: threads make their accesses in reverse order, so outcomes lie outside')
     words.add_argument('--seeds', type=int, default=1000)
     words.add_argument('--jobs', type=int, default=os.cpu_count())
     words = words.parse_args()
     secvisor = os.path.abspath(words.secvisor)
-    guests = [Guest(f'shapes_{kind.lower()}', f'The usual shapes, {title}', tests_of_shapes(), kind)
-              for kind, title in zip(KINDS, ('by loads and stores', 'by AMO', 'by LR and SC'))]
-    left = []
+    groups, left = [], []
     if words.linux:
         tests, left = tests_of_linux(words.linux)
-        guests.append(Guest('linux', 'The tests of the Linux source', tests, 'PLAIN'))
-    for guest in guests:
-        guest.build(secvisor, words.folder)
-    seeds = range(1, words.seeds + 1)
-    batches = [(guest, schedule, seeds[at:at + 50]) for guest in guests for schedule in SCHEDULES
-               for at in range(0, len(seeds), 50)]
-    with concurrent.futures.ThreadPoolExecutor(words.jobs) as pool:
-        for (guest, _, _), made in zip(batches, pool.map(lambda batch: batch[0].run(secvisor, *batch[1:]), batches)):
-            guest.count(*made)
-    outside = [line for guest in guests for line in table(guest)]
+        groups.append([Guest('linux', 'Reached', tests, 'PLAIN')])
+    groups.append([Guest(f'shapes_{kind.lower()}', title, tests_of_shapes(), kind) for kind, title in KINDS.items()])
+    if words.reversed:
+        groups = [groups[-1][:1]]
+        for test in groups[0][0].tests:
+            reverse(test)
+    outside = []
+    for guests in groups:
+        for guest in guests:
+            run_all(guest, secvisor, words)
+        outside += table(guests)
     for name, reason in left:
         print(f'\n`{name}` isn\'t translated: `{reason}`.')
-    wrong = [test.name for guest in guests for test, allowed in zip(guest.tests, guest.allowed)
+    wrong = [test.name for guests in groups for guest in guests for test, allowed in zip(guest.tests, guest.allowed)
              if test.result == 'Never' and any(outcomes.holds(test, outcome) for outcome in allowed)]
     for name in wrong:
         print(f'\n{name}: Linux forbids what every order allows')
