@@ -1,7 +1,9 @@
 //! A run that stops, made small: a script under which the same machine stops in the same way, from which no line can be taken away.
 #![tactic(auto)]
 
+mod lines;
 mod shrinking;
 mod trial;
 
+pub use lines::{shrunk_line, shrunk_status};
 pub use shrinking::{MAX_RUNS, Script, Shrunk, shrink};
