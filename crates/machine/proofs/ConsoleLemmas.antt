@@ -18,8 +18,8 @@ use Rattle.spec_hardware.specs.StandsFor.{StandsFor}
 use Rattle.laws_simulation.proofs.RunsReach.{clear_law}
 use Rattle.machine.specs.Repeats.{Makes, Repeats}
 use Rattle.machine.proofs.Repeated.{one_more, repeats_stand}
-use Rattle.hw_io.specs.Outside.{SinkState, after_taking, BreaksOff}
-use Rattle.hw_io.proofs.SinkLemmas.{after_taking-append, after_taking-nil}
+use Rattle.host_io.specs.Outside.{SinkState, after_taking, BreaksOff}
+use Rattle.host_io.proofs.SinkLemmas.{after_taking-append, after_taking-nil}
 use Rattle.machine.specs.Standing.{Stands, HasState}
 use Rattle.machine.specs.Console.{flush_is_due, HasTaken, Flushed, HasRun, RunBroke}
 use Rattle.machine.proofs.Standing.{stands_new, stands_step, stands_away, stands_verdict, away_counts, cleared_none, event_ended, flushed_none, prints_after, stands_printed, step_room, verdict_is}

@@ -20,8 +20,8 @@ use Rattle.spec_hardware.specs.Reaches.{Cleared, IsNew}
 use Rattle.spec_hardware.specs.StandsFor.{StandsFor, machine_of, without_printed}
 use Rattle.laws_invariants.proofs.StepsGrow.{grows_law}
 use Rattle.laws_simulation.proofs.RunsReach.{clear_law}
-use Rattle.hw_io.specs.Outside.{SinkState, after_taking}
-use Rattle.hw_io.proofs.SinkLemmas.{after_taking-nil}
+use Rattle.host_io.specs.Outside.{SinkState, after_taking}
+use Rattle.host_io.proofs.SinkLemmas.{after_taking-nil}
 use Rattle.machine.specs.Console.{Flushed}
 use Rattle.machine.specs.Standing.{Stands, TakesAway, machine_output}
 

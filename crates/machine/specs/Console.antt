@@ -8,7 +8,7 @@ use Rattle.spec_reference.specs.States.{State}
 use Rattle.spec_reference.specs.Run.{run}
 use Rattle.spec_hardware.specs.Machine.{Machine}
 use Rattle.spec_hardware.specs.Reaches.{IsNew, ReachesFrom}
-use Rattle.hw_io.specs.Outside.{SinkState, after_taking, BreaksOff, MayWrite}
+use Rattle.host_io.specs.Outside.{SinkState, after_taking, BreaksOff, MayWrite}
 use Rattle.machine.specs.Standing.{HasState, Stands, TakesAway}
 
 -- ---- when the console's bytes are written

@@ -3,12 +3,12 @@ ghost use Rattle.std.specs.Prelude.{◌≡◌, ◌<◌, ◌≤◌, length, IsTru
 ghost use Rattle.sv_types.specs.Limits.{max_printed};
 ghost use Rattle.sv_types.specs.Schedule.{first_events};
 ghost use Rattle.spec_hardware.specs.Reaches.{Cleared};
-ghost use Rattle.hw_io.specs.Outside.{BreaksOff, MayWrite};
+ghost use Rattle.host_io.specs.Outside.{BreaksOff, MayWrite};
 ghost use Rattle.machine.specs.Console.{flush_is_due, Flushed, HasRunAll, MayRun, RunBrokeFromStart};
 
 use crate::drawing::Drawing;
 use crate::machine::Machine;
-use hw_io::{Failed, Sink, write_all};
+use host_io::{Failed, Sink, write_all};
 use script::{EventSource, Script, Source};
 use sv_types::{MAX_PRINTED, Verdict};
 

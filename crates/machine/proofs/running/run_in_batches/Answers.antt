@@ -1,8 +1,8 @@
 use Rattle.std.proofs.Common.{◌≡◌, ◌≢◌, ◌<◌, ◌≤◌, ◌-◌, ◌+◌, ◌++◌, IsTrue, replicate, ap, subst, sym, ◌∙◌, length, arith}
 use Rattle.sv_types.specs.Limits.{max_events}
 use Rattle.sv_types.specs.declared.event.Verdict.TheVariants.{Running}
-use Rattle.hw_io.specs.Outside.{SinkState}
-use Rattle.hw_io.proofs.SinkLemmas.{on_err}
+use Rattle.host_io.specs.Outside.{SinkState}
+use Rattle.host_io.proofs.SinkLemmas.{on_err}
 use Rattle.sv_types.specs.Schedule.{first_events}
 use Rattle.script.specs.declared.event_run.EventRun.{EventRun}
 use Rattle.machine.specs.Limits.{max_counts}

@@ -2,7 +2,7 @@ use Rattle.std.proofs.Common.{◌≡◌, ◌≢◌, ◌<◌, ◌-◌, ◌+◌, �
 use Rattle.sv_types.specs.Limits.{max_events}
 use Rattle.sv_types.specs.declared.event.Verdict.TheVariants.{Running}
 use Rattle.sv_types.specs.Schedule.{first_events}
-use Rattle.hw_io.proofs.SinkLemmas.{on_err}
+use Rattle.host_io.proofs.SinkLemmas.{on_err}
 use Rattle.script.proofs.FirstEvents.{begun_none}
 use Rattle.machine.proofs.Repeated.{counts_within}
 use Rattle.machine.specs.Console.{flush_is_due, RunBrokeFromStart}
