@@ -1,5 +1,5 @@
 -- The states of a survey.
-use Rattle.std.proofs.Common.{◌≡◌, List, [], ◌∷◌, refl, sym, ◌∙◌, ap, subst}
+use Rattle.std.proofs.Common.{◌≡◌, List, [], ◌∷◌, ◌++◌, refl, sym, ◌∙◌, ap, subst}
 use Rattle.sv_types.specs.declared.event.Event.{Event}
 use Rattle.sv_types.specs.declared.event.Rule.TheVariants.{Entry, Write}
 use Rattle.sv_types.specs.declared.event.Verdict.{Verdict}
@@ -13,7 +13,7 @@ use Rattle.laws_invariants.proofs.Sounds.{Goes, goes_on, text_stays}
 use Rattle.laws_invariants.proofs.StateLawsHold.{reached_sound, has_origins}
 use Rattle.laws_invariants.proofs.StepsSound.{step_goes}
 use Rattle.laws_survey.specs.Passing.{passed_under, passed_over, survey_step, survey}
-use Rattle.laws_survey.specs.SurveyLaws.{IsNoWrite, SameRunLaw, SurveyedLaw}
+use Rattle.laws_survey.specs.SurveyLaws.{ChainLaw, IsNoWrite, SameRunLaw, SurveyedLaw}
 use Rattle.laws_survey.proofs.PassesHold.{pass_goes}
 
 pub survey_step_goes : (r : State) (e : Event) → IsSound r → Goes r (survey_step r e)
@@ -60,3 +60,13 @@ pub same_run_law : SameRunLaw
 same_run_law r [] none = refl
 same_run_law r (e ∷ events) none =
     ap (λ (x : State). survey x events) (unpassed (step r e) (none_before (step r e) events none)) ∙ same_run_law (step r e) events none
+
+-- ---- a chain
+
+survey_on : (r : State) (front back : List Event) → survey r (front ++ back) ≡ survey (survey r front) back
+survey_on r [] back = refl
+survey_on r (e ∷ front) back = survey_on (survey_step r e) front back
+
+pub chain_law : ChainLaw
+chain_law r front back e none =
+    survey_on r front (e ∷ back) ∙ ap (λ (x : State). survey (survey_step x e) back) (same_run_law r front none)
