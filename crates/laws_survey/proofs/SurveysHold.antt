@@ -40,7 +40,7 @@ unpassed_under Shutdown r none = refl
 unpassed_under (Stopped (Entry target) h turn) r none = refl
 unpassed_under (Stopped (Write pc gpa) h turn) r none = absurd none
 
-unpassed : (r : State) → IsNoWrite r.journal.verdict → passed_over r ≡ r
+pub unpassed : (r : State) → IsNoWrite r.journal.verdict → passed_over r ≡ r
 unfolding passed_over
 unpassed r none = unpassed_under r.journal.verdict r none
 
@@ -53,7 +53,7 @@ none_under (Stopped (Write pc gpa) h turn) r events is none =
     let same : run r events ≡ r = ended_stays r events (subst HasEnded (sym is) tt) in
     subst IsNoWrite (ap (λ (x : State). x.journal.verdict) same ∙ is) none
 
-none_before : (r : State) (events : List Event) → IsNoWrite (run r events).journal.verdict → IsNoWrite r.journal.verdict
+pub none_before : (r : State) (events : List Event) → IsNoWrite (run r events).journal.verdict → IsNoWrite r.journal.verdict
 none_before r events none = none_under r.journal.verdict r events refl none
 
 pub same_run_law : SameRunLaw
