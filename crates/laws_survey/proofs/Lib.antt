@@ -1,3 +1,4 @@
 pub mod PassesHold
 pub mod SurveysHold
 pub mod HwPassesHold
+pub mod RowsHold

@@ -1,5 +1,5 @@
 -- The states of a survey.
-use Rattle.std.proofs.Common.{◌≡◌, List, [], ◌∷◌, refl, sym, ◌∙◌, ap, subst}
+use Rattle.std.proofs.Common.{◌≡◌, List, [], ◌∷◌, ◌++◌, refl, sym, ◌∙◌, ap, subst}
 use Rattle.sv_types.specs.declared.event.Event.{Event}
 use Rattle.sv_types.specs.declared.event.Rule.TheVariants.{Entry, Write}
 use Rattle.sv_types.specs.declared.event.Verdict.{Verdict}
@@ -13,7 +13,7 @@ use Rattle.laws_invariants.proofs.Sounds.{Goes, goes_on, text_stays}
 use Rattle.laws_invariants.proofs.StateLawsHold.{reached_sound, has_origins}
 use Rattle.laws_invariants.proofs.StepsSound.{step_goes}
 use Rattle.laws_survey.specs.Passing.{passed_under, passed_over, survey_step, survey}
-use Rattle.laws_survey.specs.SurveyLaws.{IsNoWrite, SameRunLaw, SurveyedLaw}
+use Rattle.laws_survey.specs.SurveyLaws.{ChainLaw, IsNoWrite, SameRunLaw, SurveyedLaw}
 use Rattle.laws_survey.proofs.PassesHold.{pass_goes}
 
 pub survey_step_goes : (r : State) (e : Event) → IsSound r → Goes r (survey_step r e)
@@ -40,7 +40,7 @@ unpassed_under Shutdown r none = refl
 unpassed_under (Stopped (Entry target) h turn) r none = refl
 unpassed_under (Stopped (Write pc gpa) h turn) r none = absurd none
 
-unpassed : (r : State) → IsNoWrite r.journal.verdict → passed_over r ≡ r
+pub unpassed : (r : State) → IsNoWrite r.journal.verdict → passed_over r ≡ r
 unfolding passed_over
 unpassed r none = unpassed_under r.journal.verdict r none
 
@@ -53,10 +53,20 @@ none_under (Stopped (Write pc gpa) h turn) r events is none =
     let same : run r events ≡ r = ended_stays r events (subst HasEnded (sym is) tt) in
     subst IsNoWrite (ap (λ (x : State). x.journal.verdict) same ∙ is) none
 
-none_before : (r : State) (events : List Event) → IsNoWrite (run r events).journal.verdict → IsNoWrite r.journal.verdict
+pub none_before : (r : State) (events : List Event) → IsNoWrite (run r events).journal.verdict → IsNoWrite r.journal.verdict
 none_before r events none = none_under r.journal.verdict r events refl none
 
 pub same_run_law : SameRunLaw
 same_run_law r [] none = refl
 same_run_law r (e ∷ events) none =
     ap (λ (x : State). survey x events) (unpassed (step r e) (none_before (step r e) events none)) ∙ same_run_law (step r e) events none
+
+-- ---- a chain
+
+survey_on : (r : State) (front back : List Event) → survey r (front ++ back) ≡ survey (survey r front) back
+survey_on r [] back = refl
+survey_on r (e ∷ front) back = survey_on (survey_step r e) front back
+
+pub chain_law : ChainLaw
+chain_law r front back e none =
+    survey_on r front (e ∷ back) ∙ ap (λ (x : State). survey (survey_step x e) back) (same_run_law r front none)

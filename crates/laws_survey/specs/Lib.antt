@@ -1,3 +1,4 @@
 pub mod Passing
 pub mod SurveyLaws
 pub mod HwPassing
+pub mod Passes

@@ -1,12 +1,12 @@
 -- What holds of a survey: its states are sound, as those of a run are; a pass changes nothing but a pc; and a survey that passes
 -- over nothing is the run. This project's own.
-use Rattle.std.specs.Prelude.{◌≡◌, ℕ, List, Some, slice_get}
+use Rattle.std.specs.Prelude.{◌≡◌, ℕ, List, ◌∷◌, ◌++◌, Some, slice_get}
 use Rattle.sv_types.specs.declared.event.Event.{Event}
 use Rattle.sv_types.specs.declared.event.Rule.TheVariants.{Entry, Write}
 use Rattle.sv_types.specs.declared.event.Verdict.{Verdict}
 use Rattle.sv_types.specs.declared.event.Verdict.TheVariants.{Running, Shutdown, Stopped}
 use Rattle.spec_processor.specs.Effects.{next_pc}
-use Rattle.spec_reference.specs.Run.{run}
+use Rattle.spec_reference.specs.Run.{run, step}
 use Rattle.spec_reference.specs.Soundness.{IsSound}
 use Rattle.spec_reference.specs.Start.{IsStart}
 use Rattle.spec_reference.specs.States.{State, Hart}
@@ -61,3 +61,8 @@ IsNoWrite (Stopped (Write pc gpa) h turn) = ⊥
 -- where no write stops the run, a survey of the same events is that run
 abbrev pub SameRunLaw : Type 0
 SameRunLaw = (r : State) (events : List Event) → IsNoWrite (run r events).journal.verdict → survey r events ≡ run r events
+
+-- A survey is a chain: up to where a write stops it, it is the run; that write is passed over; and from there on it is a survey again
+abbrev pub ChainLaw : Type 0
+ChainLaw = (r : State) (front back : List Event) (e : Event) → IsNoWrite (run r front).journal.verdict →
+    survey r (front ++ e ∷ back) ≡ survey (passed_over (step (run r front) e)) back

@@ -2,7 +2,8 @@
 #![tactic(auto)]
 
 ghost use Rattle.laws_survey.specs.HwPassing.{HwPassLaw};
-ghost use Rattle.laws_survey.specs.SurveyLaws.{MovesOnLaw, PassLaw, PassSoundLaw, SameRunLaw, SurveyedLaw};
+ghost use Rattle.laws_survey.specs.Passes.{PassesOnLaw, RowLaw};
+ghost use Rattle.laws_survey.specs.SurveyLaws.{ChainLaw, MovesOnLaw, PassLaw, PassSoundLaw, SameRunLaw, SurveyedLaw};
 
 /// A pass changes nothing but the pc of a hart and the verdict: no byte, register, reservation, count, page or device.
 pub fn law_pass()
@@ -33,4 +34,20 @@ pub fn law_same_run()
 /// A machine that stands for a state stands, after the same pass on it, for the state after the pass.
 pub fn law_hw_pass()
     ensures { HwPassLaw }
+{}
+
+/// A survey is a chain: each part between two passes is the run over its events, and each pass is at a state that a write stopped.
+pub fn law_chain()
+    ensures { ChainLaw }
+{}
+
+/// The writes that are passed over in events after others are those from the state that the survey has reached.
+pub fn law_passes_on()
+    ensures { PassesOnLaw }
+{}
+
+/// The survey of an event several times in a row, of which the last one alone may be stopped by a write, is the run with a pass at
+/// its end.
+pub fn law_row()
+    ensures { RowLaw }
 {}
