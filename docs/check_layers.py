@@ -7,7 +7,7 @@ import sys
 
 TOP = pathlib.Path(__file__).resolve().parent.parent
 PAGE = TOP / 'docs/ARCHITECTURE.md'
-HEAD = ['| Layer, lowest first | Crates |', '|---|---|']
+HEAD = ['| Family | Crates |', '|---|---|']
 
 
 def layers():

@@ -1,32 +1,28 @@
 #!/usr/bin/env python3
 """Counts the lines of the project by what they are part of, without blanks and comments: Rust code, contracts (with what
-tells the prover how to go), definitions (`specs/`) and proofs (`proofs/`). Crates are put together by their families, as
-`crates.txt` lists them. With `--crates` each crate has a line too; `--check` compares the numbers of README.md, which may
+tells the prover how to go), definitions (`specs/`) and proofs (`proofs/`). Crates are put together by the headings of
+`crates.txt`. With `--crates` each crate has a line too; `--check` compares the numbers of README.md, which may
 differ by 5 in 100."""
 import pathlib
 import re
 import sys
 
 TOP = pathlib.Path(__file__).resolve().parent.parent
-# The first line that a crate's name matches is its group.
-GROUPS = [
-    ('definitions, and the data that all layers name', r'spec_\w+|sv_types'),
-    ('theorems and their lemmas', r'laws_\w+'),
-    ('the monitor', r'secvisor_core|monitor_\w+|page_guard|dma_guard|gstage_tables|module_gate|machine_journal|page_measure'),
-    ('the machine that it guards', r'hart|hw_\w+|csr_file|sv39_walk|gstage_cache|rv64_decode|rv64_exec|virtio_blk|host_mem|host_bytes'),
-    ('both put together: start, events, runs', r'machine|machine_\w+'),
-    ('files that are read and written', r'elf64_\w+|policy|policy_\w+|script|snapshot_\w+|text_numbers|report'),
-    ('the program: commands, files of the system', r'secvisor|secvisor_cli|cli_\w+|host_io|host_files|live_keys'),
-    ('made guests, and tests', r'guest_gen|rv64_encode|test_\w+'),
-    ('others', r'.*'),
-]
+MONITOR, HARDWARE = 'SecVisor, the monitor', 'The hardware: processor, memory, devices'
 KINDS = ['code', 'contracts', 'definitions', 'proofs']
 CONTRACT = re.compile(r'ghost\b|requires\b|ensures\b|#!?\[tactic\b|where ghost\b')
 
 
-def crates():
-    lines = (TOP / 'crates.txt').read_text().splitlines()
-    return [line.split(':')[0].split()[0] for line in lines if line and not line.startswith('#')]
+def families():
+    """The crates of each heading (##) of crates.txt."""
+    found = {}
+    for line in (TOP / 'crates.txt').read_text().splitlines():
+        if line.startswith('## '):
+            heading = line[3:]
+            found[heading] = []
+        elif line and not line.startswith('#'):
+            found[heading].append(line.split(':')[0].split()[0])
+    return found
 
 
 def rust_lines(text):
@@ -60,7 +56,7 @@ def check(counts, groups):
     page = ' '.join((TOP / 'README.md').read_text().split())
     shown = re.search(r'the monitor has ([\d,]+) of code, the machine that it guards ([\d,]+);.*the proofs have ([\d,]+), and '
                       r'([\d,]+) of contracts, for ([\d,]+) of code', page)
-    own = [sum(counts[crate][0] for crate in groups[title]) for title in ('the monitor', 'the machine that it guards')]
+    own = [sum(counts[crate][0] for crate in groups[title]) for title in (MONITOR, HARDWARE)]
     own += [sum(number[at] for number in counts.values()) for at in (3, 1, 0)]
     if shown and all(abs(int(text.replace(',', '')) - number) * 20 <= number for text, number in zip(shown.groups(), own)):
         return 0
@@ -69,16 +65,13 @@ def check(counts, groups):
 
 
 def main():
-    counts = {crate: count(crate) for crate in crates()}
-    groups = {title: [] for title, _ in GROUPS}
-    for crate in counts:
-        groups[next(title for title, names in GROUPS if re.fullmatch(names, crate))].append(crate)
+    groups = families()
+    counts = {crate: count(crate) for members in groups.values() for crate in members}
     if '--check' in sys.argv[1:]:
         return check(counts, groups)
     print(f'{"":50}' + ''.join(f'{kind:>13}' for kind in KINDS))
     for title, members in groups.items():
-        if members:
-            print(f'{title:50}' + ''.join(f'{sum(counts[crate][at] for crate in members):13,}' for at in range(len(KINDS))))
+        print(f'{title:50}' + ''.join(f'{sum(counts[crate][at] for crate in members):13,}' for at in range(len(KINDS))))
         for crate in members if '--crates' in sys.argv[1:] else []:
             print(f'    {crate:46}' + ''.join(f'{number:13,}' for number in counts[crate]))
     print(f'{"all":50}' + ''.join(f'{sum(own[at] for own in counts.values()):13,}' for at in range(len(KINDS))))
