@@ -1,10 +1,10 @@
 #!/usr/bin/env python3
-"""torture.py SECVISOR [FOLDER] [--schedule auto:1]: Linux's checks of its kernel memory, its torture tests of locks and of RCU,
-and its unit tests of lib, on four harts, each to its own verdict; prints the table of docs/LINUX.md.
+"""torture.py SECVISOR [FOLDER] [--schedule auto:1]: Linux's checks of its kernel memory, its torture tests of locks and of
+RCU, and its unit tests of lib, on four harts, each to its own verdict; prints the table of docs/LINUX.md.
 
-FOLDER is where build.sh made the guests. The output of each run stays in FOLDER as NAME.SCHEDULE.txt. The status is 1 where a
-verdict is not the one that is due: the two guests that are named `busted` test a lock and an RCU that are made wrong, and have to
-fail."""
+FOLDER is where build.sh made the guests. The output of each run stays in FOLDER as NAME.SCHEDULE.txt. The status is 1 where
+a verdict is not the one that is due: the two guests that are named `busted` test a lock and an RCU that are made wrong, and
+have to fail."""
 import argparse
 import concurrent.futures
 import os
@@ -51,9 +51,11 @@ def run(secvisor, schedule, name):
         _, status, used = os.wait4(child.pid, 0)
     with open(kept, errors='replace') as file:
         text = file.read().replace('\r', '')
-    events = sum(int(number) for number in re.search(r'^turns (\d+) beats (\d+) keys (\d+) ticks (\d+)', text, re.M).groups())
+    counts = re.search(r'^turns (\d+) beats (\d+) keys (\d+) ticks (\d+)', text, re.M).groups()
+    events = sum(int(number) for number in counts)
     verdict = re.search(r'^verdict (.*)', text, re.M)[1]
-    due = verdict == 'shutdown' and ('busted' in name) == ('FAILURE' in text) and not re.search('^not ok|failed, ', text, re.M)
+    wrong = re.search('^not ok|W\\+X mappings: failed|test data was', text, re.M)
+    due = verdict == 'shutdown' and ('busted' in name) == ('FAILURE' in text) and not wrong
     seconds = used.ru_utime + used.ru_stime
     return f'| `{name}` | {said(text)} | `{verdict}` | {events / 1e6:,.0f} | {seconds:.0f} s |', due
 

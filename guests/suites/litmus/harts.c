@@ -1,5 +1,6 @@
 /* Four harts go through all tests side by side. In each round of a test they meet, and each that has a thread of it carries
-   that out, another one in each round; at last hart 0 prints what was seen: a line `o`, the test's number, the round, the values. */
+   that out, another one in each round; at last hart 0 prints what was seen: a line `o`, the test's number, the round, the
+   values. */
 #include "kernel.h"
 #include "litmus_guest.h"
 

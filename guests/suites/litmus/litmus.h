@@ -58,7 +58,8 @@ static inline int compare_word(volatile int *place, int wanted, int value)
 static inline int add_unless(volatile int *place, int value, int unless)
 {
     int old, failed, sum;
-    __asm__ volatile("1: lr.w %0, %3\n beq %0, %5, 2f\n addw %2, %0, %4\n sc.w.rl %1, %2, %3\n bnez %1, 1b\n fence rw, rw\n2:"
+    __asm__ volatile("1: lr.w %0, %3\n beq %0, %5, 2f\n addw %2, %0, %4\n sc.w.rl %1, %2, %3\n bnez %1, 1b\n"
+                     " fence rw, rw\n2:"
                      : "=&r"(old), "=&r"(failed), "=&r"(sum), "+A"(*place) : "r"(value), "r"(unless) : "memory");
     return old != unless;
 }

@@ -1,10 +1,12 @@
 #!/usr/bin/env python3
-"""litmus.py SECVISOR FOLDER [--linux SOURCE] [--seeds N] [--reversed]: litmus tests on four harts, against sequential consistency.
+"""litmus.py SECVISOR FOLDER [--linux SOURCE] [--seeds N] [--reversed]: litmus tests on four harts, against sequential
+consistency.
 
 Makes guests in FOLDER of the shapes of shapes.txt, once for each kind of access, and of the litmus tests of the Linux source
-at SOURCE; computes for each test the outcomes that sequential consistency allows, by trying every order; runs each guest under
-the schedules auto:1 to auto:N and bursts:1 to bursts:N; and prints, for each test, how many of its outcomes were reached: by
-auto without gaps, auto with gaps, bursts without and bursts with. An outcome outside the allowed ones is printed, and the status is 1.
+at SOURCE; computes for each test the outcomes that sequential consistency allows, by trying every order; runs each guest
+under the schedules auto:1 to auto:N and bursts:1 to bursts:N; and prints, for each test, how many of its outcomes were
+reached: by auto without gaps, auto with gaps, bursts without and bursts with. An outcome outside the allowed ones is
+printed, and the status is 1.
 Debian: apt-get install gcc-riscv64-unknown-elf, and linux-source-6.1 for SOURCE."""
 import argparse
 import collections
@@ -27,7 +29,8 @@ KINDS = {'PLAIN': 'Loads and stores', 'ATOMIC': 'AMO', 'RESERVED': 'LR and SC'}
 SCHEDULES = ('auto', 'bursts')
 FLAGS = ('-march=rv64ima_zicsr_zifencei -mabi=lp64 -mcmodel=medany -mno-relax -msmall-data-limit=0 -Os -Wall -Wno-unused '
          '-ffreestanding -fno-builtin -fno-tree-loop-distribute-patterns -fno-asynchronous-unwind-tables -fno-pic '
-         '-fno-stack-protector -fno-ident -nostdlib -static -Wl,-n,--no-relax,--build-id=none,--strip-debug,--discard-all').split()
+         '-fno-stack-protector -fno-ident -nostdlib -static '
+         '-Wl,-n,--no-relax,--build-id=none,--strip-debug,--discard-all').split()
 # How an access is made, in the place of READ_ONCE and WRITE_ONCE of litmus.h.
 ACCESSES = {
     'PLAIN': '',
@@ -54,20 +57,23 @@ def thread_code(test, index, thread, variant):
 
 def test_code(test, index):
     """The memory, registers, first values and printing of a test; both variants of each thread."""
+    memory, out = f'memory{index}[round]', f'out{index}[round]'
     places = ''.join(f' {c_kind(kind)}{name};' for name, kind in test.kinds.items())
     registers = ''.join(f' u64 r{thread}_{name};' for thread, names in enumerate(test.registers) for name in names)
-    code = [f'static struct {{{places} }} memory{index}[ROUNDS];\nstatic struct {{{registers} u64 none; }} out{index}[ROUNDS];\n']
+    code = [f'static struct {{{places} }} memory{index}[ROUNDS];\n',
+            f'static struct {{{registers} u64 none; }} out{index}[ROUNDS];\n']
     for variant in VARIANTS:
         gap = '((void)0)' if variant == 'tight' else 'stand_still(state)'
         code.append(f'#undef gap\n#define gap() {gap}\n')
         code += [thread_code(test, index, thread, variant) for thread in range(len(test.threads))]
-    first = ''.join(f'    memory{index}[round].{name} = {value if isinstance(value, int) else f"&memory{index}[round].{value}"};\n'
-                    for name, value in test.begin.items())
-    code.append(f'static void test{index}_begin(u64 round)\n{{\n{first}}}\n')
-    shown = ''.join('    print_value((u64)' + (f'memory{index}[round].{name}' if thread is None else f'out{index}[round].r{thread}_{name}')
-                    + f', &memory{index}[round]);\n' for thread, name in test.seen())
-    code.append(f'static void test{index}_print(u64 round)\n{{\n{shown}}}\n')
-    return ''.join(code)
+    code.append(f'static void test{index}_begin(u64 round)\n{{\n')
+    for name, value in test.begin.items():
+        code.append(f'    {memory}.{name} = {value if isinstance(value, int) else f"&{memory}.{value}"};\n')
+    code.append(f'}}\nstatic void test{index}_print(u64 round)\n{{\n')
+    for thread, name in test.seen():
+        value = f'{memory}.{name}' if thread is None else f'{out}.r{thread}_{name}'
+        code.append(f'    print_value((u64){value}, &{memory});\n')
+    return ''.join(code) + '}\n'
 
 
 PREFIX = '''/* Made by litmus.py. */
@@ -99,8 +105,8 @@ static void print_value(u64 value, void *memory)
 def guest_code(tests, kind):
     code = [PREFIX % (HARTS, ROUNDS, len(tests)), ACCESSES[kind]]
     code += [test_code(test, index) for index, test in enumerate(tests)]
-    code.append('static const struct { u64 threads; void (*thread[HARTS][2])(u64, u64 *); void (*begin)(u64), (*print)(u64); } '
-                'tests[TESTS] = {\n')
+    code.append('static const struct {\n    u64 threads;\n    void (*thread[HARTS][2])(u64, u64 *);\n'
+                '    void (*begin)(u64), (*print)(u64);\n} tests[TESTS] = {\n')
     for index, test in enumerate(tests):
         threads = ', '.join('{ ' + ', '.join(f'test{index}_{thread}_{variant}' for variant in VARIANTS) + ' }'
                             for thread in range(len(test.threads)))
@@ -124,8 +130,9 @@ class Guest:
         with open(os.path.join(own, 'litmus_guest.h'), 'w') as file:
             file.write(guest_code(self.tests, self.kind))
         self.image, self.policy = os.path.join(own, 'litmus.elf'), os.path.join(own, 'litmus.policy')
-        subprocess.run(['riscv64-unknown-elf-gcc', *FLAGS, f'-Wl,-T,{COMMON}/kernel.ld', f'-I{own}', f'-I{HERE}', f'-I{COMMON}',
-                        '-o', self.image, f'{COMMON}/start.S', f'{COMMON}/kernel.c', f'{HERE}/harts.c'], check=True)
+        subprocess.run(['riscv64-unknown-elf-gcc', *FLAGS, f'-Wl,-T,{COMMON}/kernel.ld', f'-I{own}', f'-I{HERE}',
+                        f'-I{COMMON}', '-o', self.image, f'{COMMON}/start.S', f'{COMMON}/kernel.c', f'{HERE}/harts.c'],
+                       check=True)
         subprocess.run([secvisor, 'measure', self.policy, self.image, '256', str(HARTS), '0x80000000,0x80000100', 'none'],
                        check=True, stdout=subprocess.DEVNULL)
 
@@ -149,7 +156,7 @@ class Guest:
 
     @staticmethod
     def value(test, text):
-        """A value that was printed; places lie one after the other, and those of tests with pointers are words of 4 or 8 bytes."""
+        """A value that was printed: a number, or the place at that distance; places have 4 bytes, or 8 for pointers."""
         if text[0] != '@':
             return int(text)
         at = 0
@@ -201,8 +208,8 @@ def reached(guest, index):
 def table(guests):
     """Prints the table of guests of the same tests; the outcomes that no order explains."""
     model = any(test.result for test in guests[0].tests)
-    print('\n| Test | Allowed |' + ''.join(f' {guest.title} |' for guest in guests) + ' Outside |' + (' Linux |' if model else ''))
-    print('|---|---|' + '---|' * (len(guests) + 1 + model))
+    heads = ['Test', 'Allowed', *(guest.title for guest in guests), 'Outside'] + (['Linux'] if model else [])
+    print('\n| ' + ' | '.join(heads) + ' |\n|' + '---|' * len(heads))
     every = []
     for index, test in enumerate(guests[0].tests):
         found = [reached(guest, index) for guest in guests]
@@ -215,7 +222,8 @@ def table(guests):
         for schedule in SCHEDULES:
             verdicts = [f'{number} runs `{verdict}`' for (of, verdict), number in guest.runs.items()
                         if of == schedule and verdict != 'events']
-            print(f'{guest.title}, `{schedule}`: {", ".join(verdicts)}, {guest.runs[schedule, "events"] / 1e6:,.0f} million events')
+            events = guest.runs[schedule, 'events'] / 1e6
+            print(f'{guest.title}, `{schedule}`: {", ".join(verdicts)}, {events:,.0f} million events')
     sys.stdout.flush()
     return every
 

@@ -4,8 +4,8 @@ A thread is a list of operations, each of which is one event of a sequentially c
   ('read', register, place)             ('write', place, value)
   ('change', register, place, new)      reads, and writes new(old) where that isn't None, as one event
   ('lock', place)  ('set', register, value)  ('unless', value, index)  ('go', index)
-A place is ('at', name) or ('in', register) for the place that a register holds; a value is ('number', n), ('address', name) or
-('register', name). Fences order what this machine orders anyway, so they are no operations."""
+A place is ('at', name) or ('in', register) for the place that a register holds; a value is ('number', n), ('address', name)
+or ('register', name). Fences order what this machine orders anyway, so they are no operations."""
 import re
 
 FENCES = {'smp_mb', 'smp_wmb', 'smp_rmb', 'smp_mb__after_spinlock', 'smp_mb__after_atomic', 'smp_mb__before_atomic',
@@ -22,7 +22,7 @@ class Untranslatable(Exception):
 
 class Test:
     """A test: `kinds` has the C type of each place, `begin` its value, `threads` the operations, `bodies` their C text,
-    `registers` of each thread their names, `wanted` the clause after `exists`, and `result` what Linux's model says of it."""
+    `registers` of each thread their names, `wanted` the clause after `exists`, and `result` what Linux's model says."""
 
     def __init__(self, text):
         comments = ' '.join(re.findall(COMMENT, text, re.S))

@@ -35,7 +35,8 @@ def steps(test, names, state):
     for thread, (index, registers) in enumerate(threads):
         if index == len(test.threads[thread]):
             continue
-        made = step(test.threads[thread][index], index, dict(zip(names, memory)), dict(zip(test.registers[thread], registers)))
+        held = dict(zip(test.registers[thread], registers))
+        made = step(test.threads[thread][index], index, dict(zip(names, memory)), held)
         if made is None:
             continue
         index, values, held = made
@@ -79,7 +80,8 @@ def step(operation, index, values, held):
 
 def holds(test, outcome):
     """Whether an outcome is one that the test's `exists` asks for."""
-    seen = {(f'{thread}:' if thread is not None else '') + name: value for (thread, name), value in zip(test.seen(), outcome)}
+    seen = {(f'{thread}:' if thread is not None else '') + name: value
+            for (thread, name), value in zip(test.seen(), outcome)}
     text = re.sub(r'([\d:]*\w+)\s*=\s*(\w+)',
                   lambda match: str(str(seen[match[1]]) == match[2]), test.wanted)
     text = text.replace('/\\', ' and ').replace('\\/', ' or ').replace('~', ' not ')
