@@ -15,6 +15,9 @@ use std::thread::Threads;
 /// The most runs by which a script is made small.
 pub const MAX_RUNS: u64 = 10_000;
 
+// The runs before any line is taken away: that of the order, and that of its lines.
+const FIRST_RUNS: u64 = 2;
+
 /// A small script.
 #[derive(Drop)]
 pub struct Script {
@@ -83,7 +86,7 @@ fn shrink_by<R: Threads + Sync>(
         Ok(false) => return Ok(Shrunk::NotWrittenOut),
         Err(_) => return Err(NoOutcome::Memory),
     }
-    let mut runs = MAX_RUNS;
+    let mut runs = MAX_RUNS - FIRST_RUNS;
     let Ok(minimal) = shrink_lines(rt, alloc, trial, &mut lines, &mut runs) else {
         return Err(NoOutcome::Memory);
     };

@@ -104,3 +104,33 @@ pub fn halved(alloc: Global, lines: &[EventRun]) -> Result<Vec<EventRun>, AllocE
     }
     Ok(halves)
 }
+
+/// What stands among the turns.
+#[derive(Clone, Copy, Debug, PartialEq, Eq, Drop)]
+pub(crate) enum Kind {
+    Beats,
+    Ticks,
+}
+
+fn is_of_kind(event: Event, kind: Kind) -> bool {
+    match event {
+        Event::Beat => kind == Kind::Beats,
+        Event::Tick(_) => kind == Kind::Ticks,
+        Event::Turn(_) | Event::Key(_) | Event::Poke { .. } => false,
+    }
+}
+
+/// The lines that aren't of a kind, those that then stand together joined.
+pub(crate) fn lines_without(
+    alloc: Global,
+    lines: &[EventRun],
+    kind: Kind,
+) -> Result<Vec<EventRun>, AllocError> {
+    let mut others = Vec::new(alloc);
+    for line in lines {
+        if !is_of_kind(line.event, kind) {
+            push_line(&mut others, *line)?;
+        }
+    }
+    Ok(others)
+}

@@ -2,7 +2,7 @@
 ghost use Rattle.std.specs.Prelude.{◌≡◌, ◌≤◌, ◌<◌, true, false, IfOk};
 ghost use Rattle.delta_debugging.specs.Minimal.{IsOneMinimal};
 
-use crate::listing::{halved, joined};
+use crate::listing::{Kind, halved, joined, lines_without};
 use delta_debugging::{Stops, minimize};
 use script::EventRun;
 use std::alloc::{AllocError, Global};
@@ -41,6 +41,26 @@ fn try_lines<R: Threads + Sync, S: Stops<EventRun>>(
     test.stops_so(rt, lines)
 }
 
+// Tries to do without all lines of a kind, and joins what then stands together.
+fn spare_kind<R: Threads + Sync, S: Stops<EventRun>>(
+    rt: &R,
+    alloc: Global,
+    test: &S,
+    lines: &mut Vec<EventRun>,
+    kind: Kind,
+    runs: &mut u64,
+) -> Result<(), AllocError>
+    requires stops { S.stops test.now lines.old.items ≡ true }
+    ensures stops { S.stops test.now lines.new.items ≡ true }
+    ensures runs { runs.new ≤ runs.old }
+{
+    let others = lines_without(alloc, lines, kind)?;
+    if try_lines(rt, test, &others, runs)? {
+        *lines = others;
+    }
+    Ok(())
+}
+
 // Tries to do with halves of some lines, and joins what then stands together. False where that makes nothing smaller: then the
 // lines stay as they are.
 fn spare_halves<R: Threads + Sync, S: Stops<EventRun>>(
@@ -69,7 +89,7 @@ fn spare_halves<R: Threads + Sync, S: Stops<EventRun>>(
     Ok(true)
 }
 
-/// Takes lines away, and halves of their counts, while a run stops so under those that are left, by at most so many runs. True
+/// Takes all ticks away, all beats, lines, and halves of their counts, while a run stops so under those that are left, by at most so many runs. True
 /// where the runs sufficed: then it stops so no more without any one of the lines. Out of memory it keeps what was reached.
 pub fn shrink_lines<R: Threads + Sync, S: Stops<EventRun>>(
     rt: &R,
@@ -83,6 +103,8 @@ pub fn shrink_lines<R: Threads + Sync, S: Stops<EventRun>>(
     ensures minimal { IfOk result (λ minimal. minimal ≡ true → IsOneMinimal (S.stops test.now) lines.new.items) }
     ensures runs { runs.new ≤ runs.old }
 {
+    spare_kind(rt, alloc, test, lines, Kind::Ticks, runs)?;
+    spare_kind(rt, alloc, test, lines, Kind::Beats, runs)?;
     'rounds: while *runs > 0 {
         if !minimize(rt, alloc, test, lines, runs)? {
             return Ok(false);

@@ -1,6 +1,6 @@
 //! Tests of parts that stand in several crates: registers, traps, walks and attempts of a hart, and requests of the virtio block
 //! device, by rows of their standards; measures, kernel images and module objects, the generated guest, the events of scripts,
-//! the files of the operating system, standard output, and the keys of a reader.
+//! scripts made small, the files of the operating system, standard output, and the keys of a reader.
 #![tactic(auto)]
 
 #[cfg(test)]
@@ -31,6 +31,8 @@ mod registers;
 mod saves;
 #[cfg(test)]
 mod scripts;
+#[cfg(test)]
+mod shrunk;
 #[cfg(test)]
 mod traps;
 #[cfg(test)]
