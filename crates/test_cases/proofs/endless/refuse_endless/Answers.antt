@@ -6,4 +6,4 @@ use Rattle.test_cases.proofs.endless.refuse_endless.Goals as goal
 
 pub answer-status-requires-clause-permitted : goal.answer-status-requires-clause-permitted
 answer-status-requires-clause-permitted g c = λ κs lives.
-    may_answer (top_call_of (map string_bytes c.in_ok-line.line.items)) (map string_bytes c.in_ok-line.line.items) _ (λ asked. refl) (λ saves. refl)
+    may_answer (top_call_of (map string_bytes c.deref.result.now)) (map string_bytes c.deref.result.now) _ (λ asked. refl) (λ saves. refl)
