@@ -6,6 +6,6 @@ use Rattle.cli_dispatch.proofs.Permits.{may_answer}
 use Rattle.test_runs.proofs.real.call_real.Goals as goal
 
 pub answer-status-requires-clause-permitted : goal.answer-status-requires-clause-permitted
-answer-status-requires-clause-permitted g c = λ κs.
+answer-status-requires-clause-permitted g c = λ κs lives.
     may_answer (top_call_of (map string_bytes c.deref.result.now)) (map string_bytes c.deref.result.now)
     (real_state c.new-files.result.read_faults c.new-files.result.save_faults) (λ asked. refl) (λ saves. refl)
