@@ -12,7 +12,7 @@ pub enum ResumeRefusal {
     #[error("the snapshot is of a machine under another policy")]
     OtherPolicy,
     /// Text, loaded modules and the load share a page, or a page's protection isn't the one that they give.
-    #[error("two parties share a page of the snapshot, or a page has another protection than tables_match")]
+    #[error("two parties share a page of the snapshot, or a page has another protection than theirs")]
     OtherPages,
     /// The digests of the text don't join to the policy's.
     #[error("the text's digests are not those of the policy's kernel")]
