@@ -1,6 +1,6 @@
 //! Tests of parts that stand in several crates: registers, traps, walks and attempts of a hart, and requests of the virtio block
 //! device, by rows of their standards; measures, kernel images and module objects, the generated guest, the events of scripts,
-//! scripts made small, the files of the operating system, standard output, and the keys of a reader.
+//! and scripts made small.
 #![tactic(auto)]
 
 #[cfg(test)]
@@ -12,8 +12,6 @@ mod generated;
 #[cfg(test)]
 mod images;
 #[cfg(test)]
-mod keys;
-#[cfg(test)]
 mod loading;
 #[cfg(test)]
 mod measures;
@@ -22,13 +20,7 @@ mod modes;
 #[cfg(test)]
 mod objects;
 #[cfg(test)]
-mod outputs;
-#[cfg(test)]
-mod real;
-#[cfg(test)]
 mod registers;
-#[cfg(test)]
-mod saves;
 #[cfg(test)]
 mod scripts;
 #[cfg(test)]
