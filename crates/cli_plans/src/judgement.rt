@@ -6,11 +6,11 @@ ghost use Rattle.cli_plans.specs.Words.{IsJudged};
 
 use crate::refusal::{Refusal, Word};
 use crate::words::{
-    read_flat, read_generated, read_live, read_resume, read_run, read_snap, read_sweep,
-    read_terms,
+    read_flat, read_generated, read_live, read_resume, read_run, read_snap, read_sweep, read_terms,
 };
 use cli_words::{
-    CommandName, DiskKind, FlatWords, LiveWords, ResumeWords, RunWords, SnapWords, SweepWords, named,
+    CommandName, DiskKind, FlatWords, LiveWords, ResumeWords, RunWords, SnapWords, SweepWords,
+    named,
 };
 use policy_making::are_module_names;
 

@@ -1,10 +1,14 @@
 -- What follows of an answer of `sweep`.
 use Rattle.std.proofs.Common.{◌≡◌, ◌≤◌, ℕ, List, [], ◌∷◌, map, IsTrue, false, refl, sym, ◌∙◌, ap, ap₂, subst, arith, inl, inr, Option, Some, None, Result, Ok, Err, IsErrOf}
 use Rattle.std.specs.Result.{is_ok}
+use Rattle.std.proofs.lemmas.Option.{same_Some}
 use Rattle.sv_types.specs.ApprovedPages.{numbers_from}
 use Rattle.sv_types.specs.Policies.{Rules}
+use Rattle.sv_types.specs.Schedule.{Schedule, first_events}
 use Rattle.sv_types.specs.declared.status.Status.{Status}
+use Rattle.spec_reference.specs.Run.{run}
 use Rattle.spec_reference.specs.Start.{boot_start, start as begin}
+use Rattle.spec_reference.specs.States.{State}
 use Rattle.policy.specs.Refusals.{Judged}
 use Rattle.policy.specs.Text.{rules_of_text}
 use Rattle.host_io.specs.Outside.{FilesState, SinkState}
@@ -23,21 +27,38 @@ use Rattle.secvisor_cli.specs.declared.ready.Stop.TheVariants.{Refused}
 use Rattle.secvisor_cli.specs.declared.ready.Stop.TheVariants as stop
 use Rattle.run_tally.specs.declared.outcome.Outcome.{Outcome}
 use Rattle.run_tally.specs.declared.tally.Tally.{Tally}
-use Rattle.run_tally.specs.Tallies.{tallies_of}
-use Rattle.machine_trials.specs.Trials.{end_under, schedule_of}
+use Rattle.run_tally.specs.Tallies.{outcome_of, tallies_of}
+use Rattle.machine_trials.specs.Trials.{end_from, end_under, schedule_of}
 use Rattle.cli_sweep.specs.declared.sweeping.Sweep.{Sweep}
 use Rattle.cli_sweep.specs.declared.parts.Parts.{Parts}
 use Rattle.cli_sweep.specs.Sweeps.{IsSwept, outcome_at, order_of}
-use Rattle.cli_sweep.specs.SweepAnswers.{AnswersDue, AnswersReached, BeginsFrom, Ends, MayAsk, Refuses, Sweeps, SweepsFiles, end_at, entries_due, first_due}
+use Rattle.cli_sweep.specs.SweepAnswers.{schedule_at, AnswersDue, AnswersReached, BeginsFrom, Ends, MayAsk, Refuses, Sweeps, SweepsFiles, end_at, entries_due, first_due}
 
 -- ---- the runs
 
--- a run of the files is a run from the start that they give
-end_same : (sweep : Sweep) (words : SweepWords) (order : DrawnOrder) (rules : Rules) (number : ℕ) → sweep.order ≡ order → words.order ≡ order → words.events ≡ sweep.events →
-    rules_of_text sweep.files.policy.now ≡ Ok rules → outcome_at sweep number ≡ Some (end_at words (boot_start rules sweep.files.image.now sweep.files.disk.now) number)
+start_rules : (rules : Rules) (file disk : List ℕ) → (boot_start rules file disk).rules ≡ rules
 unfolding boot_start begin
-end_same sweep words Auto rules number is same few reads = rw (is, same, few, reads) refl
-end_same sweep words Bursts rules number is same few reads = rw (is, same, few, reads) refl
+start_rules rules file disk = refl
+
+schedule_is : (order : DrawnOrder) (harts number : ℕ) → schedule_of (order_of order number) harts ≡ Some (schedule_at order harts number)
+schedule_is Auto harts number = refl
+schedule_is Bursts harts number = refl
+
+abbrev end_by : State → (events : ℕ) → DrawnOrder → (harts number : ℕ) → Outcome
+end_by start events order harts number = outcome_of (run start (first_events events (schedule_at order harts number))).journal.verdict
+
+-- a run of the files is a run from the start that they give
+end_same : (sweep : Sweep) (words : SweepWords) (rules : Rules) (number : ℕ) → words.order ≡ sweep.order → words.events ≡ sweep.events → rules_of_text sweep.files.policy.now ≡ Ok rules →
+    outcome_at sweep number ≡ Some (end_at words (boot_start rules sweep.files.image.now sweep.files.disk.now) number)
+end_same sweep words rules number order few reads =
+    let start = boot_start rules sweep.files.image.now sweep.files.disk.now in
+    let there : outcome_at sweep number ≡ end_from start sweep.events (schedule_of (order_of sweep.order number) rules.harts) =
+    ap (λ (j : Judged Rules). end_under j sweep.files.image.now sweep.files.disk.now sweep.events (schedule_of (order_of sweep.order number))) reads in
+    there
+    ∙ ap (λ (s : Option Schedule). end_from start sweep.events s) (schedule_is sweep.order rules.harts number)
+    ∙ ap (λ (n : ℕ). Some (end_by start n sweep.order rules.harts number)) (sym few)
+    ∙ ap (λ (o : DrawnOrder). Some (end_by start words.events o rules.harts number)) (sym order)
+    ∙ ap (λ (r : Rules). Some (end_by start words.events words.order r.harts number)) (sym (start_rules rules sweep.files.image.now sweep.files.disk.now))
 
 -- the bytes that a sweep borrows
 pub record Borrows (sweep : Sweep) (text file disk : List ℕ) : Type 0 where
@@ -54,7 +75,7 @@ outcomes_same found given (number ∷ numbers) [] each is = cc is
 outcomes_same found given (number ∷ numbers) (outcome ∷ outcomes) each is =
     let head : found number ≡ Some outcome = cc is in
     let tail : map found numbers ≡ map Some outcomes = cc is in
-    let first : outcome ≡ given number = cc (head, each number) in
+    let first : outcome ≡ given number = same_Some outcome (given number) (sym head ∙ each number) in
     ap₂ (λ (o : Outcome) (os : List Outcome). o ∷ os) first (outcomes_same found given numbers outcomes each tail)
 
 pub entries_same : (sweep : Sweep) (words : SweepWords) (rules : Rules) (text file disk : List ℕ) (entries : List (Outcome × Tally)) → words.order ≡ sweep.order → words.events ≡ sweep.events →
@@ -66,7 +87,7 @@ entries_same sweep words rules text file disk entries order few borrows given sw
     swept.entries_are
     ∙ ap (tallies_of words.first)
     (outcomes_same (outcome_at sweep) (end_at words (boot_start rules sweep.files.image.now sweep.files.disk.now)) (numbers_from words.first words.count) swept.outcomes
-    (λ number. end_same sweep words sweep.order rules number refl order few reads) swept.each)
+    (λ number. end_same sweep words rules number order few reads) swept.each)
     ∙ there
 
 -- ---- from what was read to the answer

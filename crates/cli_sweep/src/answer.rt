@@ -125,11 +125,7 @@ fn sweep_parts<R: Threads + Sync, O: Sink>(
     }
 }
 
-fn write_tallies<O: Sink>(
-    alloc: Global,
-    tallies: &Tallies,
-    out: &mut O,
-) -> Result<Status, Trouble>
+fn write_tallies<O: Sink>(alloc: Global, tallies: &Tallies, out: &mut O) -> Result<Status, Trouble>
     requires sink { MayWrite (O.state out.old) }
     ensures { Ends (lines.sweep_status tallies.now.entries) (lines.sweep_text tallies.now.entries) (O.state out.old) (O.state out.new) result }
 {

@@ -63,11 +63,7 @@ pub(crate) fn read_parts<R: Threads + Sync, F: Files>(
     })
 }
 
-fn read_policy_text<F: Files>(
-    alloc: Global,
-    name: &str,
-    files: &mut F,
-) -> Result<PolicyText, Stop>
+fn read_policy_text<F: Files>(alloc: Global, name: &str, files: &mut F) -> Result<PolicyText, Stop>
     requires permitted { MayStage (policy_part name.now) (F.state files.old) }
     requires reads { CanCount (F.state files.old).read_faults }
     ensures stage { Staged (policy_part name.now) (λ p. rules_of p.policy) (F.state files.old) (F.state files.new) result }

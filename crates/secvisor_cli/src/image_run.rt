@@ -142,11 +142,7 @@ pub fn judge_policy(alloc: Global, text: &[u8]) -> Result<Policy, Stop>
 // ---- the image
 
 /// The image of a kernel's file.
-pub fn judge_kernel(
-    alloc: Global,
-    file: &[u8],
-    ram_pages: u32,
-) -> Result<KernelImage<'_>, Stop>
+pub fn judge_kernel(alloc: Global, file: &[u8], ram_pages: u32) -> Result<KernelImage<'_>, Stop>
     ensures { IsKernel file.now ram_pages result }
 {
     match read_kernel(alloc, file, ram_pages) {
@@ -161,7 +157,11 @@ pub fn judge_kernel(
 // ---- the disk
 
 /// The disk of a name, which is judged; an empty one where there is no name.
-pub fn read_disk<F: Files>(alloc: Global, name: Option<&str>, files: &mut F) -> Result<Vec<u8>, Stop>
+pub fn read_disk<F: Files>(
+    alloc: Global,
+    name: Option<&str>,
+    files: &mut F,
+) -> Result<Vec<u8>, Stop>
     requires permitted { MayStage (disk_part (option_copied name)) (F.state files.old) }
     requires reads { CanCount (F.state files.old).read_faults }
     ensures stage { Staged (disk_part (option_copied name.entry)) (λ disk. disk.items) (F.state files.old) (F.state files.new) result }
