@@ -21,7 +21,7 @@ use Rattle.cli_plans.specs.CommandLine.{SweepWords, first_run}
 use Rattle.cli_plans.specs.Plans.{Due, Refuse, RunFrom, Make, Plan, run_plan}
 use Rattle.cli_plans.specs.Reading.{MayFollow}
 use Rattle.cli_plans.specs.Refusals.{refusal_line, refusal_status, takes_memory}
-use Rattle.cli_plans.proofs.PlanLemmas.{Keeps, keeps_same, follows_keeps, may_follow}
+use Rattle.cli_plans.proofs.PlanLemmas.{Keeps, follows_keeps, may_follow}
 use Rattle.secvisor_cli.specs.Ready.{IsReadyWhere, Prepares}
 use Rattle.secvisor_cli.specs.declared.ready.Stop.TheVariants.{Refused}
 use Rattle.secvisor_cli.specs.declared.ready.Stop.TheVariants as stop
@@ -135,6 +135,16 @@ sweeps_want (Ok words) files old good = inl (refl, refl, refl)
 sweeps_want (Err why) files old good = absurd (cc good)
 
 -- ---- what becomes of the files and the sink
+
+keeps_same : (files read : FilesState) → read ≡ files → Keeps files read
+keeps_same files read is =
+    let same : read.read_faults ≡ files.read_faults = ap (λ (f : FilesState). f.read_faults) is in
+    record {
+      tells = ap (λ (f : FilesState). f.tells) is;
+      held = ap (λ (f : FilesState). f.held) is;
+      reads = omega arith;
+      saves = ap (λ (f : FilesState). f.save_faults) is;
+    }
 
 pub keeps_files : (judged : Result SweepWords Refusal) (files read : FilesState) (old new : SinkState) (result : Result Status Trouble) → Sweeps judged files read old new result → Keeps files read
 keeps_files (Err why) files read old new result it = keeps_same files read it.0

@@ -1,4 +1,4 @@
-use Rattle.std.proofs.Common.{◌≡◌, ◌%◌, ℕ, List, length, sym, subst, ap, ◌∙◌, Err}
+use Rattle.std.proofs.Common.{◌≡◌, ◌%◌, ℕ, List, length, sym, subst, ap, ◌∙◌, None, Err}
 use Rattle.sv_types.specs.Policies.{rules_of}
 use Rattle.sv_types.specs.Schedule.{first_events}
 use Rattle.machine.specs.declared.boot.BootRefusal.{BootRefusal}
@@ -40,7 +40,7 @@ returns-in_err-copy-clause-boots g c =
     c.from_residual-in_err-copy.ensures.1
     (script_ready (first_run words) rules c.args.file.now c.in_ok-disk.disk.items (schedule_at words.order rules.harts words.first) _ _ _ _ c.in_ok-image.ensures.accepted
     c.in_ok-disk.ensures.stage (drawn_pass words.order rules.harts words.first _)
-    (boot_stopped DiskKind.Block rules c.args.file.now c.in_ok-disk.disk.items _ _ c.in_ok-image.image BootRefusal.Memory c.in_ok-image.ensures tt))
+    (boot_stopped DiskKind.Block rules c.args.file.now c.in_ok-disk.disk.items (first_events words.events (schedule_at words.order rules.harts words.first)) None c.in_ok-image.image BootRefusal.Memory c.in_ok-image.ensures tt))
 
 pub returns-in_err-check_boot-clause-boots : goal.returns-in_err-check_boot-clause-boots
 returns-in_err-check_boot-clause-boots g c =

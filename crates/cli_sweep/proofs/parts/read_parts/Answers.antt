@@ -1,4 +1,4 @@
-use Rattle.std.proofs.Common.{ℕ, List, subst, sym, Ok, Err}
+use Rattle.std.proofs.Common.{ℕ, List, subst, sym, Some, Ok, Err}
 use Rattle.sv_types.specs.Policies.{rules_of}
 use Rattle.cli_plans.specs.declared.file_fault.Part.{Part}
 use Rattle.cli_plans.specs.CommandLine.{first_run}
@@ -66,7 +66,8 @@ returns g c =
       rules = rules;
       reads = c.in_ok-read.ensures.text;
       sectors = c.in_ok-disk.ensures.sectors;
-      follows = c.in_ok-read.ensures.stage.follows (image_plan words) _ _
-          (read_follows Part.Image c.args.asked.now.image.now max_image_bytes (λ (b : List ℕ). kernel_part rules b (boot_plan words rules b)) _ _ _ c.in_ok-image.image.items _ c.in_ok-image.ensures
+      follows = c.in_ok-read.ensures.stage.follows (image_plan words) (g.F.Files.state c.boot_parts.new.files) (Some (first_due sweep rules c.in_ok-image.image.items c.in_ok-disk.disk.items))
+          (read_follows Part.Image c.args.asked.now.image.now max_image_bytes (λ (b : List ℕ). kernel_part rules b (boot_plan words rules b)) (g.F.Files.state c.read_policy_text.new.files)
+          (g.F.Files.state c.read_part.new.files) (g.F.Files.state c.boot_parts.new.files) c.in_ok-image.image.items (Some (first_due sweep rules c.in_ok-image.image.items c.in_ok-disk.disk.items)) c.in_ok-image.ensures
           (subst (λ (b : List ℕ). BootsFrom sweep rules b (g.F.Files.state c.read_part.new.files) (g.F.Files.state c.boot_parts.new.files) (Ok c.in_ok-disk.disk)) c.deref.ensures.value c.in_ok-disk.ensures.boots));
     }
