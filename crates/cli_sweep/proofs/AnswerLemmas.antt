@@ -1,5 +1,5 @@
 -- What follows of an answer of `sweep`.
-use Rattle.std.proofs.Common.{◌≡◌, ◌≤◌, ℕ, List, [], ◌∷◌, map, IsTrue, false, refl, sym, ◌∙◌, ap, ap₂, subst, arith, inl, inr, Option, Some, None, Result, Ok, Err, IsErrOf}
+use Rattle.std.proofs.Common.{◌≡◌, ◌≤◌, ℕ, List, [], ◌∷◌, map, IsTrue, false, refl, sym, ◌∙◌, ap, ap₂, subst, arith, inl, inr, Option, Some, None, Result, Ok, Err}
 use Rattle.std.specs.Result.{is_ok}
 use Rattle.std.proofs.lemmas.Option.{same_Some}
 use Rattle.sv_types.specs.ApprovedPages.{numbers_from}
@@ -18,9 +18,9 @@ use Rattle.cli_plans.specs.declared.refusal.Refusal.{Refusal}
 use Rattle.cli_plans.specs.declared.words.DrawnOrder.{DrawnOrder}
 use Rattle.cli_plans.specs.declared.words.DrawnOrder.TheVariants.{Auto, Bursts}
 use Rattle.cli_plans.specs.CommandLine.{SweepWords, first_run}
-use Rattle.cli_plans.specs.Plans.{Due, Refuse, RunFrom, Make, Plan, run_plan}
+use Rattle.cli_plans.specs.Plans.{Due, Refuse, RunFrom, Make, run_plan}
 use Rattle.cli_plans.specs.Reading.{MayFollow}
-use Rattle.cli_plans.specs.Refusals.{refusal_line, refusal_status, takes_memory}
+use Rattle.cli_plans.specs.Refusals.{refusal_line, refusal_status}
 use Rattle.cli_plans.proofs.PlanLemmas.{Keeps, follows_keeps, may_follow}
 use Rattle.secvisor_cli.specs.Ready.{IsReadyWhere, Prepares}
 use Rattle.secvisor_cli.specs.declared.ready.Stop.TheVariants.{Refused}

@@ -1,19 +1,17 @@
 -- The files that a sweep's runs begin from, by the stages of the plan of `run`.
-use Rattle.std.proofs.Common.{◌≡◌, ℕ, List, Bool, true, refl, sym, ◌∙◌, ap, subst, inr, Option, Some, None, Result, Ok, Err, if◌then◌else◌}
+use Rattle.std.proofs.Common.{◌≡◌, ℕ, List, Bool, true, refl, sym, ◌∙◌, ap, subst, inr, Option, Some, None, if◌then◌else◌}
 use Rattle.std.specs.Str.{bytes_eq}
 use Rattle.sv_types.specs.Kernel.{LoadedSegment, header_entry, kernel_refusal, text_of}
 use Rattle.sv_types.specs.Measure.{measure}
-use Rattle.sv_types.specs.Policies.{Rules, rules_of}
+use Rattle.sv_types.specs.Policies.{Rules}
 use Rattle.sv_types.specs.Schedule.{Schedule, first_events}
 use Rattle.sv_types.specs.declared.event.Event.{Event}
 use Rattle.sv_types.specs.declared.image_fault.ImageFault.{ImageFault}
-use Rattle.sv_types.specs.declared.policy.Policy.{Policy}
 use Rattle.spec_reference.specs.Start.{boot_start}
 use Rattle.spec_reference.specs.States.{has_number}
 use Rattle.elf64_load.specs.Images.{segments_of}
 use Rattle.elf64_load.specs.declared.image.KernelImage.{KernelImage}
 use Rattle.machine.specs.Boot.{IsImageOf}
-use Rattle.machine.specs.declared.boot.BootRefusal.{BootRefusal}
 use Rattle.host_io.specs.Outside.{FilesState}
 use Rattle.cli_words.specs.declared.command.DiskKind.{DiskKind}
 use Rattle.cli_plans.specs.declared.file_fault.FileFault.{FileFault}
@@ -23,9 +21,7 @@ use Rattle.cli_plans.specs.declared.words.DrawnOrder.TheVariants.{Auto, Bursts}
 use Rattle.cli_plans.specs.CommandLine.{RunWords, SweepWords, drawn_source, first_run}
 use Rattle.cli_plans.specs.Plans.{Due, Refuse, RunFrom, Plan, End, Judge, part_judged, kernel_part, disk_part, script_part, image_measure, boot_judged, boot_plan}
 use Rattle.cli_plans.specs.Reading.{Follows}
-use Rattle.secvisor_cli.specs.Ready.{IsReady, Passes}
-use Rattle.secvisor_cli.specs.declared.ready.Stop.{Stop}
-use Rattle.secvisor_cli.specs.declared.ready.Stop.TheVariants.{Memory}
+use Rattle.secvisor_cli.specs.Ready.{Passes}
 use Rattle.secvisor_cli.proofs.ReadyLemmas.{bytes_eq-same}
 use Rattle.secvisor_cli.proofs.StageLemmas.{auto_pass, bursts_pass}
 use Rattle.cli_sweep.specs.SweepAnswers.{schedule_at, first_due}

@@ -1,4 +1,4 @@
-use Rattle.std.proofs.Common.{ℕ, List, refl, subst}
+use Rattle.std.proofs.Common.{List, refl, subst}
 use Rattle.run_tally.specs.declared.outcome.Outcome.{Outcome}
 use Rattle.run_tally.specs.declared.tally.Tally.{Tally}
 use Rattle.run_tally.specs.Lines as lines

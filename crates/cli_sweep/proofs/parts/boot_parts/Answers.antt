@@ -1,4 +1,4 @@
-use Rattle.std.proofs.Common.{◌≡◌, ◌%◌, ℕ, List, length, sym, subst, ap, ◌∙◌, None, Err}
+use Rattle.std.proofs.Common.{None}
 use Rattle.sv_types.specs.Policies.{rules_of}
 use Rattle.sv_types.specs.Schedule.{first_events}
 use Rattle.machine.specs.declared.boot.BootRefusal.{BootRefusal}

@@ -3,7 +3,7 @@ use Rattle.sv_types.specs.Policies.{rules_of}
 use Rattle.cli_plans.specs.declared.file_fault.Part.{Part}
 use Rattle.cli_plans.specs.CommandLine.{first_run}
 use Rattle.cli_plans.specs.Plans.{max_image_bytes, policy_part, kernel_part, boot_plan, image_plan, run_plan}
-use Rattle.cli_plans.specs.Reading.{MayFollow, Follows}
+use Rattle.cli_plans.specs.Reading.{MayFollow}
 use Rattle.cli_plans.specs.Words.{sweep_value}
 use Rattle.secvisor_cli.specs.Ready.{Prepares}
 use Rattle.secvisor_cli.proofs.ReadyLemmas.{err_by, stopped_ready, read_ready}

@@ -1,5 +1,4 @@
 use Rattle.std.proofs.Common.{List, ℕ, Ok, Err, subst}
-use Rattle.sv_types.specs.declared.policy.Policy.{Policy}
 use Rattle.sv_types.specs.Policies.{rules_of}
 use Rattle.policy.specs.Text.{rules_of_text}
 use Rattle.cli_plans.specs.Plans.{policy_part}
