@@ -10,6 +10,7 @@ use cli_words::{CommandName, command_of_name};
 pub enum TopCall {
     Live,
     Snap,
+    Sweep,
     Resume,
     Show,
     /// The call of all other commands, which also refuses what is of none.
@@ -32,6 +33,7 @@ fn call_of_name(name: &str) -> TopCall
     match command_of_name(name) {
         Some(CommandName::Live) => TopCall::Live,
         Some(CommandName::Snap) => TopCall::Snap,
+        Some(CommandName::Sweep) => TopCall::Sweep,
         Some(CommandName::Resume) => TopCall::Resume,
         Some(CommandName::Show) => TopCall::Show,
         Some(CommandName::Flat)

@@ -1,6 +1,6 @@
 -- The words of the command line.
 use Rattle.std.proofs.Common.{◌≡◌, ◌≢◌, ◌<◌, ℕ, List, [], ◌∷◌, Bool, true, false, ◌&&◌, IsTrue, length, refl, subst, sym, arith, cond, Option, Some, None, Result, Ok, Err}
-use Rattle.std.specs.Prelude.{if◌then◌else◌, nat_le, option_map, codes}
+use Rattle.std.specs.Prelude.{◌^◌, ◌-◌, if◌then◌else◌, nat_le, option_map, codes}
 use Rattle.std.specs.Str.{bytes_eq}
 use Rattle.std.specs.Option.{is_some}
 use Rattle.std.specs.Result.{is_ok}
@@ -19,12 +19,13 @@ use Rattle.policy_making.proofs.WordsWithin.{entries_count, entries_good, span_o
 use Rattle.cli_words.specs.declared.command.DiskKind.{DiskKind}
 use Rattle.cli_words.specs.declared.table.CommandName.{CommandName}
 use Rattle.cli_words.specs.declared.table.CommandName.TheVariants as command
-use Rattle.cli_words.specs.Commands.{Named, FlatSplit, RunSplit, LiveSplit, SnapSplit, ResumeSplit, MeasureSplit, ConvertSplit, flat_split, gen_split, run_split, live_split, snap_split, resume_split, show_split, measure_split, convert_split, named_words}
+use Rattle.cli_words.specs.Commands.{Named, FlatSplit, RunSplit, LiveSplit, SnapSplit, SweepSplit, ResumeSplit, MeasureSplit, ConvertSplit, flat_split, gen_split, run_split, live_split, snap_split, sweep_split, resume_split, show_split, measure_split, convert_split, named_words}
 use Rattle.cli_plans.specs.declared.refusal.Refusal.{Refusal}
 use Rattle.cli_plans.specs.declared.refusal.Refusal.TheVariants.{OutOfRange, NoCommand}
+use Rattle.cli_plans.specs.declared.words.DrawnOrder.{DrawnOrder}
 use Rattle.cli_plans.specs.declared.refusal.Word.{Word}
 use Rattle.cli_plans.specs.Refusals.{refusal_status}
-use Rattle.cli_plans.specs.CommandLine.{Command, Convert, LiveWords, SnapWords, ResumeWords, Source, flat_words, gen_words, source_of, run_words, live_words, live_of, snap_words, snap_of, resume_words, resume_of, entries_judged, init_of, terms_with, terms_words, terms_judged, making_words, making_judged, flat_judged, gen_judged, run_judged, split_judged, command_after, live_after, snap_after, resume_after, show_after, named_judged, judgement_of_words, live_judged, snap_judged, resume_judged, show_judged}
+use Rattle.cli_plans.specs.CommandLine.{Command, Convert, LiveWords, SnapWords, ResumeWords, Source, flat_words, gen_words, source_of, run_words, live_words, live_of, snap_words, snap_of, sweep_with, sweep_words, sweep_of, most_runs, drawn_order_of, resume_words, resume_of, entries_judged, init_of, terms_with, terms_words, terms_judged, making_words, making_judged, flat_judged, gen_judged, run_judged, split_judged, command_after, live_after, snap_after, sweep_after, resume_after, show_after, named_judged, judgement_of_words, live_judged, snap_judged, sweep_judged, resume_judged, show_judged}
 
 -- ---- so many words are of no command
 
@@ -84,6 +85,17 @@ not_snap (a ∷ b ∷ c ∷ d ∷ []) other = refl
 not_snap (a ∷ b ∷ c ∷ d ∷ e ∷ []) other = refl
 not_snap (a ∷ b ∷ c ∷ d ∷ e ∷ f ∷ []) other = absurd (other refl)
 not_snap (a ∷ b ∷ c ∷ d ∷ e ∷ f ∷ g ∷ rest) other = refl
+
+pub not_sweep : (words : List (List ℕ)) → length words ≢ 7 → sweep_split words ≡ None
+not_sweep [] other = refl
+not_sweep (a ∷ []) other = refl
+not_sweep (a ∷ b ∷ []) other = refl
+not_sweep (a ∷ b ∷ c ∷ []) other = refl
+not_sweep (a ∷ b ∷ c ∷ d ∷ []) other = refl
+not_sweep (a ∷ b ∷ c ∷ d ∷ e ∷ []) other = refl
+not_sweep (a ∷ b ∷ c ∷ d ∷ e ∷ f ∷ []) other = refl
+not_sweep (a ∷ b ∷ c ∷ d ∷ e ∷ f ∷ g ∷ []) other = absurd (other refl)
+not_sweep (a ∷ b ∷ c ∷ d ∷ e ∷ f ∷ g ∷ h ∷ rest) other = refl
 
 pub not_resume : (words : List (List ℕ)) → length words ≢ 5 → resume_split words ≡ None
 not_resume [] other = refl
@@ -241,6 +253,18 @@ snap_no_fault image policy disk out None events = λ e. cc e
 snap_no_fault image policy disk out (Some script) None = λ e. cc e
 snap_no_fault image policy disk out (Some script) (Some events) = tt
 
+sweep_with_no_fault : (w : SweepSplit) (order : DrawnOrder) (first : ℕ) (count events : Option ℕ) → NoReadFault (sweep_with w order first count events)
+unfolding sweep_with
+sweep_with_no_fault w order first None events = λ e. cc e
+sweep_with_no_fault w order first (Some count) None = λ e. cc e
+sweep_with_no_fault w order first (Some count) (Some events) = tt
+
+sweep_no_fault : (w : SweepSplit) (order : Option DrawnOrder) (first : Option ℕ) → NoReadFault (sweep_words w order first)
+unfolding sweep_words
+sweep_no_fault w None first = λ e. cc e
+sweep_no_fault w (Some order) None = λ e. cc e
+sweep_no_fault w (Some order) (Some first) = sweep_with_no_fault w order first (number_within 1 (most_runs first) w.count) (number_within 0 max_events w.events)
+
 resume_no_fault : (saved policy save : List ℕ) (script : Option Source) (events : Option ℕ) → NoReadFault (resume_words saved policy save script events)
 unfolding resume_words
 resume_no_fault saved policy save None events = λ e. cc e
@@ -266,6 +290,7 @@ command_no_fault command.Measure rest = split_no_fault making_judged (measure_sp
     (terms_no_read_fault w.init (number_within 16 max_ram_pages w.ram) (number_within 1 4 w.harts) (entries_judged w.entries)))
 command_no_fault command.Convert rest = split_no_fault (λ w. Ok (Convert w)) (convert_split rest) (λ w. tt)
 command_no_fault command.Live rest = λ e. cc e
+command_no_fault command.Sweep rest = λ e. cc e
 command_no_fault command.Snap rest = λ e. cc e
 command_no_fault command.Resume rest = λ e. cc e
 command_no_fault command.Show rest = λ e. cc e
@@ -279,6 +304,7 @@ live_after_no_fault command.Live rest = split_no_fault live_of (live_split rest)
 live_after_no_fault command.Flat rest = λ e. cc e
 live_after_no_fault command.Generated rest = λ e. cc e
 live_after_no_fault (command.Run kind) rest = λ e. cc e
+live_after_no_fault command.Sweep rest = λ e. cc e
 live_after_no_fault command.Snap rest = λ e. cc e
 live_after_no_fault command.Resume rest = λ e. cc e
 live_after_no_fault command.Show rest = λ e. cc e
@@ -295,6 +321,7 @@ snap_after_no_fault command.Flat rest = λ e. cc e
 snap_after_no_fault command.Generated rest = λ e. cc e
 snap_after_no_fault (command.Run kind) rest = λ e. cc e
 snap_after_no_fault command.Live rest = λ e. cc e
+snap_after_no_fault command.Sweep rest = λ e. cc e
 snap_after_no_fault command.Resume rest = λ e. cc e
 snap_after_no_fault command.Show rest = λ e. cc e
 snap_after_no_fault command.Measure rest = λ e. cc e
@@ -304,12 +331,29 @@ pub snap_no_read_fault : (words : List (List ℕ)) → NoReadFault (snap_judged 
 unfolding snap_judged
 snap_no_read_fault words = named_no_fault snap_after (named_words words) snap_after_no_fault
 
+sweep_after_no_fault : (name : CommandName) (rest : List (List ℕ)) → NoReadFault (sweep_after name rest)
+sweep_after_no_fault command.Sweep rest = split_no_fault sweep_of (sweep_split rest) (λ w. sweep_no_fault w (drawn_order_of w.schedule) (number_within 0 (2 ^ 64 - 1) w.first))
+sweep_after_no_fault command.Flat rest = λ e. cc e
+sweep_after_no_fault command.Generated rest = λ e. cc e
+sweep_after_no_fault (command.Run kind) rest = λ e. cc e
+sweep_after_no_fault command.Live rest = λ e. cc e
+sweep_after_no_fault command.Snap rest = λ e. cc e
+sweep_after_no_fault command.Resume rest = λ e. cc e
+sweep_after_no_fault command.Show rest = λ e. cc e
+sweep_after_no_fault command.Measure rest = λ e. cc e
+sweep_after_no_fault command.Convert rest = λ e. cc e
+
+pub sweep_no_read_fault : (words : List (List ℕ)) → NoReadFault (sweep_judged words)
+unfolding sweep_judged
+sweep_no_read_fault words = named_no_fault sweep_after (named_words words) sweep_after_no_fault
+
 resume_after_no_fault : (name : CommandName) (rest : List (List ℕ)) → NoReadFault (resume_after name rest)
 resume_after_no_fault command.Resume rest = split_no_fault resume_of (resume_split rest) (λ w. resume_no_fault w.saved w.policy w.save (source_of w.script) (number_within 0 max_events w.events))
 resume_after_no_fault command.Flat rest = λ e. cc e
 resume_after_no_fault command.Generated rest = λ e. cc e
 resume_after_no_fault (command.Run kind) rest = λ e. cc e
 resume_after_no_fault command.Live rest = λ e. cc e
+resume_after_no_fault command.Sweep rest = λ e. cc e
 resume_after_no_fault command.Snap rest = λ e. cc e
 resume_after_no_fault command.Show rest = λ e. cc e
 resume_after_no_fault command.Measure rest = λ e. cc e

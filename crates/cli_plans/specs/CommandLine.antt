@@ -1,11 +1,11 @@
 -- The words of a command line by their names: what they ask for, or the first one that is out of its range. This
 -- project's own.
-use Rattle.std.specs.Prelude.{ℕ, ◌^◌, ◌-◌, List, if◌then◌else◌, Option, Some, None, option_map, take, drop, Result, Ok, Err, codes}
+use Rattle.std.specs.Prelude.{ℕ, ◌^◌, ◌-◌, ◌+◌, nat_lt, List, if◌then◌else◌, Option, Some, None, option_map, take, drop, Result, Ok, Err, codes}
 use Rattle.std.specs.Str.{bytes_eq}
 use Rattle.cli_words.specs.declared.command.DiskKind.{DiskKind}
 use Rattle.cli_words.specs.declared.table.CommandName.{CommandName}
 use Rattle.cli_words.specs.declared.table.CommandName.TheVariants as command
-use Rattle.cli_words.specs.Commands.{Named, FlatSplit, RunSplit, LiveSplit, SnapSplit, ResumeSplit, MeasureSplit, ConvertSplit, flat_split, gen_split, run_split, live_split, snap_split, resume_split, show_split, measure_split, convert_split, named_words}
+use Rattle.cli_words.specs.Commands.{Named, FlatSplit, RunSplit, LiveSplit, SnapSplit, SweepSplit, ResumeSplit, MeasureSplit, ConvertSplit, flat_split, gen_split, run_split, live_split, snap_split, sweep_split, resume_split, show_split, measure_split, convert_split, named_words}
 use Rattle.sv_types.specs.Numbers.{number_within, digest_of}
 use Rattle.spec_processor.specs.Regions.{max_ram_pages}
 use Rattle.sv_types.specs.declared.module.Span.{Span}
@@ -14,6 +14,8 @@ use Rattle.guest_gen.specs.GuestCode.{max_calls}
 use Rattle.live_keys.specs.Line.{max_keys}
 use Rattle.policy_making.specs.Making.{Terms}
 use Rattle.policy_making.specs.WordRanges.{are_entries, entries_of, span_of, are_module_names}
+use Rattle.cli_plans.specs.declared.words.DrawnOrder.{DrawnOrder}
+use Rattle.cli_plans.specs.declared.words.DrawnOrder.TheVariants as drawn
 use Rattle.cli_plans.specs.declared.refusal.Word.{Word}
 use Rattle.cli_plans.specs.declared.refusal.Refusal.{Refusal}
 use Rattle.cli_plans.specs.declared.refusal.Refusal.TheVariants.{NoCommand, OutOfRange}
@@ -62,6 +64,18 @@ pub record SnapWords : Type 0 where
   pub run : RunWords
   pub out : List ℕ
 
+-- the runs of so many numbers, each of which draws the order of its run
+pub record SweepWords : Type 0 where
+  pub image : List ℕ
+  pub policy : List ℕ
+  -- none for an empty disk
+  pub disk : Option (List ℕ)
+  pub order : DrawnOrder
+  pub first : ℕ
+  pub count : ℕ
+  -- the most events of each run
+  pub events : ℕ
+
 -- a run that goes on from a snapshot
 pub record ResumeWords : Type 0 where
   pub saved : List ℕ
@@ -73,7 +87,7 @@ pub record ResumeWords : Type 0 where
   -- where the disk is saved after the report, if it is
   pub save : Option (List ℕ)
 
--- a command of the top call. `live`, `snap`, `resume` and `show` have calls of their own
+-- a command of the top call. `live`, `snap`, `sweep`, `resume` and `show` have calls of their own
 pub data Command : Type 0 where
   Flat : (file wanted : List ℕ) → (events : ℕ) → Command
   -- the generated guest, which calls its kernel so many times
@@ -177,6 +191,57 @@ snap_words image policy disk out (Some script) (Some events) = Ok (record { run 
 abbrev pub snap_of : SnapSplit → Result SnapWords Refusal
 snap_of w = snap_words w.image w.policy w.disk w.out (source_of w.script) (number_within 0 max_events w.events)
 
+-- ---- sweep IMAGE POLICY DISK SCHEDULE FIRST COUNT EVENTS
+
+abbrev pub drawn_order_of : List ℕ → Option DrawnOrder
+drawn_order_of word =
+    if bytes_eq word (codes "auto") then Some drawn.Auto else if bytes_eq word (codes "bursts") then Some drawn.Bursts else None
+
+abbrev pub max_sweep_runs : ℕ
+max_sweep_runs = 1000000
+
+-- the most numbers from the first on that are below 2^64, at most a million
+abbrev pub most_runs : (first : ℕ) → ℕ
+most_runs first = if nat_lt (2 ^ 64 - 1 - first) max_sweep_runs then 2 ^ 64 - 1 - first + 1 else max_sweep_runs
+
+unfoldable pub sweep_with : SweepSplit → DrawnOrder → (first : ℕ) → Option ℕ → Option ℕ → Result SweepWords Refusal
+sweep_with w order first None events = Err (OutOfRange Word.Count)
+sweep_with w order first (Some count) None = Err (OutOfRange Word.Events)
+sweep_with w order first (Some count) (Some events) = Ok (record {
+  image = w.image;
+  policy = w.policy;
+  disk = unless_none w.disk;
+  order = order;
+  first = first;
+  count = count;
+  events = events;
+})
+
+unfoldable pub sweep_words : SweepSplit → Option DrawnOrder → Option ℕ → Result SweepWords Refusal
+sweep_words w None first = Err (OutOfRange Word.Schedule)
+sweep_words w (Some order) None = Err (OutOfRange Word.First)
+sweep_words w (Some order) (Some first) = sweep_with w order first (number_within 1 (most_runs first) w.count) (number_within 0 max_events w.events)
+
+abbrev pub sweep_of : SweepSplit → Result SweepWords Refusal
+sweep_of w = sweep_words w (drawn_order_of w.schedule) (number_within 0 (2 ^ 64 - 1) w.first)
+
+-- where a number's events come from
+abbrev pub drawn_source : DrawnOrder → (number : ℕ) → Source
+drawn_source drawn.Auto number = Auto number
+drawn_source drawn.Bursts number = Bursts number
+
+-- the run of the first number
+abbrev pub first_run : SweepWords → RunWords
+first_run w = record {
+  kind = DiskKind.Block;
+  image = w.image;
+  policy = w.policy;
+  disk = w.disk;
+  script = drawn_source w.order w.first;
+  events = w.events;
+  save = None;
+}
+
 -- ---- resume SNAPSHOT POLICY SCRIPT EVENTS SAVE
 
 unfoldable pub resume_words : (saved policy save : List ℕ) → Option Source → Option ℕ → Result ResumeWords Refusal
@@ -244,6 +309,10 @@ abbrev pub snap_after : CommandName → List (List ℕ) → Result SnapWords Ref
 snap_after command.Snap rest = split_judged snap_of (snap_split rest)
 snap_after _ rest = Err NoCommand
 
+abbrev pub sweep_after : CommandName → List (List ℕ) → Result SweepWords Refusal
+sweep_after command.Sweep rest = split_judged sweep_of (sweep_split rest)
+sweep_after _ rest = Err NoCommand
+
 abbrev pub resume_after : CommandName → List (List ℕ) → Result ResumeWords Refusal
 resume_after command.Resume rest = split_judged resume_of (resume_split rest)
 resume_after _ rest = Err NoCommand
@@ -268,6 +337,9 @@ live_judged words = named_judged live_after (named_words words)
 
 unfoldable pub snap_judged : List (List ℕ) → Result SnapWords Refusal
 snap_judged words = named_judged snap_after (named_words words)
+
+unfoldable pub sweep_judged : List (List ℕ) → Result SweepWords Refusal
+sweep_judged words = named_judged sweep_after (named_words words)
 
 unfoldable pub resume_judged : List (List ℕ) → Result ResumeWords Refusal
 resume_judged words = named_judged resume_after (named_words words)

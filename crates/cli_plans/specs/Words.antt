@@ -1,5 +1,5 @@
 -- What judging and reading the words answers.
-use Rattle.std.specs.Prelude.{◌≡◌, ◌≤◌, IsTrue, map, Result, Ok, Err}
+use Rattle.std.specs.Prelude.{◌≡◌, ◌≤◌, ◌+◌, ◌^◌, IsTrue, map, Result, Ok, Err}
 use Rattle.cli_words.specs.Values.{convert_split_of}
 use Rattle.std.specs.Option.{option_copied}
 use Rattle.std.specs.Result.{is_ok}
@@ -18,11 +18,12 @@ use Rattle.cli_plans.specs.declared.words.Run.{Run as AskedRun}
 use Rattle.cli_plans.specs.declared.words.Terms.{Terms as AskedTerms}
 use Rattle.cli_plans.specs.declared.words.Live.{Live}
 use Rattle.cli_plans.specs.declared.words.Snap.{Snap}
+use Rattle.cli_plans.specs.declared.words.Sweep.{Sweep}
 use Rattle.cli_plans.specs.declared.words.Resume.{Resume}
 use Rattle.cli_plans.specs.declared.asking.Unread.{Unread}
 use Rattle.cli_plans.specs.declared.asking.Unread.TheVariants.{Refused, Memory}
 use Rattle.cli_plans.specs.declared.words.MakePolicy.{MakePolicy as AskedPolicy}
-use Rattle.cli_plans.specs.CommandLine.{Command, Flat, Generated, Run, RunWords, LiveWords, SnapWords, ResumeWords, max_live_events, MakePolicy, PolicyWords, Convert, Source, Rounds, Auto, Bursts, Text}
+use Rattle.cli_plans.specs.CommandLine.{Command, Flat, Generated, Run, RunWords, LiveWords, SnapWords, SweepWords, ResumeWords, max_live_events, MakePolicy, PolicyWords, Convert, Source, Rounds, Auto, Bursts, Text}
 
 -- where the events come from, by value
 abbrev pub source_value : Named → Source
@@ -47,6 +48,17 @@ live_value live = record { run = run_value live.run; out = live.out.now }
 
 abbrev pub snap_value : Snap → SnapWords
 snap_value snap = record { run = run_value snap.run; out = snap.out.now }
+
+abbrev pub sweep_value : Sweep → SweepWords
+sweep_value sweep = record {
+  image = sweep.image.now;
+  policy = sweep.policy.now;
+  disk = option_copied sweep.disk;
+  order = sweep.order;
+  first = sweep.first;
+  count = sweep.count;
+  events = sweep.events;
+}
 
 abbrev pub resume_value : Resume → ResumeWords
 resume_value resume = record {
@@ -103,6 +115,10 @@ IsInRange (asked.Convert convert) = Unit {0}
 -- a run whose events are drawn after 0, few enough that keys may be among them
 abbrev pub IsDrawnRun : Live → Type 0
 IsDrawnRun live = (live.run.events ≤ max_live_events) × (source_value live.run.script ≡ Auto 0)
+
+-- all numbers are below 2^64
+abbrev pub AreNumbers : Sweep → Type 0
+AreNumbers sweep = (sweep.first + sweep.count ≤ 2 ^ 64) × (sweep.events ≤ max_events)
 
 abbrev pub IsBlockRun : Snap → Type 0
 IsBlockRun snap = (snap.run.kind ≡ DiskKind.Block) × (snap.run.events ≤ max_events)

@@ -2,23 +2,23 @@
 ghost use Rattle.std.specs.Prelude.{◌≡◌, ◌≤◌, IfOk, Ok, false, map, string_bytes};
 ghost use Rattle.std.specs.List.{list_any};
 ghost use Rattle.sv_types.specs.Limits.{max_events};
-ghost use Rattle.cli_words.specs.Commands.{has_dash, flat_split, gen_split, run_split, live_split, snap_split, resume_split, show_split, measure_split, convert_split};
-ghost use Rattle.cli_plans.specs.CommandLine.{Convert, split_judged, flat_judged, gen_judged, run_judged, live_of, snap_of, resume_of, making_judged, command_after, live_after, snap_after, resume_after, show_after, judgement_of_words, live_judged, snap_judged, resume_judged, show_judged};
-ghost use Rattle.cli_plans.specs.Words.{IsAsked, IsInRange, IsDrawnRun, IsBlockRun, command_of, live_value, snap_value, resume_value};
+ghost use Rattle.cli_words.specs.Commands.{has_dash, flat_split, gen_split, run_split, live_split, snap_split, sweep_split, resume_split, show_split, measure_split, convert_split};
+ghost use Rattle.cli_plans.specs.CommandLine.{Convert, split_judged, flat_judged, gen_judged, run_judged, live_of, snap_of, sweep_of, resume_of, making_judged, command_after, live_after, snap_after, sweep_after, resume_after, show_after, judgement_of_words, live_judged, snap_judged, sweep_judged, resume_judged, show_judged};
+ghost use Rattle.cli_plans.specs.Words.{IsAsked, IsInRange, IsDrawnRun, IsBlockRun, AreNumbers, command_of, live_value, snap_value, sweep_value, resume_value};
 ghost use Rattle.cli_plans.specs.declared.asking.Unread.TheVariants.{Refused, Memory};
 
 use crate::judgement::{
     judge_convert, judge_flat, judge_generated, judge_live, judge_measure, judge_resume, judge_run,
-    judge_show, judge_snap,
+    judge_show, judge_snap, judge_sweep,
 };
 use crate::refusal::Refusal;
 use crate::words::{
-    Command, Live, Resume, Snap, read_flat, read_generated, read_live, read_measure, read_resume,
-    read_run, read_snap,
+    Command, Live, Resume, Snap, Sweep, read_flat, read_generated, read_live, read_measure,
+    read_resume, read_run, read_snap, read_sweep,
 };
 use cli_words::{
     CommandName, DiskKind, named, split_convert, split_flat, split_generated, split_live,
-    split_measure, split_resume, split_run, split_show, split_snap,
+    split_measure, split_resume, split_run, split_show, split_snap, split_sweep,
 };
 use std::alloc::{AllocError, Global};
 
@@ -73,9 +73,11 @@ fn ask_after<'a>(
         CommandName::Run(kind) => ask_run(alloc, kind, rest),
         CommandName::Measure => ask_measure(alloc, rest),
         CommandName::Convert => ask_convert(alloc, rest),
-        CommandName::Live | CommandName::Snap | CommandName::Resume | CommandName::Show => {
-            Err(Unread::Refused(Refusal::NoCommand))
-        }
+        CommandName::Live
+        | CommandName::Snap
+        | CommandName::Sweep
+        | CommandName::Resume
+        | CommandName::Show => Err(Unread::Refused(Refusal::NoCommand)),
     }
 }
 
@@ -192,6 +194,36 @@ fn snap_after<'a>(
     judge_snap(rest)?;
     let words = split_snap(alloc, rest)?;
     Ok(read_snap(&words)?)
+}
+
+/// What words ask `sweep` for.
+#[tactic(auto, unfolding(crate::specs::CommandLine::sweep_judged))]
+pub fn ask_sweep<'a>(alloc: Global, words: &'a [String]) -> Result<Sweep<'a>, Unread>
+    ensures asked { IsAsked sweep_value (sweep_judged (map string_bytes words.now)) result }
+    ensures numbers { IfOk result AreNumbers }
+{
+    match named(words) {
+        Some(naming) => sweep_after(alloc, naming.command, naming.rest),
+        None => Err(Unread::Refused(Refusal::NoCommand)),
+    }
+}
+
+#[tactic(auto, using(crate::proofs::WordLemmas::split_is_some))]
+fn sweep_after<'a>(
+    alloc: Global,
+    command: CommandName,
+    rest: &'a [String],
+) -> Result<Sweep<'a>, Unread>
+    requires plain { list_any has_dash (map string_bytes rest.now) ≡ false }
+    ensures asked { IsAsked sweep_value (sweep_after command (map string_bytes rest.now)) result }
+    ensures numbers { IfOk result AreNumbers }
+{
+    let CommandName::Sweep = command else {
+        return Err(Unread::Refused(Refusal::NoCommand));
+    };
+    judge_sweep(rest)?;
+    let words = split_sweep(alloc, rest)?;
+    Ok(read_sweep(&words)?)
 }
 
 /// What words ask `resume` for.

@@ -1,15 +1,16 @@
 // The judgement of the words after a command's name by their places, from left to right, which takes no memory.
 ghost use Rattle.std.specs.Prelude.{Ok, map, string_bytes};
-ghost use Rattle.cli_words.specs.Commands.{flat_split, gen_split, run_split, live_split, snap_split, resume_split, show_split, measure_split, convert_split};
-ghost use Rattle.cli_plans.specs.CommandLine.{Convert, split_judged, flat_judged, gen_judged, run_judged, live_of, snap_of, resume_of, making_judged};
+ghost use Rattle.cli_words.specs.Commands.{flat_split, gen_split, run_split, live_split, snap_split, sweep_split, resume_split, show_split, measure_split, convert_split};
+ghost use Rattle.cli_plans.specs.CommandLine.{Convert, split_judged, flat_judged, gen_judged, run_judged, live_of, snap_of, sweep_of, resume_of, making_judged};
 ghost use Rattle.cli_plans.specs.Words.{IsJudged};
 
 use crate::refusal::{Refusal, Word};
 use crate::words::{
-    read_flat, read_generated, read_live, read_resume, read_run, read_snap, read_terms,
+    read_flat, read_generated, read_live, read_resume, read_run, read_snap, read_sweep, read_terms,
 };
 use cli_words::{
-    CommandName, DiskKind, FlatWords, LiveWords, ResumeWords, RunWords, SnapWords, named,
+    CommandName, DiskKind, FlatWords, LiveWords, ResumeWords, RunWords, SnapWords, SweepWords,
+    named,
 };
 use policy_making::are_module_names;
 
@@ -24,6 +25,7 @@ pub fn judge(words: &[String]) -> Result<(), Refusal> {
         CommandName::Run(kind) => judge_run(kind, naming.rest),
         CommandName::Live => judge_live(naming.rest),
         CommandName::Snap => judge_snap(naming.rest),
+        CommandName::Sweep => judge_sweep(naming.rest),
         CommandName::Resume => judge_resume(naming.rest),
         CommandName::Show => judge_show(naming.rest),
         CommandName::Measure => judge_measure(naming.rest),
@@ -148,6 +150,27 @@ pub fn judge_snap(rest: &[String]) -> Result<(), Refusal>
                 script: script.as_str(),
                 events: events.as_str(),
                 out: out.as_str(),
+            })?;
+            Ok(())
+        }
+        _ => Err(Refusal::NoCommand),
+    }
+}
+
+#[tactic(auto, using(crate::proofs::WordLemmas::not_sweep))]
+pub fn judge_sweep(rest: &[String]) -> Result<(), Refusal>
+    ensures { IsJudged (split_judged sweep_of (sweep_split (map string_bytes rest.now))) result }
+{
+    match rest {
+        [image, policy, disk, schedule, first, count, events] => {
+            read_sweep(&SweepWords {
+                image: image.as_str(),
+                policy: policy.as_str(),
+                disk: disk.as_str(),
+                schedule: schedule.as_str(),
+                first: first.as_str(),
+                count: count.as_str(),
+                events: events.as_str(),
             })?;
             Ok(())
         }

@@ -7,9 +7,11 @@ mod judgement;
 mod refusal;
 mod words;
 
-pub use asking::{Unread, ask, ask_live, ask_resume, ask_show, ask_snap};
+pub use asking::{Unread, ask, ask_live, ask_resume, ask_show, ask_snap, ask_sweep};
 pub use cli_words::DiskKind;
 pub use file_fault::{FileFault, Part};
 pub use judgement::judge;
 pub use refusal::{Refusal, Word};
-pub use words::{Command, Flat, Live, MakePolicy, Resume, Run, Snap, Source, Terms};
+pub use words::{
+    Command, DrawnOrder, Flat, Live, MakePolicy, Resume, Run, Snap, Source, Sweep, Terms,
+};

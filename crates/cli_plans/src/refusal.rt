@@ -14,6 +14,9 @@ use text_numbers::{address_text, digest_text};
 pub enum Word {
     Measure,
     Script,
+    Schedule,
+    First,
+    Count,
     Events,
     Calls,
     Ram,
@@ -48,6 +51,9 @@ impl Word {
         match self {
             Word::Measure => "MEASURE",
             Word::Script => "SCRIPT",
+            Word::Schedule => "SCHEDULE",
+            Word::First => "FIRST",
+            Word::Count => "COUNT",
             Word::Events => "EVENTS",
             Word::Calls => "N",
             Word::Ram => "RAM",
@@ -66,6 +72,9 @@ impl Word {
         match self {
             Word::Measure => "usage MEASURE\n",
             Word::Script => "usage SCRIPT\n",
+            Word::Schedule => "usage SCHEDULE\n",
+            Word::First => "usage FIRST\n",
+            Word::Count => "usage COUNT\n",
             Word::Events => "usage EVENTS\n",
             Word::Calls => "usage N\n",
             Word::Ram => "usage RAM\n",

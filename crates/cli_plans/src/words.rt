@@ -1,18 +1,19 @@
 // What the words of a command ask for.
-ghost use Rattle.std.specs.Prelude.{◌≡◌, ◌≤◌, option_map, IfOk, IsTrue};
+ghost use Rattle.std.specs.Prelude.{◌≡◌, ◌≤◌, ◌+◌, ◌^◌, option_map, IfOk, IsTrue};
 ghost use Rattle.std.specs.Option.{option_copied};
 ghost use Rattle.sv_types.specs.Numbers.{number_within};
 ghost use Rattle.sv_types.specs.Limits.{max_events, max_harts, min_ram_pages};
 ghost use Rattle.spec_processor.specs.Regions.{max_ram_pages};
 ghost use Rattle.policy_making.specs.WordRanges.{entries_of, are_module_names};
 ghost use Rattle.cli_words.specs.declared.command.DiskKind.{DiskKind};
-ghost use Rattle.cli_words.specs.Values.{flat_split_of, run_split_of, live_split_of, snap_split_of, resume_split_of, measure_split_of};
-ghost use Rattle.cli_plans.specs.CommandLine.{flat_judged, gen_judged, run_judged, run_of, block_run, live_of, snap_of, resume_of, unless_none, source_of, auto_of, bursts_of, making_judged, terms_judged, terms_with, init_of};
-ghost use Rattle.cli_plans.specs.Words.{IsRead, IsInRange, IsDrawnRun, IsBlockRun, command_of, source_value, run_value, live_value, snap_value, resume_value, terms_value};
+ghost use Rattle.cli_words.specs.Values.{flat_split_of, run_split_of, live_split_of, snap_split_of, sweep_split_of, resume_split_of, measure_split_of};
+ghost use Rattle.cli_plans.specs.CommandLine.{flat_judged, gen_judged, run_judged, run_of, block_run, live_of, snap_of, sweep_of, sweep_with, drawn_order_of, most_runs, resume_of, unless_none, source_of, auto_of, bursts_of, making_judged, terms_judged, terms_with, init_of};
+ghost use Rattle.cli_plans.specs.Words.{IsRead, IsInRange, IsDrawnRun, IsBlockRun, AreNumbers, command_of, source_value, run_value, live_value, snap_value, sweep_value, resume_value, terms_value};
 
 use crate::refusal::{Refusal, Word};
 use cli_words::{
     ConvertWords, DiskKind, FlatWords, LiveWords, MeasureWords, ResumeWords, RunWords, SnapWords,
+    SweepWords,
 };
 use guest_gen::MAX_CALLS;
 use live_keys::MAX_KEYS;
@@ -23,6 +24,9 @@ use text_numbers::{digest_of, number_within};
 
 /// The most events of a live run, so that with every key they are no more than a run may have.
 const MAX_LIVE_EVENTS: u64 = MAX_EVENTS - MAX_KEYS;
+
+/// The most runs of a sweep.
+const MAX_SWEEP_RUNS: u64 = 1_000_000;
 
 /// What the words of the top call ask for.
 #[derive(Drop)]
@@ -71,6 +75,29 @@ pub struct Live<'a> {
 pub struct Snap<'a> {
     pub run: Run<'a>,
     pub out: &'a str,
+}
+
+/// `sweep IMAGE POLICY DISK SCHEDULE FIRST COUNT EVENTS`: the files' names, how each number draws the order of its run, the
+/// numbers, and the most events of a run.
+#[derive(Drop)]
+pub struct Sweep<'a> {
+    pub image: &'a str,
+    pub policy: &'a str,
+    /// None for an empty disk.
+    pub disk: Option<&'a str>,
+    pub order: DrawnOrder,
+    pub first: u64,
+    pub count: u64,
+    pub events: u64,
+}
+
+/// How each number draws the events of its run.
+#[derive(Clone, Copy, Debug, PartialEq, Eq, Drop)]
+pub enum DrawnOrder {
+    /// Each event by itself.
+    Auto,
+    /// In bursts of one hart.
+    Bursts,
 }
 
 /// `resume SNAPSHOT POLICY SCRIPT EVENTS SAVE`: the files' names, where the events of the whole run come from, and their
@@ -244,6 +271,73 @@ fn block_run<'a>(
         script,
         events,
         save: None,
+    }
+}
+
+/// The words of `sweep`.
+#[tactic(auto, unfolding(crate::specs::CommandLine::sweep_words))]
+pub fn read_sweep<'a>(words: &SweepWords<'a>) -> Result<Sweep<'a>, Refusal>
+    ensures read { IsRead sweep_value (sweep_of (sweep_split_of words.now)) result }
+    ensures numbers { IfOk result AreNumbers }
+{
+    let Some(order) = drawn_order_of(words.schedule) else {
+        return Err(Refusal::OutOfRange {
+            word: Word::Schedule,
+        });
+    };
+    let Some(first) = number_within(words.first.as_bytes(), 0, u64::MAX) else {
+        return Err(Refusal::OutOfRange { word: Word::First });
+    };
+    sweep_from(words, order, first)
+}
+
+// The words of `sweep` from the first number on.
+#[tactic(auto, unfolding(crate::specs::CommandLine::sweep_with))]
+fn sweep_from<'a>(
+    words: &SweepWords<'a>,
+    order: DrawnOrder,
+    first: u64,
+) -> Result<Sweep<'a>, Refusal>
+    ensures read { IsRead sweep_value (sweep_with (sweep_split_of words.now) order first (number_within 1 (most_runs first) words.now.count.now) (number_within 0 max_events words.now.events.now)) result }
+    ensures numbers { IfOk result AreNumbers }
+{
+    let Some(count) = number_within(words.count.as_bytes(), 1, most_runs(first)) else {
+        return Err(Refusal::OutOfRange { word: Word::Count });
+    };
+    let Some(events) = number_within(words.events.as_bytes(), 0, MAX_EVENTS) else {
+        return Err(Refusal::OutOfRange { word: Word::Events });
+    };
+    Ok(Sweep {
+        image: words.image,
+        policy: words.policy,
+        disk: unless_none(words.disk),
+        order,
+        first,
+        count,
+        events,
+    })
+}
+
+// The most numbers from the first on.
+fn most_runs(first: u64) -> u64
+    ensures most { result ≡ most_runs first }
+    ensures within { first + result ≤ 2 ^ 64 }
+{
+    let after = u64::MAX - first;
+    if after < MAX_SWEEP_RUNS {
+        after + 1
+    } else {
+        MAX_SWEEP_RUNS
+    }
+}
+
+fn drawn_order_of(word: &str) -> Option<DrawnOrder>
+    ensures { result ≡ drawn_order_of word.now }
+{
+    match word {
+        "auto" => Some(DrawnOrder::Auto),
+        "bursts" => Some(DrawnOrder::Bursts),
+        _ => None,
     }
 }
 

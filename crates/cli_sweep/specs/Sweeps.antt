@@ -9,8 +9,8 @@ use Rattle.run_tally.specs.Tallies.{tallies_of}
 use Rattle.machine_trials.specs.declared.order.Order.{Order}
 use Rattle.machine_trials.specs.declared.order.Order.TheVariants as by
 use Rattle.machine_trials.specs.Trials.{outcome_in}
-use Rattle.cli_sweep.specs.declared.sweeping.DrawnOrder.{DrawnOrder}
-use Rattle.cli_sweep.specs.declared.sweeping.DrawnOrder.TheVariants.{Auto, Bursts}
+use Rattle.cli_plans.specs.declared.words.DrawnOrder.{DrawnOrder}
+use Rattle.cli_plans.specs.declared.words.DrawnOrder.TheVariants.{Auto, Bursts}
 use Rattle.cli_sweep.specs.declared.sweeping.Sweep.{Sweep}
 
 -- the disk has whole sectors, and the events are few enough

@@ -1,9 +1,12 @@
-//! The runs of many numbers, on all processors at once: how each ends, counted.
+//! The command `sweep`: the runs of many numbers, on all processors at once, and how each ends, counted.
 #![tactic(auto)]
 
+mod answer;
 mod numbers;
+mod parts;
 mod progress;
 mod sweeping;
 
+pub use answer::secvisor_sweep;
 pub use progress::{Progress, Quiet};
-pub use sweeping::{DrawnOrder, Sweep, sweep_numbers};
+pub use sweeping::{Sweep, sweep_numbers};

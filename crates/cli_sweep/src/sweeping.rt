@@ -7,20 +7,12 @@ ghost use Rattle.cli_sweep.specs.Sweeps as spec;
 
 use crate::numbers::{numbers_each, numbers_from};
 use crate::progress::Progress;
+use cli_plans::DrawnOrder;
 use machine_trials::{NoOutcome, Order, RunFiles, try_order};
 use run_tally::{Outcome, Tallies, tally_runs};
 use std::alloc::Global;
 use std::thread;
 use std::thread::Threads;
-
-/// How each number draws the events of its run.
-#[derive(Clone, Copy, Debug, PartialEq, Eq, Drop)]
-pub enum DrawnOrder {
-    /// Each event by itself.
-    Auto,
-    /// In bursts of one hart.
-    Bursts,
-}
 
 /// What all runs of a sweep have in common.
 #[derive(Clone, Copy, Drop)]

@@ -12,8 +12,8 @@ use Rattle.clap.proofs.WalkLemmas.{both}
 use Rattle.cli_words.specs.declared.command.DiskKind.{DiskKind}
 use Rattle.cli_words.specs.declared.table.CommandName.{CommandName}
 use Rattle.cli_words.specs.declared.table.CommandName.TheVariants as command
-use Rattle.cli_words.specs.Commands.{flat_split, gen_split, run_split, live_split, snap_split, resume_split, show_split, measure_split, convert_split, has_dash}
-use Rattle.cli_words.specs.Parsing.{Finds, HasWords, IsKnown, Want, app_of_wants, bare_app, rule_of_want, flat_wants, gen_wants, run_wants, live_wants, snap_wants, resume_wants, show_wants, measure_wants, convert_wants, wants_of, flat_found, gen_found, run_found, live_found, snap_found, resume_found, show_found, measure_found, convert_found}
+use Rattle.cli_words.specs.Commands.{flat_split, gen_split, run_split, live_split, snap_split, sweep_split, resume_split, show_split, measure_split, convert_split, has_dash}
+use Rattle.cli_words.specs.Parsing.{Finds, HasWords, IsKnown, Want, app_of_wants, bare_app, rule_of_want, flat_wants, gen_wants, run_wants, live_wants, snap_wants, sweep_wants, resume_wants, show_wants, measure_wants, convert_wants, wants_of, flat_found, gen_found, run_found, live_found, snap_found, sweep_found, resume_found, show_found, measure_found, convert_found}
 use Rattle.cli_words.proofs.PlainWords.{IsOn, NoneTrails, walk_after, placed_pass, pass_is, walk_is}
 
 -- ---- the words of any command
@@ -115,6 +115,9 @@ live_is = record { simple = refl; shape = refl; bare = refl; trails = refl }
 snap_is : IsAlone snap_wants (shape_of_wants snap_wants)
 snap_is = record { simple = refl; shape = refl; bare = refl; trails = refl }
 
+sweep_is : IsAlone sweep_wants (shape_of_wants sweep_wants)
+sweep_is = record { simple = refl; shape = refl; bare = refl; trails = refl }
+
 resume_is : IsAlone resume_wants (shape_of_wants resume_wants)
 resume_is = record { simple = refl; shape = refl; bare = refl; trails = refl }
 
@@ -153,6 +156,11 @@ snap_read : (words : List Text) → is_some (snap_split words) ≡ true → list
     → IsRead snap_wants snap_found words (snap_split words)
 snap_read (a ∷ b ∷ c ∷ d ∷ e ∷ f ∷ []) known plain = read_by _ _ snap_is _ _ _ plain refl (refl, (refl, (refl, (refl, (refl, (refl, tt)))))) refl
 snap_read _ known plain = absurd (true≢false (sym known))
+
+sweep_read : (words : List Text) → is_some (sweep_split words) ≡ true → list_any has_dash words ≡ false
+    → IsRead sweep_wants sweep_found words (sweep_split words)
+sweep_read (a ∷ b ∷ c ∷ d ∷ e ∷ f ∷ g ∷ []) known plain = read_by _ _ sweep_is _ _ _ plain refl (refl, (refl, (refl, (refl, (refl, (refl, (refl, tt))))))) refl
+sweep_read _ known plain = absurd (true≢false (sym known))
 
 resume_read : (words : List Text) → is_some (resume_split words) ≡ true → list_any has_dash words ≡ false
     → IsRead resume_wants resume_found words (resume_split words)
@@ -245,6 +253,8 @@ words_read command.Live words known plain =
     let it = live_read words known plain in record { taken = it.taken; has = it.has; finds = λ rows e. it.is rows _ e refl }
 words_read command.Snap words known plain =
     let it = snap_read words known plain in record { taken = it.taken; has = it.has; finds = λ rows e. it.is rows _ e refl }
+words_read command.Sweep words known plain =
+    let it = sweep_read words known plain in record { taken = it.taken; has = it.has; finds = λ rows e. it.is rows _ e refl }
 words_read command.Resume words known plain =
     let it = resume_read words known plain in record { taken = it.taken; has = it.has; finds = λ rows e. it.is rows _ e refl }
 words_read command.Show words known plain =

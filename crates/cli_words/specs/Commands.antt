@@ -40,6 +40,16 @@ pub record SnapSplit : Type 0 where
   pub events : List ℕ
   pub out : List ℕ
 
+-- sweep IMAGE POLICY DISK SCHEDULE FIRST COUNT EVENTS
+pub record SweepSplit : Type 0 where
+  pub image : List ℕ
+  pub policy : List ℕ
+  pub disk : List ℕ
+  pub schedule : List ℕ
+  pub first : List ℕ
+  pub count : List ℕ
+  pub events : List ℕ
+
 -- resume SNAPSHOT POLICY SCRIPT EVENTS SAVE
 pub record ResumeSplit : Type 0 where
   pub saved : List ℕ
@@ -76,6 +86,7 @@ name_of name =
     else if bytes_eq name (codes "live") then Some command.Live
     else if bytes_eq name (codes "snap") then Some command.Snap
     else if bytes_eq name (codes "resume") then Some command.Resume
+    else if bytes_eq name (codes "sweep") then Some command.Sweep
     else if bytes_eq name (codes "show") then Some command.Show
     else if bytes_eq name (codes "measure") then Some command.Measure
     else if bytes_eq name (codes "convert") then Some command.Convert
@@ -112,6 +123,18 @@ abbrev pub snap_split : List (List ℕ) → Option SnapSplit
 snap_split (image ∷ policy ∷ disk ∷ script ∷ events ∷ out ∷ []) =
     Some (record { image = image; policy = policy; disk = disk; script = script; events = events; out = out })
 snap_split _ = None
+
+abbrev pub sweep_split : List (List ℕ) → Option SweepSplit
+sweep_split (image ∷ policy ∷ disk ∷ schedule ∷ first ∷ count ∷ events ∷ []) = Some (record {
+  image = image;
+  policy = policy;
+  disk = disk;
+  schedule = schedule;
+  first = first;
+  count = count;
+  events = events;
+})
+sweep_split _ = None
 
 abbrev pub resume_split : List (List ℕ) → Option ResumeSplit
 resume_split (saved ∷ policy ∷ script ∷ events ∷ save ∷ []) =

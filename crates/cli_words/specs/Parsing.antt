@@ -8,7 +8,7 @@ use Rattle.cli_words.specs.declared.table.CommandName.{CommandName}
 use Rattle.cli_words.specs.declared.table.CommandName.TheVariants as command
 use Rattle.cli_words.specs.declared.table.Argument.{Argument}
 use Rattle.cli_words.specs.declared.table.Argument.TheVariants as argument
-use Rattle.cli_words.specs.Commands.{FlatSplit, RunSplit, LiveSplit, SnapSplit, ResumeSplit, MeasureSplit, ConvertSplit, flat_split, gen_split, run_split, live_split, snap_split, resume_split, show_split, measure_split, convert_split}
+use Rattle.cli_words.specs.Commands.{FlatSplit, RunSplit, LiveSplit, SnapSplit, SweepSplit, ResumeSplit, MeasureSplit, ConvertSplit, flat_split, gen_split, run_split, live_split, snap_split, sweep_split, resume_split, show_split, measure_split, convert_split}
 
 -- what a command has under a name
 pub data Want : Type 0 where
@@ -36,6 +36,10 @@ live_wants = One (codes "IMAGE") ∷ One (codes "POLICY") ∷ One (codes "DISK")
 abbrev pub snap_wants : List Want
 snap_wants = One (codes "IMAGE") ∷ One (codes "POLICY") ∷ One (codes "DISK") ∷ One (codes "SCRIPT") ∷ One (codes "EVENTS") ∷ One (codes "OUT") ∷ []
 
+abbrev pub sweep_wants : List Want
+sweep_wants =
+    One (codes "IMAGE") ∷ One (codes "POLICY") ∷ One (codes "DISK") ∷ One (codes "SCHEDULE") ∷ One (codes "FIRST") ∷ One (codes "COUNT") ∷ One (codes "EVENTS") ∷ []
+
 abbrev pub resume_wants : List Want
 resume_wants = One (codes "SNAPSHOT") ∷ One (codes "POLICY") ∷ One (codes "SCRIPT") ∷ One (codes "EVENTS") ∷ One (codes "SAVE") ∷ []
 
@@ -55,6 +59,7 @@ wants_of command.Generated = gen_wants
 wants_of (command.Run kind) = run_wants
 wants_of command.Live = live_wants
 wants_of command.Snap = snap_wants
+wants_of command.Sweep = sweep_wants
 wants_of command.Resume = resume_wants
 wants_of command.Show = show_wants
 wants_of command.Measure = measure_wants
@@ -127,6 +132,17 @@ snap_found rows = record {
   out = word_of (codes "OUT") rows;
 }
 
+abbrev pub sweep_found : List Row → SweepSplit
+sweep_found rows = record {
+  image = word_of (codes "IMAGE") rows;
+  policy = word_of (codes "POLICY") rows;
+  disk = word_of (codes "DISK") rows;
+  schedule = word_of (codes "SCHEDULE") rows;
+  first = word_of (codes "FIRST") rows;
+  count = word_of (codes "COUNT") rows;
+  events = word_of (codes "EVENTS") rows;
+}
+
 abbrev pub resume_found : List Row → ResumeSplit
 resume_found rows = record {
   saved = word_of (codes "SNAPSHOT") rows;
@@ -167,6 +183,7 @@ IsKnown command.Generated words = IsTrue (is_some (gen_split words))
 IsKnown (command.Run kind) words = IsTrue (is_some (run_split kind words))
 IsKnown command.Live words = IsTrue (is_some (live_split words))
 IsKnown command.Snap words = IsTrue (is_some (snap_split words))
+IsKnown command.Sweep words = IsTrue (is_some (sweep_split words))
 IsKnown command.Resume words = IsTrue (is_some (resume_split words))
 IsKnown command.Show words = IsTrue (is_some (show_split words))
 IsKnown command.Measure words = IsTrue (is_some (measure_split words))
@@ -179,6 +196,7 @@ Finds command.Generated words rows = gen_split words ≡ Some (gen_found rows)
 Finds (command.Run kind) words rows = run_split kind words ≡ Some (run_found kind rows)
 Finds command.Live words rows = live_split words ≡ Some (live_found rows)
 Finds command.Snap words rows = snap_split words ≡ Some (snap_found rows)
+Finds command.Sweep words rows = sweep_split words ≡ Some (sweep_found rows)
 Finds command.Resume words rows = resume_split words ≡ Some (resume_found rows)
 Finds command.Show words rows = show_split words ≡ Some (show_found rows)
 Finds command.Measure words rows = measure_split words ≡ Some (measure_found rows)

@@ -1,11 +1,12 @@
 -- What the words of a command are, by value.
 use Rattle.std.specs.Prelude.{map, string_bytes}
-use Rattle.cli_words.specs.Commands.{Named, FlatSplit, RunSplit, LiveSplit, SnapSplit, ResumeSplit, MeasureSplit, ConvertSplit}
+use Rattle.cli_words.specs.Commands.{Named, FlatSplit, RunSplit, LiveSplit, SnapSplit, SweepSplit, ResumeSplit, MeasureSplit, ConvertSplit}
 use Rattle.cli_words.specs.declared.naming.Naming.{Naming}
 use Rattle.cli_words.specs.declared.command.FlatWords.{FlatWords}
 use Rattle.cli_words.specs.declared.command.RunWords.{RunWords}
 use Rattle.cli_words.specs.declared.command.LiveWords.{LiveWords}
 use Rattle.cli_words.specs.declared.command.SnapWords.{SnapWords}
+use Rattle.cli_words.specs.declared.command.SweepWords.{SweepWords}
 use Rattle.cli_words.specs.declared.command.ResumeWords.{ResumeWords}
 use Rattle.cli_words.specs.declared.command.MeasureWords.{MeasureWords}
 use Rattle.cli_words.specs.declared.command.ConvertWords.{ConvertWords}
@@ -41,6 +42,17 @@ snap_split_of w = record {
   script = w.script.now;
   events = w.events.now;
   out = w.out.now;
+}
+
+abbrev pub sweep_split_of : SweepWords → SweepSplit
+sweep_split_of w = record {
+  image = w.image.now;
+  policy = w.policy.now;
+  disk = w.disk.now;
+  schedule = w.schedule.now;
+  first = w.first.now;
+  count = w.count.now;
+  events = w.events.now;
 }
 
 abbrev pub resume_split_of : ResumeWords → ResumeSplit

@@ -50,6 +50,18 @@ pub struct SnapWords<'a> {
     pub out: &'a str,
 }
 
+/// `sweep IMAGE POLICY DISK SCHEDULE FIRST COUNT EVENTS`
+#[derive(Drop)]
+pub struct SweepWords<'a> {
+    pub image: &'a str,
+    pub policy: &'a str,
+    pub disk: &'a str,
+    pub schedule: &'a str,
+    pub first: &'a str,
+    pub count: &'a str,
+    pub events: &'a str,
+}
+
 /// `resume SNAPSHOT POLICY SCRIPT EVENTS SAVE`
 #[derive(Drop)]
 pub struct ResumeWords<'a> {

@@ -1,11 +1,12 @@
 // What `clap` found under the names of a command's words.
 ghost use Rattle.std.specs.Prelude.{◌≡◌, IfOk, IsTrue, is_some, map};
 ghost use Rattle.clap.specs.Words.{found_of, first_of, rows_of};
-ghost use Rattle.cli_words.specs.Parsing.{HasWords, word_of, flat_wants, gen_wants, run_wants, live_wants, snap_wants, resume_wants, show_wants, measure_wants, convert_wants, flat_found, gen_found, run_found, live_found, snap_found, resume_found, show_found, measure_found, modules_found, convert_found};
-ghost use Rattle.cli_words.specs.Values.{flat_split_of, run_split_of, live_split_of, snap_split_of, resume_split_of, measure_split_of, convert_split_of};
+ghost use Rattle.cli_words.specs.Parsing.{HasWords, word_of, flat_wants, gen_wants, run_wants, live_wants, snap_wants, sweep_wants, resume_wants, show_wants, measure_wants, convert_wants, flat_found, gen_found, run_found, live_found, snap_found, sweep_found, resume_found, show_found, measure_found, modules_found, convert_found};
+ghost use Rattle.cli_words.specs.Values.{flat_split_of, run_split_of, live_split_of, snap_split_of, sweep_split_of, resume_split_of, measure_split_of, convert_split_of};
 
 use crate::command::{
     ConvertWords, DiskKind, FlatWords, LiveWords, MeasureWords, ResumeWords, RunWords, SnapWords,
+    SweepWords,
 };
 use clap::ArgMatches;
 use std::alloc::{AllocError, Global};
@@ -67,6 +68,21 @@ pub fn snap<'a>(matches: &ArgMatches<'a>) -> SnapWords<'a>
         script: word(matches, "SCRIPT"),
         events: word(matches, "EVENTS"),
         out: word(matches, "OUT"),
+    }
+}
+
+pub fn sweep<'a>(matches: &ArgMatches<'a>) -> SweepWords<'a>
+    requires { HasWords sweep_wants (rows_of (found_of matches.now)) }
+    ensures { sweep_split_of result ≡ sweep_found (rows_of (found_of matches.now)) }
+{
+    SweepWords {
+        image: word(matches, "IMAGE"),
+        policy: word(matches, "POLICY"),
+        disk: word(matches, "DISK"),
+        schedule: word(matches, "SCHEDULE"),
+        first: word(matches, "FIRST"),
+        count: word(matches, "COUNT"),
+        events: word(matches, "EVENTS"),
     }
 }
 

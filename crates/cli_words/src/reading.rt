@@ -4,12 +4,13 @@ ghost use Rattle.std.specs.Prelude.{◌≡◌, IfOk, IsTrue, Some, false, map, s
 ghost use Rattle.std.specs.List.{list_any};
 ghost use Rattle.std.specs.Option.{is_some};
 ghost use Rattle.clap.specs.Words.{found_of, rows_of};
-ghost use Rattle.cli_words.specs.Commands.{has_dash, flat_split, gen_split, run_split, live_split, snap_split, resume_split, show_split, measure_split, convert_split};
+ghost use Rattle.cli_words.specs.Commands.{has_dash, flat_split, gen_split, run_split, live_split, snap_split, sweep_split, resume_split, show_split, measure_split, convert_split};
 ghost use Rattle.cli_words.specs.Parsing.{Finds, HasWords, IsKnown, wants_of};
-ghost use Rattle.cli_words.specs.Values.{flat_split_of, run_split_of, live_split_of, snap_split_of, resume_split_of, measure_split_of, convert_split_of};
+ghost use Rattle.cli_words.specs.Values.{flat_split_of, run_split_of, live_split_of, snap_split_of, sweep_split_of, resume_split_of, measure_split_of, convert_split_of};
 
 use crate::command::{
     ConvertWords, DiskKind, FlatWords, LiveWords, MeasureWords, ResumeWords, RunWords, SnapWords,
+    SweepWords,
 };
 use crate::commands::read;
 use crate::found;
@@ -83,6 +84,16 @@ pub fn split_snap<'a>(alloc: Global, words: &'a [String]) -> Result<SnapWords<'a
 {
     let matches = find(alloc, CommandName::Snap, words)?;
     Ok(found::snap(&matches))
+}
+
+/// `sweep IMAGE POLICY DISK SCHEDULE FIRST COUNT EVENTS`
+pub fn split_sweep<'a>(alloc: Global, words: &'a [String]) -> Result<SweepWords<'a>, AllocError>
+    requires known { IsTrue (is_some (sweep_split (map string_bytes words.now))) }
+    requires plain { list_any has_dash (map string_bytes words.now) ≡ false }
+    ensures { IfOk result (λ found. sweep_split (map string_bytes words.entry.now) ≡ Some (sweep_split_of found)) }
+{
+    let matches = find(alloc, CommandName::Sweep, words)?;
+    Ok(found::sweep(&matches))
 }
 
 /// `resume SNAPSHOT POLICY SCRIPT EVENTS SAVE`

@@ -14,6 +14,7 @@ pub enum CommandName {
     Run(DiskKind),
     Live,
     Snap,
+    Sweep,
     Resume,
     Show,
     Measure,
@@ -50,6 +51,8 @@ const LIVE_NAME: &str = "live";
 
 const SNAP_NAME: &str = "snap";
 
+const SWEEP_NAME: &str = "sweep";
+
 const RESUME_NAME: &str = "resume";
 
 const SHOW_NAME: &str = "show";
@@ -59,7 +62,7 @@ const MEASURE_NAME: &str = "measure";
 const CONVERT_NAME: &str = "convert";
 
 /// All commands, in the order in which they are explained.
-pub static COMMANDS: [CommandRow; 10] = [
+pub static COMMANDS: [CommandRow; 11] = [
     CommandRow {
         name: MEASURE_NAME,
         command: CommandName::Measure,
@@ -96,6 +99,11 @@ pub static COMMANDS: [CommandRow; 10] = [
         about: "goes on from a snapshot with the same script, up to EVENTS of the whole run",
     },
     CommandRow {
+        name: SWEEP_NAME,
+        command: CommandName::Sweep,
+        about: "runs a kernel once for each of COUNT drawn orders, from FIRST on, and counts how the runs\n      end",
+    },
+    CommandRow {
         name: FLAT_NAME,
         command: CommandName::Flat,
         about: "runs 1 to 16 plain pages, all of them approved",
@@ -120,7 +128,7 @@ pub struct WordRow {
 }
 
 /// The names of all commands' words.
-pub static WORDS: [WordRow; 18] = [
+pub static WORDS: [WordRow; 21] = [
     WordRow {
         name: "OUT",
         permitted: "the name that a file is saved under",
@@ -152,6 +160,18 @@ pub static WORDS: [WordRow; 18] = [
     WordRow {
         name: "SCRIPT",
         permitted: "a script of events, none for the harts in turn, auto:K or bursts:K for a drawn order",
+    },
+    WordRow {
+        name: "SCHEDULE",
+        permitted: "auto or bursts: how a number draws the order of a run",
+    },
+    WordRow {
+        name: "FIRST",
+        permitted: "the first number, 0 to 18446744073709551615",
+    },
+    WordRow {
+        name: "COUNT",
+        permitted: "how many numbers, 1 to 1000000, the last at most 18446744073709551615",
     },
     WordRow {
         name: "EVENTS",
@@ -229,6 +249,16 @@ static SNAP: [Argument<'static>; 6] = [
     Argument::One("OUT"),
 ];
 
+static SWEEP: [Argument<'static>; 7] = [
+    Argument::One("IMAGE"),
+    Argument::One("POLICY"),
+    Argument::One("DISK"),
+    Argument::One("SCHEDULE"),
+    Argument::One("FIRST"),
+    Argument::One("COUNT"),
+    Argument::One("EVENTS"),
+];
+
 static RESUME: [Argument<'static>; 5] = [
     Argument::One("SNAPSHOT"),
     Argument::One("POLICY"),
@@ -265,6 +295,7 @@ pub fn arguments_of(command: CommandName) -> &'static [Argument<'static>]
         CommandName::Run(_) => &RUN,
         CommandName::Live => &LIVE,
         CommandName::Snap => &SNAP,
+        CommandName::Sweep => &SWEEP,
         CommandName::Resume => &RESUME,
         CommandName::Show => &SHOW,
         CommandName::Measure => &MEASURE,
@@ -284,6 +315,7 @@ pub fn command_of_name(name: &str) -> Option<CommandName>
         LIVE_NAME => Some(CommandName::Live),
         SNAP_NAME => Some(CommandName::Snap),
         RESUME_NAME => Some(CommandName::Resume),
+        SWEEP_NAME => Some(CommandName::Sweep),
         SHOW_NAME => Some(CommandName::Show),
         MEASURE_NAME => Some(CommandName::Measure),
         CONVERT_NAME => Some(CommandName::Convert),

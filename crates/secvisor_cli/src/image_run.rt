@@ -89,8 +89,8 @@ fn boot_file<'a, R: Threads + Sync, F: Files>(
     })
 }
 
-// A machine with a disk of such a kind.
-fn boot_with<R: Threads + Sync>(
+/// A machine with a disk of such a kind.
+pub fn boot_with<R: Threads + Sync>(
     rt: &R,
     alloc: Global,
     kind: DiskKind,
@@ -125,7 +125,8 @@ pub fn read_policy<F: Files>(alloc: Global, name: &str, files: &mut F) -> Result
     judge_policy(alloc, &text)
 }
 
-fn judge_policy(alloc: Global, text: &[u8]) -> Result<Policy, Stop>
+/// The policy of a text.
+pub fn judge_policy(alloc: Global, text: &[u8]) -> Result<Policy, Stop>
     ensures policy { IsPolicy (rules_of_text text.now) result }
     ensures within { IfOk result (λ p. IsTrue (rules_within (rules_of p))) }
 {
@@ -141,11 +142,7 @@ fn judge_policy(alloc: Global, text: &[u8]) -> Result<Policy, Stop>
 // ---- the image
 
 /// The image of a kernel's file.
-pub(crate) fn judge_kernel(
-    alloc: Global,
-    file: &[u8],
-    ram_pages: u32,
-) -> Result<KernelImage<'_>, Stop>
+pub fn judge_kernel(alloc: Global, file: &[u8], ram_pages: u32) -> Result<KernelImage<'_>, Stop>
     ensures { IsKernel file.now ram_pages result }
 {
     match read_kernel(alloc, file, ram_pages) {
@@ -159,7 +156,12 @@ pub(crate) fn judge_kernel(
 
 // ---- the disk
 
-fn read_disk<F: Files>(alloc: Global, name: Option<&str>, files: &mut F) -> Result<Vec<u8>, Stop>
+/// The disk of a name, which is judged; an empty one where there is no name.
+pub fn read_disk<F: Files>(
+    alloc: Global,
+    name: Option<&str>,
+    files: &mut F,
+) -> Result<Vec<u8>, Stop>
     requires permitted { MayStage (disk_part (option_copied name)) (F.state files.old) }
     requires reads { CanCount (F.state files.old).read_faults }
     ensures stage { Staged (disk_part (option_copied name.entry)) (λ disk. disk.items) (F.state files.old) (F.state files.new) result }

@@ -1,5 +1,5 @@
 use Rattle.std.proofs.Common.{refl, sym, ◌∙◌}
-use Rattle.cli_dispatch.specs.declared.choice.TopCall.TheVariants.{Live, Resume, Others}
+use Rattle.cli_dispatch.specs.declared.choice.TopCall.TheVariants.{Live, Sweep, Resume, Others}
 use Rattle.cli_dispatch.proofs.Owing.{owed_of}
 use Rattle.cli_dispatch.proofs.call.answer.Goals as goal
 
@@ -13,6 +13,16 @@ returns-in-Live-clause-owed g c = owed_of Live _ _ _ _ _ (sym c.in-Live.is ∙ c
       unasked = c.secvisor_live.ensures.unasked;
       held = c.secvisor_live.ensures.held;
       unsaved = c.secvisor_live.ensures.unsaved;
+    })
+
+pub returns-in-Sweep-clause-owed : goal.returns-in-Sweep-clause-owed
+returns-in-Sweep-clause-owed g c = owed_of Sweep _ _ _ _ _ (sym c.in-Sweep.is ∙ c.top_call_of.ensures)
+    (record {
+      headline = c.secvisor_sweep.ensures.headline;
+      unread = c.secvisor_sweep.ensures.unread;
+      unsaved = c.secvisor_sweep.ensures.same;
+      keys = refl;
+      bench = refl;
     })
 
 pub returns-in-Resume-clause-owed : goal.returns-in-Resume-clause-owed
