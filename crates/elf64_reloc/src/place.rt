@@ -19,8 +19,8 @@ use std::alloc::{AllocError, Global};
 use sv_types::Export;
 
 /// Where an object is refused by `read_module`, for a person: its section, and of a relocation the offset in it, the kind's
-/// name and number, and the symbol's name. None where it isn't refused, or for something else. Fails where memory is
-/// wanting.
+/// name and number, and the symbol's name. None where it isn't refused, or for something else. Fails where it is out
+/// of memory.
 pub fn refused_place(
     alloc: Global,
     bytes: &[u8],

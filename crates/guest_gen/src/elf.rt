@@ -126,8 +126,8 @@ pub fn laid_out(alloc: Global, text: &[u8], body: &[u8]) -> Result<Vec<u8>, Allo
     Ok(file)
 }
 
-/// The file of a kernel with this text, with which it begins, and this body in two pages after. Fails where memory is
-/// wanting.
+/// The file of a kernel with this text, with which it begins, and this body in two pages after. Fails where it is out
+/// of memory.
 pub fn image(alloc: Global, text: &[Instr], body: &[u8]) -> Result<Vec<u8>, AllocError>
     requires instructions { IsTrue (list_all fits text.now) }
     requires text { 4 * length text.now ≤ page_size }

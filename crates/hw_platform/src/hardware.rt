@@ -71,7 +71,7 @@ impl Hardware {
         )
     }
 
-    /// Up to so many turns of a hart, each of which carries out an instruction, and one behind them in which it leaves the
+    /// Up to so many turns of a hart, each of which carries out an instruction, and one after them in which it leaves the
     /// guest. The attempts of all are counted.
     #[inline(always)]
     pub fn batch(&mut self, hart: u8, most: u64) -> Batch

@@ -1,4 +1,4 @@
--- What was saved of a state has a spelling.
+-- What was saved of a state has a form as bytes.
 use Rattle.std.proofs.Common.{◌≡◌, ℕ, ◌*◌, ◌≤◌, List, [], length, refl, sym, ◌∙◌, ap, subst, true, ◌&&◌, arith}
 use Rattle.std.specs.Prelude.{◌==◌, nat_le, IsTrue}
 use Rattle.std.proofs.lemmas.Bool.{eq-eqb}

@@ -1,4 +1,4 @@
--- The counts, the notes and the verdict of a state have a spelling.
+-- The counts, the notes and the verdict of a state have a form as bytes.
 use Rattle.std.proofs.Common.{◌≡◌, ℕ, ◌<◌, ◌≤◌, List, [], ◌∷◌, ◌++◌, length, min, refl, true, arith}
 use Rattle.std.specs.Prelude.{◌==◌, nat_lt, nat_le}
 use Rattle.std.specs.List.{list_all}

@@ -1,4 +1,4 @@
--- The pages, the text and the modules that were saved of a state have a spelling.
+-- The pages, the text and the modules that were saved of a state have a form as bytes.
 use Rattle.std.proofs.Common.{◌≡◌, ℕ, zero, suc, ◌+◌, ◌%◌, ◌<◌, ◌≤◌, List, [], ◌∷◌, ◌++◌, length, map, refl, ◌∙◌, ap, subst, Bool, true, false, not, ◌&&◌, ◌||◌, arith, slice_get}
 use Rattle.std.specs.Prelude.{Option, Some, None, option_map, ◌==◌, nat_lt, nat_le, IsTrue}
 use Rattle.std.specs.List.{list_all}

@@ -20,7 +20,7 @@ abbrev pub OnlyPcsMove : State → State → Type 0
 OnlyPcsMove r next = (h : ℕ) (before after : Hart) → slice_get r.harts h ≡ Some before → slice_get next.harts h ≡ Some after →
     after ≡ record before { pc = after.pc }
 
--- and beside the harts nothing but the verdict
+-- and besides the harts nothing but the verdict
 pub record ChangesOnlyPcs (r next : State) : Type 0 where
   pub harts : OnlyPcsMove r next
   pub rest : record next { harts = r.harts; journal = record next.journal { verdict = r.journal.verdict } } ≡ r

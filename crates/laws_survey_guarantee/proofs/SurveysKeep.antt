@@ -1,4 +1,4 @@
--- What each machine that runs keeps beside its soundness, over a pass and in a survey.
+-- What each machine that runs keeps besides its soundness, over a pass and in a survey.
 use Rattle.std.proofs.Common.{◌≡◌, ℕ, List, [], ◌∷◌, refl, sym, ◌∙◌, ap, subst, slice_get, slice_set, false, inl, inr}
 use Rattle.std.specs.Prelude.{Option, Some, None, ◌==◌}
 use Rattle.std.proofs.lemmas.Bool.{eqb-true, cases_Bool}

@@ -15,3 +15,4 @@ pub mod Reservations
 pub mod Standing
 pub mod DrawnBatches
 pub mod ConsoleLemmas
+pub mod Passes

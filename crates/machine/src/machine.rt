@@ -11,6 +11,8 @@ ghost use Rattle.spec_reference.specs.States.{State};
 ghost use Rattle.spec_hardware.specs.HardwareEvent.{IsEvent};
 ghost use Rattle.spec_hardware.specs.Reaches.{Cleared};
 ghost use Rattle.spec_hardware.specs.StandsFor.{StandsFor};
+ghost use Rattle.laws_survey.specs.HwPassing.{hw_passed_over};
+ghost use Rattle.laws_survey.specs.Passing.{passed_over};
 ghost use Rattle.machine.specs.Limits.{max_counts};
 ghost use Rattle.machine.specs.Repeats.{Made, MadeInBatch, Makes, MayMake, Repeats};
 ghost use Rattle.hw_platform.specs.Batches.{AreFree};
@@ -217,6 +219,16 @@ impl Machine {
     {
         let _counts = self.system.counts();
         self.system.clear_printed();
+    }
+
+    /// Where a write stopped the machine its hart goes on at the next instruction, and the machine runs: no byte, register,
+    /// reservation or count changes but the pc. Any other machine stays as it is.
+    #[inline(never)]
+    pub fn pass_over(&mut self)
+        ensures stands { (r : State) → StandsFor self.old r → StandsFor self.new (passed_over r) }
+        ensures passed { self.new ≡ hw_passed_over self.old }
+    {
+        self.system.pass_over();
     }
 
     /// The bytes of the disk.

@@ -2,3 +2,4 @@ pub mod Batches
 pub mod BeatsFollow
 mod Seen
 pub mod Turns
+pub mod Passings

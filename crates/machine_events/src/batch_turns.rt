@@ -1,4 +1,4 @@
-// Turns of one hart in a row, each of which carries out an instruction, and the answer to the exit behind them.
+// Turns of one hart in a row, each of which carries out an instruction, and the answer to the exit after them.
 
 ghost use Rattle.std.specs.Prelude.{◌≡◌, ◌%◌, ◌+◌, ◌-◌, ◌≤◌, ◌<◌, ◌^◌, true, length};
 ghost use Rattle.spec_processor.specs.Counters.{CanCount};

@@ -2,6 +2,7 @@
 #![tactic(auto)]
 
 mod batch_turns;
+mod passing;
 mod system;
 
 pub use system::System;

@@ -137,6 +137,13 @@ impl Journal {
         };
     }
 
+    /// The machine runs, whatever had stopped it.
+    pub fn run_on(&mut self)
+        ensures { self.new ≡ machine_ended Running self.old }
+    {
+        self.verdict = Verdict::Running;
+    }
+
     /// A hart has its turn.
     pub fn count_turn(&mut self)
         requires { CanCount self.old.counts.turns }

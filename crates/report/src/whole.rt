@@ -23,7 +23,7 @@ fn end_lines(alloc: Global, verdict: Verdict, counts: &Counts) -> Result<String,
     Ok(text)
 }
 
-/// The report behind the console's bytes: a line feed, a line for each note, and the lines of the counts and of the
+/// The report after the console's bytes: a line feed, a line for each note, and the lines of the counts and of the
 /// verdict.
 pub fn report(
     alloc: Global,

@@ -18,7 +18,7 @@ unfoldable pub found_in : (limit : ℕ) → Option (List ℕ) → Found
 found_in limit None = Missing
 found_in limit (Some bytes) = if nat_le (length bytes) limit then Held bytes else Longer
 
--- what is due at a plan's end in files whose names hold this, where no read fails and memory isn't wanting
+-- what is due at a plan's end in files whose names hold this, where no read fails and there is memory enough
 abbrev pub due_in : (held : List ℕ → Option (List ℕ)) → Plan → Due
 due_in held (End due) = due
 due_in held (Read name limit next) = due_in held (next (found_in limit (held name)))

@@ -37,7 +37,7 @@ use std::alloc::Global;
 use std::thread::Threads;
 use sv_types::Status;
 
-/// What a run leaves behind: the machine, where one was booted.
+/// What a run leaves: the machine, where one was booted.
 #[derive(Drop)]
 pub struct Bench {
     pub machine: Option<Machine>,

@@ -6,7 +6,7 @@ use Rattle.spec_processor.specs.Bytes.{word, in_ram}
 use Rattle.sv_types.specs.declared.virtio.VirtioDescriptor.{VirtioDescriptor}
 use Rattle.sv_types.specs.declared.virtio.VirtioPart.{VirtioPart}
 
--- what a descriptor has behind its address, and the places of its flags
+-- what a descriptor has after its address, and the places of its flags
 abbrev pub descriptor_size : ℕ
 descriptor_size = 16
 
