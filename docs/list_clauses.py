@@ -3,7 +3,8 @@
 
   list_clauses.py CRATE ..   each public function of the crates: its first sentence, and the names of its clauses
   list_clauses.py --laws     theorems, by the first sentence of their docstrings, as docs/PROVED.md has them
-  list_clauses.py --write    writes these into docs/PROVED.md
+  list_clauses.py --steps    the laws that docs/PROVED.md leaves out, since they are steps of these
+  list_clauses.py --write    writes the theorems into docs/PROVED.md
   list_clauses.py --check    compares them with docs/PROVED.md, and whether each clause that the page names in brackets after
                              a crate is one of that crate's; status 1 where something differs"""
 import functools
@@ -15,6 +16,20 @@ TOP = pathlib.Path(__file__).resolve().parent.parent
 PAGE = TOP / 'docs/PROVED.md'
 BEGIN, END = '<!-- made by docs/list_clauses.py --write -->', '<!-- up to here -->'
 CLAUSE = re.compile(r'^\s*(?:ensures|requires)(?: (\w+))? \{', re.M)
+# Crates whose laws are lemmas on keys, caches and answers.
+LEMMAS = re.compile(r'monitor_|live_keys|gstage_')
+# Laws that are steps of listed ones, or that a listed contract says too.
+STEPS = set("""
+    law_protected law_ended law_runs law_frame law_guest_view
+    law_attempts law_walks_inside
+    law_quiet law_exit law_again law_tables law_clear
+    law_harts law_hart_in law_no_entry law_order law_loaded law_loading law_flat_start law_image_start law_virtio_start
+    law_resumed law_alike law_keeps law_keepable law_saved_form law_counted law_kind
+    law_resumed_start law_boot_digests law_snap_accepted law_snap_read law_snap_continues
+    law_starts law_measured law_guaranteed law_snap_and_resume
+    law_moves_on law_pass_sound law_surveyed law_hw_pass law_passes_on law_row
+    law_plain_texts law_bound_within_limits law_bound_in_text law_exports_of_names law_block law_counts
+    """.split())
 
 
 def crates():
@@ -61,14 +76,18 @@ def first_sentence(doc):
     return re.split(r'(?<=\.) (?=[A-Z])', doc)[0]
 
 
+def laws(crate):
+    return [(name, doc) for name, doc, _ in functions(crate) if name.startswith('law_')]
+
+
 def theorems():
-    """The lines of the page: a crate's name, then its laws; lemmas on keys, caches and answers are left out."""
-    for crate in filter(re.compile(r'(?!monitor_|live_keys|gstage_)').match, crates()):
-        laws = [(name, doc) for name, doc, _ in functions(crate) if name.startswith('law_')]
-        if laws:
+    """The lines of the page: a crate's name, then its laws."""
+    for crate in crates():
+        listed = [] if LEMMAS.match(crate) else [(name, doc) for name, doc in laws(crate) if name not in STEPS]
+        if listed:
             yield f'**`{crate}`**'
             yield ''
-            for name, doc in laws:
+            for name, doc in listed:
                 yield f'- `{name}`: {first_sentence(doc)}'
             yield ''
 
@@ -96,6 +115,11 @@ def wrong_clauses(page):
 def main(words):
     if words == ['--laws']:
         print('\n'.join(theorems()))
+    elif words == ['--steps']:
+        for crate in crates():
+            for name, doc in laws(crate):
+                if LEMMAS.match(crate) or name in STEPS:
+                    print(f'{crate}::{name}: {first_sentence(doc)}')
     elif words == ['--write']:
         before, _, after = parts(PAGE.read_text())
         PAGE.write_text('\n'.join(before + list(theorems()) + after) + '\n')
