@@ -2,8 +2,9 @@
 """Lists what contracts say.
 
   list_clauses.py CRATE ..   each public function of the crates: its first sentence, and the names of its clauses
-  list_clauses.py --laws     theorems, by the first sentence of their docstrings, as docs/PROVED.md has them
-  list_clauses.py --steps    the laws that docs/PROVED.md leaves out, since they are steps of these
+  list_clauses.py --laws     theorems, by the first sentence of their docstrings, as docs/PROVED.md has them: all but those that
+                             README.md names, and steps
+  list_clauses.py --steps    the laws that are only steps of others
   list_clauses.py --write    writes the theorems into docs/PROVED.md
   list_clauses.py --check    compares them with docs/PROVED.md, and whether each clause that the page names in brackets after
                              a crate is one of that crate's; status 1 where something differs"""
@@ -14,11 +15,12 @@ import sys
 
 TOP = pathlib.Path(__file__).resolve().parent.parent
 PAGE = TOP / 'docs/PROVED.md'
+README = TOP / 'README.md'
 BEGIN, END = '<!-- made by docs/list_clauses.py --write -->', '<!-- up to here -->'
 CLAUSE = re.compile(r'^\s*(?:ensures|requires)(?: (\w+))? \{', re.M)
 # Crates whose laws are lemmas on keys, caches and answers.
 LEMMAS = re.compile(r'monitor_|live_keys|gstage_')
-# Laws that are steps of listed ones, or that a listed contract says too.
+# Laws that are steps of others, or that a listed contract says too.
 STEPS = set("""
     law_protected law_ended law_runs law_frame law_guest_view
     law_attempts law_walks_inside
@@ -82,8 +84,9 @@ def laws(crate):
 
 def theorems():
     """The lines of the page: a crate's name, then its laws."""
+    left_out = STEPS | set(re.findall(r'`(law_\w+)`', README.read_text()))
     for crate in crates():
-        listed = [] if LEMMAS.match(crate) else [(name, doc) for name, doc in laws(crate) if name not in STEPS]
+        listed = [] if LEMMAS.match(crate) else [(name, doc) for name, doc in laws(crate) if name not in left_out]
         if listed:
             yield f'**`{crate}`**'
             yield ''
@@ -127,7 +130,7 @@ def main(words):
         page = PAGE.read_text()
         wrong = list(wrong_clauses(page))
         if parts(page)[1] != list(theorems()):
-            wrong.append('docs/PROVED.md: the theorems differ from the docstrings; --write makes them anew')
+            wrong.append('docs/PROVED.md: the theorems differ from the docstrings or README; --write makes them anew')
         print('\n'.join(wrong), end='\n' if wrong else '')
         return 1 if wrong else 0
     else:
