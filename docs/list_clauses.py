@@ -20,7 +20,7 @@ BEGIN, END = '<!-- made by docs/list_clauses.py --write -->', '<!-- up to here -
 CLAUSE = re.compile(r'^\s*(?:ensures|requires)(?: (\w+))? \{', re.M)
 # Crates whose laws are lemmas on keys, caches and answers.
 LEMMAS = re.compile(r'monitor_|live_keys|gstage_')
-# Laws that are steps of others, or that a listed contract says too.
+# Laws that are steps of others, that a listed contract says too, or that say of another command what a listed one says.
 STEPS = set("""
     law_protected law_ended law_runs law_frame law_guest_view
     law_attempts law_walks_inside
@@ -31,6 +31,7 @@ STEPS = set("""
     law_starts law_measured law_guaranteed law_snap_and_resume
     law_moves_on law_pass_sound law_surveyed law_hw_pass law_passes_on law_row
     law_plain_texts law_bound_within_limits law_bound_in_text law_exports_of_names law_block law_counts
+    law_live_ends law_snap_ends law_resume_ends law_show_ends
     """.split())
 
 
