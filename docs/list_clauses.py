@@ -31,6 +31,7 @@ STEPS = set("""
     law_starts law_measured law_guaranteed law_snap_and_resume
     law_moves_on law_pass_sound law_surveyed law_hw_pass law_passes_on law_row
     law_plain_texts law_bound_within_limits law_bound_in_text law_exports_of_names law_block law_counts
+    law_reaches law_saved_resumes law_saved_accepted law_resumed_goes_on law_snap_file
     law_live_ends law_snap_ends law_resume_ends law_show_ends
     """.split())
 
