@@ -17,7 +17,7 @@ ghost use Rattle.module_gate.specs.Parts.{with_modules, loading_of};
 use crate::decisions::load_decision;
 use crate::gate::Gate;
 use crate::load::Load;
-use crate::modules::{Modules, PendingLoad, put_load};
+use crate::modules::Modules;
 use host_mem::HostMem;
 use spec_processor::page_of;
 use spec_reference::{Answer, pages_of};
@@ -68,16 +68,15 @@ pub fn load_turn(mem: &HostMem, policy: &Policy, modules: &mut Modules) -> Optio
     ensures kept { OnSome result (modules.new ≡ modules.old) }
     ensures joined { AreJoined (rules_of policy.now) modules.new }
 {
-    let Some(PendingLoad { hart, mut load }) = modules.loading.take() else {
-        return None;
-    };
-    if load.left() == 0 {
-        let answer = load_decision(load.is_good(&modules.gate, policy), load.about());
-        put_load(modules, hart, load);
-        Some(answer)
-    } else {
-        count_page(&mut load, &mut modules.gate, mem, policy);
-        put_load(modules, hart, load);
-        None
+    match &mut modules.loading {
+        None => None,
+        Some(pending) if pending.load.left() == 0 => {
+            let good = pending.load.is_good(&modules.gate, policy);
+            Some(load_decision(good, pending.load.about()))
+        }
+        Some(pending) => {
+            count_page(&mut pending.load, &mut modules.gate, mem, policy);
+            None
+        }
     }
 }
