@@ -15,20 +15,21 @@ ghost use Rattle.gstage_tables.specs.Written.{Wrote};
 ghost use Rattle.gstage_tables.specs.Protecting.{MayProtect, Protects};
 ghost use Rattle.spec_processor.specs.Translation.{entry_size};
 
+mod bound;
 mod fill;
 mod words;
 
+use crate::bound::BoundPages;
 use crate::fill::{entry_at, fill_roots, put, put_counted};
 use crate::words::{
     BLOCK_PAGES, ROOT_PAGES, ROOT_WORDS, TABLE_WORDS, leaf_table, leaf_tables, mapping, pointer,
     up_to_blocks,
 };
-use arrayvec::ArrayVec;
 use host_mem::{HostMem, Steps};
 use spec_processor::{PAGE_SIZE, ROOT_MODE_SHIFT, ROOT_PAGE_BITS, SV39X4};
 use std::marker::{Brand, Model};
 use std::sync::ledger::{Blank, Ledger};
-use sv_types::{MAX_ENTRIES, Protection, View};
+use sv_types::{Protection, View};
 
 /// The blocks of a gigabyte: one for each word of a level-1 table.
 const MAX_BLOCKS: usize = TABLE_WORDS as usize;
@@ -71,7 +72,7 @@ pub fn view_hgatp(view: View) -> u64
 #[derive(Drop)]
 pub struct Trees {
     ram_pages: u64,
-    bound: ArrayVec<u32, MAX_ENTRIES>,
+    bound: BoundPages,
     counts: [u16; MAX_BLOCKS],
 }
 
@@ -85,9 +86,9 @@ impl Model for Trees {
     ghost use Rattle.gstage_tables.specs.Blocks.{table_words};
     ghost use Rattle.gstage_tables.specs.Layout.{max_bound};
 
-    ghost view = { λ t. record { ram_pages = t.ram_pages; bound = t.bound.items; counts = t.counts } };
+    ghost view = { λ t. record { ram_pages = t.ram_pages; bound = t.bound; counts = t.counts } };
 
-    ghost invariant = { λ t. (t.ram_pages ≤ max_ram_pages) × ((length t.bound.items ≤ max_bound) × (length t.counts ≡ table_words)) };
+    ghost invariant = { λ t. (t.ram_pages ≤ max_ram_pages) × ((length t.bound ≤ max_bound) × (length t.counts ≡ table_words)) };
 }
 
 impl Trees {
@@ -129,13 +130,9 @@ impl Trees {
         ensures bound { result.bound ≡ bound.now }
         ensures counts { result.counts ≡ replicate table_words 0 }
     {
-        let mut pages = ArrayVec::new();
-        let Ok(()) = pages.try_extend_from_slice(bound) else {
-            unreachable!()
-        };
         Trees {
             ram_pages,
-            bound: pages,
+            bound: BoundPages::new(bound),
             counts: none_taken(),
         }
     }
@@ -193,7 +190,7 @@ impl Trees {
         ensures value { result ≡ tree_count (length self.now.bound) }
         ensures few { result ≤ max_trees }
     {
-        FIRST_ENTRY_TREE + self.bound.len() as u64
+        FIRST_ENTRY_TREE + self.bound.as_slice().len() as u64
     }
 
     // The level-0 tables of one tree.
@@ -279,7 +276,7 @@ impl Trees {
         } else if tree == USER_TREE {
             !approved
         } else {
-            approved && page == self.bound[(tree - FIRST_ENTRY_TREE) as usize] as u64
+            approved && page == self.bound.as_slice()[(tree - FIRST_ENTRY_TREE) as usize] as u64
         }
     }
 

@@ -1,15 +1,14 @@
 -- Harts and caches before the first event, and the pages that are approved then.
 use Rattle.std.proofs.Common.{◌≡◌, ℕ, zero, suc, ◌+◌, ◌-◌, ◌≤◌, Bool, true, false, List, [], ◌∷◌, ◌++◌, length, replicate, refl, sym, ◌∙◌, ap, arith, subst, not, drop}
-use Rattle.std.specs.Prelude.{find, is_some, Option, Some, None, IfSome, slice_get}
+use Rattle.std.specs.Prelude.{find, Option, Some, None, IfSome, slice_get}
 use Rattle.std.proofs.lemmas.List.{drop-replicate, replicate_more, length-replicate}
 use Rattle.page_guard.specs.Guarded.{first_taken}
 use Rattle.monitor_exits.specs.HwOfSlots.{hw_at, hw_harts_of}
 use Rattle.monitor_exits.specs.declared.slots.HartSlot.{HartSlot}
 use Rattle.spec_hardware.specs.Machine.{Machine, HwHart}
-use Rattle.module_gate.specs.Conditions.{AreJoined, TakesItsPages}
+use Rattle.module_gate.specs.Conditions.{AreJoined, IsTallied, TakesItsPages}
 use Rattle.module_gate.specs.declared.modules.Modules.{Modules}
 use Rattle.module_gate.specs.declared.modules.PendingLoad.{PendingLoad}
-use Rattle.module_gate.specs.Gates.{Records, no_modules}
 use Rattle.sv_types.specs.Protections.{is_free}
 use Rattle.spec_reference.specs.Protections.{protection_at}
 use Rattle.spec_reference.specs.Start.{block_disk, flat_rules}
@@ -64,9 +63,9 @@ length_empty n caches is = ap (λ (caches : List HartCaches). length caches) is 
 
 -- ---- modules
 
-pub none_joined : (rules : Rules) (modules : Modules) → modules.gate ≡ no_modules → modules.loading ≡ None → AreJoined rules modules
-none_joined rules modules gate loading = record {
-  gate = ap (λ (g : Records). g.loading) gate ∙ ap (λ (u : Option PendingLoad). is_some u) (sym loading);
+pub none_joined : (rules : Rules) (modules : Modules) → modules.loading ≡ None → AreJoined rules modules
+none_joined rules modules loading = record {
+  digests = subst (λ (u : Option PendingLoad). IfSome u (IsTallied modules.gate)) (sym loading) (record {});
   pages = subst (λ (u : Option PendingLoad). IfSome u (TakesItsPages rules)) (sym loading) (record {});
 }
 

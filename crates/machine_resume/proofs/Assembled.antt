@@ -1,5 +1,5 @@
 -- The parts put together.
-use Rattle.std.proofs.Common.{◌≡◌, ℕ, List, [], length, replicate, sym, ◌∙◌, ap, false}
+use Rattle.std.proofs.Common.{◌≡◌, ℕ, List, [], length, replicate, sym, ◌∙◌, ap}
 use Rattle.spec_processor.specs.Regions.{Region}
 use Rattle.sv_types.specs.Policies.{Rules}
 use Rattle.sv_types.specs.declared.protection.Protection.{Protection}
@@ -45,4 +45,4 @@ abbrev pub journal_by : Saved → List Note → Journal
 journal_by m notes = record { printed = []; notes = notes; counts = m.counts; verdict = m.verdict }
 
 abbrev pub gate_by : Saved → List ModulePlacement → Records
-gate_by m modules = record { loaded = modules; loading = false; retired = m.retired }
+gate_by m modules = record { loaded = modules; digests = []; retired = m.retired }

@@ -20,7 +20,7 @@ use Rattle.laws_simulation.proofs.SitesInPages.{below}
 use Rattle.laws_simulation.proofs.LoadsMirrored.{about_is, left_is, kept_next}
 use Rattle.spec_saved_machine.specs.declared.whole.SavedLoad.{SavedLoad}
 use Rattle.page_guard.specs.Guarded.{with_span}
-use Rattle.module_gate.specs.Gates.{PageTurns, new_load, hw_load, is_good_place, load_span, next_counted}
+use Rattle.module_gate.specs.Gates.{PageTurns, Progress, new_load, hw_load, is_good_place, load_span, next_counted, with_digests}
 use Rattle.module_gate.proofs.LoadTurns.{counted_is}
 use Rattle.snapshot_resume.specs.Judgements.{fits, take_pages}
 use Rattle.snapshot_resume.proofs.TakenSpans.{taken_none, taken_span}
@@ -64,8 +64,8 @@ pub record IsNext (rules : Rules) (ram : List ℕ) (old new : PageTurns) : Type 
   pub about : new.about ≡ old.about
 
 pub counted_next : (rules : Rules) (ram : List ℕ) (old new : PageTurns) (bytes : List ℕ) → IsTrue (rules_within rules) → IsCounted rules ram old → 0 < old.left → new.pages ≡ old.pages
-    → bytes ≡ page_bytes ram (page_of old.about.gpa + (old.pages - old.left)) → Counts rules bytes old new → IsNext rules ram old new
-counted_next rules ram old new bytes within counted more pages read counts =
+    → length new.digests + new.left ≡ new.pages → bytes ≡ page_bytes ram (page_of old.about.gpa + (old.pages - old.left)) → Counts rules bytes old new → IsNext rules ram old new
+counted_next rules ram old new bytes within counted more pages tallied read counts =
     let rest : ℕ = old.left - 1 in
     let some : old.left ≡ suc rest = omega (arith, more) in
     let its : Option ModuleRule = slice_get rules.modules old.about.id in
@@ -82,6 +82,7 @@ counted_next rules ram old new bytes within counted more pages read counts =
             ∙ ap (λ (m : ModulePlacement). load_kept rules ram (loading_at hart m new.left)) (sym about);
         pages = ap (λ (m : ModulePlacement). pages_in_rule (slice_get rules.modules m.id)) about ∙ counted.pages ∙ sym pages;
         few = omega (arith, left, pages, some, counted.few);
+        tallied = tallied;
         begins = ap (λ (m : ModulePlacement). ram_offset m.gpa % page_size) about ∙ counted.begins;
         inside = subst (λ (m : ModulePlacement). ram_offset m.gpa + page_size * new.pages ≤ length ram) (sym about)
             (subst (λ (n : ℕ). ram_offset old.about.gpa + page_size * n ≤ length ram) (sym pages) counted.inside);
@@ -99,14 +100,14 @@ none_below (site ∷ sites) =
     ap (λ (b : Bool). if b then site ∷ filter (below 0) sites else filter (below 0) sites) past ∙ none_below sites
 
 kept_begun : (rules : Rules) (ram : List ℕ) (hart pages : ℕ) (about : ModulePlacement) (rule : ModuleRule) → pages ≡ rule.pages
-    → hw_load hart (new_load about pages) ≡ load_kept_by rules ram (loading_at hart about pages) (Some rule)
+    → hw_load hart (with_digests [] (new_load about pages)) ≡ load_kept_by rules ram (loading_at hart about pages) (Some rule)
 unfolding load_kept_by kept_digests kept_answer fields_right
 kept_begun rules ram hart pages about rule same =
     let none : rule.pages - pages ≡ 0 = omega (arith, same) in
     rw (none, none_below) refl
 
 pub begun_counted : (rules : Rules) (ram : List ℕ) (about : ModulePlacement) (load : PageTurns) (rule : ModuleRule) → slice_get rules.modules about.id ≡ Some rule
-    → load ≡ new_load about (pages_in_rule (slice_get rules.modules about.id)) → ram_offset about.gpa % page_size ≡ 0
+    → load ≡ with_digests [] (new_load about (pages_in_rule (slice_get rules.modules about.id))) → ram_offset about.gpa % page_size ≡ 0
     → ram_offset about.gpa + page_size * pages_in_rule (slice_get rules.modules about.id) ≤ length ram → IsCounted rules ram load
 begun_counted rules ram about load rule known is begins inside =
     let pages : ℕ = pages_in_rule (slice_get rules.modules about.id) in
@@ -115,6 +116,7 @@ begun_counted rules ram about load rule known is begins inside =
           ∙ ap (load_kept_by rules ram (loading_at hart about pages)) (sym known);
       pages = refl;
       few = omega arith;
+      tallied = omega arith;
       begins = begins;
       inside = inside;
     })
@@ -158,11 +160,11 @@ good_place rules ram guard load within size free =
     rw (gpa, va, base, end, none) refl
 
 -- the pages that it takes
-pub load_taken : (rules : Rules) (guard after : List Protection) (m : ModulePlacement) (load : PageTurns) → CanTake Held guard (module_pages rules m)
+pub load_taken : (rules : Rules) (guard after : List Protection) (m : ModulePlacement) (load : Progress) → CanTake Held guard (module_pages rules m)
     → load ≡ new_load m (pages_in_rule (slice_get rules.modules m.id)) → after ≡ with_span guard (load_span load) Held → take_pages Held guard (module_pages rules m) ≡ Some after
 load_taken rules guard after m load free is set =
     let n : ℕ = pages_in_rule (slice_get rules.modules m.id) in
-    let all : after ≡ with_pages guard (page_of m.gpa) n Held = set ∙ ap (λ (l : PageTurns). with_span guard (load_span l) Held) is in
+    let all : after ≡ with_pages guard (page_of m.gpa) n Held = set ∙ ap (λ (l : Progress). with_span guard (load_span l) Held) is in
     taken_span Held guard (page_of m.gpa) n (none_busy Held guard (module_pages rules m) free) ∙ ap Some (sym all)
 
 -- ---- the load that goes on
@@ -185,7 +187,7 @@ has_rule rules m fit = let known = rule_of rules m fit in some_has (slice_get ru
 
 -- the load that began, in RAM as it is now
 pub begun_where : (rules : Rules) (ram now : List ℕ) (saved : SavedLoad) (load : PageTurns) → IsWithin rules saved → now ≡ ram → length ram ≡ page_size * rules.ram_pages
-    → load ≡ new_load saved.«module» (pages_in_rule (slice_get rules.modules saved.«module».id)) → IsCounted rules now load
+    → load ≡ with_digests [] (new_load saved.«module» (pages_in_rule (slice_get rules.modules saved.«module».id))) → IsCounted rules now load
 begun_where rules ram now saved load within same size is =
     let m = saved.«module» in
     let known = rule_of rules m within.fits in

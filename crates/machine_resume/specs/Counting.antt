@@ -20,5 +20,6 @@ pub record IsCounted (rules : Rules) (ram : List ℕ) (load : PageTurns) : Type 
   pub kept : (hart : ℕ) → hw_load hart load ≡ load_kept rules ram (record { hart = hart; about = load.about; left = load.left })
   pub pages : pages_in_rule (slice_get rules.modules load.about.id) ≡ load.pages
   pub few : load.left ≤ load.pages
+  pub tallied : length load.digests + load.left ≡ load.pages
   pub begins : ram_offset load.about.gpa % page_size ≡ 0
   pub inside : ram_offset load.about.gpa + page_size * load.pages ≤ length ram

@@ -1,6 +1,6 @@
 // All that goes on of a snapshot.
 
-ghost use Rattle.std.specs.Prelude.{◌≡◌, ◌*◌, ◌≤◌, [], None, IfOk, IsTrue, false, length, map, replicate, true};
+ghost use Rattle.std.specs.Prelude.{◌≡◌, ◌*◌, ◌≤◌, [], None, IfOk, IsTrue, length, map, replicate, true};
 ghost use Rattle.spec_processor.specs.Bytes.{page_size};
 ghost use Rattle.spec_processor.specs.Regions.{max_ram_pages};
 ghost use Rattle.sv_types.specs.Limits.{max_notes};
@@ -102,7 +102,7 @@ fn copied_parts(
     ensures number { IfOk result (λ p. length p.slots.items ≡ length machine.now.harts.items) }
     ensures journal { IfOk result (λ p.
         p.journal ≡ record { printed = []; notes = machine.now.notes.items; counts = machine.now.counts; verdict = machine.now.verdict }) }
-    ensures gate { IfOk result (λ p. p.gate ≡ record { loaded = machine.now.modules.items; loading = false; retired = machine.now.retired }) }
+    ensures gate { IfOk result (λ p. p.gate ≡ record { loaded = machine.now.modules.items; digests = []; retired = machine.now.retired }) }
 {
     let entries = Entries::new(alloc, &policy.entries, &policy.bound)?;
     let slots = slots_of(alloc, &entries, tables, &machine.harts)?;

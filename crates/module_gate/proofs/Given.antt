@@ -128,10 +128,10 @@ module _ (rules : Rules) (ram : List ℕ) (guard : List Protection) (modules : M
     call_may ask (Some Extension.Modules) = module_may ask
     call_may ask _ = tt
 
-  is_counted : (x : Option PendingLoad) (load : HwLoad) → modules.loading ≡ x → option_map load_of x ≡ Some load → load.left ≡ 0 → IsCounted modules load.about
+  is_counted : (x : Option PendingLoad) (load : HwLoad) → modules.loading ≡ x → option_map (load_of modules.gate) x ≡ Some load → load.left ≡ 0 → IsCounted modules load.about
   is_counted None load e there counted = absurd (cc)
   is_counted (Some u) load e there counted =
-      let same : load_of u ≡ load = cc in
+      let same : load_of modules.gate u ≡ load = cc in
       record {
         under_way = u;
         there = e;

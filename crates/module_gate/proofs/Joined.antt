@@ -1,12 +1,12 @@
 -- What holds of the load under way, from what each answer keeps.
-use Rattle.std.proofs.Common.{◌≡◌, List, refl, ◌∙◌, ap, subst, true, false}
+use Rattle.std.proofs.Common.{◌≡◌, List, refl, ap, subst, false}
 use Rattle.std.specs.Prelude.{Option, Some, None, IfSome, is_some, option_map}
 use Rattle.sv_types.specs.Policies.{Rules}
 use Rattle.sv_types.specs.declared.module.Span.{Span}
 use Rattle.sv_types.specs.declared.protection.Protection.{Protection}
 use Rattle.sv_types.specs.declared.protection.Protection.TheVariants.{Held}
 use Rattle.page_guard.specs.Guarded.{AllAre, IsInRam}
-use Rattle.module_gate.specs.Gates.{load_span, module_span, pages_at}
+use Rattle.module_gate.specs.Gates.{Records, load_span, module_span, pages_at}
 use Rattle.module_gate.specs.Conditions.{AreJoined, AreGuarded, IsHeld, MayEnd, TakesItsPages}
 use Rattle.module_gate.specs.Parts.{load_of, loading_of}
 use Rattle.module_gate.specs.declared.modules.Modules.{Modules}
@@ -16,11 +16,8 @@ pub takes_its_pages : (rules : Rules) (modules : Modules) (u : PendingLoad) → 
 takes_its_pages rules modules u joined there = subst (λ (o : Option PendingLoad). IfSome o (TakesItsPages rules)) there joined.pages
 
 pub is_held : (rules : Rules) (guard : List Protection) (modules : Modules) (u : PendingLoad) → AreGuarded rules guard modules.gate.loaded (loading_of modules) → modules.loading ≡ Some u
-    → IsHeld rules guard modules.gate.loaded (load_of u)
-is_held rules guard modules u guarded there = subst (λ (o : Option PendingLoad). IfSome (option_map load_of o) (IsHeld rules guard modules.gate.loaded)) there guarded.load
-
-pub under_way_there : (rules : Rules) (modules : Modules) (u : PendingLoad) → AreJoined rules modules → modules.loading ≡ Some u → modules.gate.loading ≡ true
-under_way_there rules modules u joined there = joined.gate ∙ ap is_some there
+    → IsHeld rules guard modules.gate.loaded (load_of modules.gate u)
+is_held rules guard modules u guarded there = subst (λ (o : Option PendingLoad). IfSome (option_map (load_of modules.gate) o) (IsHeld rules guard modules.gate.loaded)) there guarded.load
 
 same_span : (rules : Rules) (u : PendingLoad) → TakesItsPages rules u → module_span rules u.load.about ≡ load_span u.load
 same_span rules u pages = ap (pages_at u.load.about.gpa) pages
@@ -46,12 +43,9 @@ pub ends : (rules : Rules) (guard : List Protection) (modules : Modules) → Are
     → IfSome modules.loading (MayEnd guard modules.gate.loaded)
 ends rules guard modules joined guarded = any_may_end rules guard modules modules.loading refl joined guarded
 
-none_by : (o : Option PendingLoad) → is_some (option_map load_of o) ≡ false → o ≡ None
-none_by None e = refl
-none_by (Some u) e = cc
+none_by : (gate : Records) (o : Option PendingLoad) → is_some (option_map (load_of gate) o) ≡ false → o ≡ None
+none_by gate None e = refl
+none_by gate (Some u) e = cc
 
 pub none_under_way : (modules : Modules) → is_some (loading_of modules) ≡ false → modules.loading ≡ None
-none_under_way modules idle = none_by modules.loading idle
-
-pub gate_idle : (rules : Rules) (modules : Modules) → AreJoined rules modules → is_some (loading_of modules) ≡ false → modules.gate.loading ≡ false
-gate_idle rules modules joined idle = joined.gate ∙ ap is_some (none_under_way modules idle)
+none_under_way modules idle = none_by modules.gate modules.loading idle

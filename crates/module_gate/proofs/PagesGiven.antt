@@ -1,5 +1,5 @@
 -- What each answer makes of pages and modules is what the machine's does.
-use Rattle.std.proofs.Common.{◌≡◌, ℕ, List, sym, ap, subst, true, false}
+use Rattle.std.proofs.Common.{◌≡◌, ℕ, List, [], sym, ap, subst}
 use Rattle.std.specs.Prelude.{Option, Some, None, IfSome, slice_get}
 use Rattle.sv_types.specs.Policies.{Rules}
 use Rattle.spec_processor.specs.Regions.{Region}
@@ -12,7 +12,7 @@ use Rattle.spec_hardware.specs.HwCalls.{hw_pages_side_effect}
 use Rattle.spec_hardware.specs.HwExits.{with_tables}
 use Rattle.spec_hardware.specs.Machine.{Machine}
 use Rattle.page_guard.specs.Guarded.{with_span}
-use Rattle.module_gate.specs.Gates.{PageTurns, new_load, load_span, pages_at}
+use Rattle.module_gate.specs.Gates.{Progress, new_load, load_span, pages_at}
 use Rattle.module_gate.specs.Parts.{with_modules}
 use Rattle.module_gate.specs.declared.modules.Modules.{Modules}
 use Rattle.module_gate.specs.declared.modules.PendingLoad.{PendingLoad}
@@ -28,22 +28,22 @@ module _ (m : Machine) (rules : Rules) (region : Region) (h : ℕ) (guard : List
   old = with_modules m rules region guard modules
 
   pub begins : (about : ModulePlacement) (pages asked : ℕ) → pages ≡ asked
-      → after (with_span guard (load_span (new_load about pages)) Held) (record { gate = record modules.gate { loading = true }; loading = Some (record { hart = h; load = new_load about pages }) })
+      → after (with_span guard (load_span (new_load about pages)) Held) (record { gate = record modules.gate { digests = [] }; loading = Some (record { hart = h; load = new_load about pages }) })
       ≡ with_tables (hw_pages_side_effect (BeginsLoad about asked) h old) tables
   unfolding hw_pages_side_effect
   begins about pages asked same =
-      ap (λ (k : ℕ). after (with_span guard (load_span (new_load about k)) Held) (record { gate = record modules.gate { loading = true }; loading = Some (record { hart = h; load = new_load about k }) })) same
+      ap (λ (k : ℕ). after (with_span guard (load_span (new_load about k)) Held) (record { gate = record modules.gate { digests = [] }; loading = Some (record { hart = h; load = new_load about k }) })) same
 
-  pub approves : (load : PageTurns) → pages_in_rule (slice_get rules.modules load.about.id) ≡ load.pages
-      → after (with_span guard (load_span load) Approved) (record { gate = record modules.gate { loaded = with_module modules.gate.loaded load.about; loading = false }; loading = None })
+  pub approves : (load : Progress) → pages_in_rule (slice_get rules.modules load.about.id) ≡ load.pages
+      → after (with_span guard (load_span load) Approved) (record { gate = record modules.gate { loaded = with_module modules.gate.loaded load.about }; loading = None })
       ≡ with_tables (hw_pages_side_effect (ApprovesModule load.about) h old) tables
   unfolding hw_pages_side_effect
   approves load takes =
-      ap (λ (k : ℕ). after (with_span guard (pages_at load.about.gpa k) Approved) (record { gate = record modules.gate { loaded = with_module modules.gate.loaded load.about; loading = false }; loading = None })) (sym takes)
+      ap (λ (k : ℕ). after (with_span guard (pages_at load.about.gpa k) Approved) (record { gate = record modules.gate { loaded = with_module modules.gate.loaded load.about }; loading = None })) (sym takes)
 
-  pub releases : (load : PageTurns) → pages_in_rule (slice_get rules.modules load.about.id) ≡ load.pages
-      → after (with_span guard (load_span load) Free) (record { gate = record modules.gate { loading = false }; loading = None })
+  pub releases : (load : Progress) → pages_in_rule (slice_get rules.modules load.about.id) ≡ load.pages
+      → after (with_span guard (load_span load) Free) (record modules { loading = None })
       ≡ with_tables (hw_pages_side_effect (ReleasesModule load.about) h old) tables
   unfolding hw_pages_side_effect
   releases load takes =
-      ap (λ (k : ℕ). after (with_span guard (pages_at load.about.gpa k) Free) (record { gate = record modules.gate { loading = false }; loading = None })) (sym takes)
+      ap (λ (k : ℕ). after (with_span guard (pages_at load.about.gpa k) Free) (record modules { loading = None })) (sym takes)

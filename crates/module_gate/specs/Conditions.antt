@@ -1,5 +1,5 @@
 -- What holds of modules and their pages before each answer. This project's own.
-use Rattle.std.specs.Prelude.{◌≡◌, ◌≤◌, List, length, Option, None, IfSome, slice_get, is_some}
+use Rattle.std.specs.Prelude.{◌≡◌, ◌+◌, ◌≤◌, List, length, Option, None, IfSome, slice_get}
 use Rattle.sv_types.specs.Policies.{Rules}
 use Rattle.spec_processor.specs.Regions.{Region}
 use Rattle.sv_types.specs.declared.saved.ModulePlacement.{ModulePlacement}
@@ -8,7 +8,7 @@ use Rattle.sv_types.specs.declared.protection.Protection.TheVariants.{Held}
 use Rattle.spec_reference.specs.States.{pages_in_rule, find_module}
 use Rattle.spec_hardware.specs.Machine.{HwLoad}
 use Rattle.page_guard.specs.Guarded.{Guarded, IsInRam, AllAre, TablesMatchGuard}
-use Rattle.module_gate.specs.Gates.{load_span, module_span, AreApproved}
+use Rattle.module_gate.specs.Gates.{Records, load_span, module_span, AreApproved}
 use Rattle.module_gate.specs.Parts.{loading_of}
 use Rattle.module_gate.specs.declared.modules.Modules.{Modules}
 use Rattle.module_gate.specs.declared.modules.PendingLoad.{PendingLoad}
@@ -17,9 +17,13 @@ use Rattle.module_gate.specs.declared.modules.PendingLoad.{PendingLoad}
 abbrev pub TakesItsPages : Rules → PendingLoad → Type 0
 TakesItsPages rules u = pages_in_rule (slice_get rules.modules u.load.about.id) ≡ u.load.pages
 
--- what each call keeps: the gate knows whether a load is under way
+-- each of its pages is left to count, or its digest is kept
+abbrev pub IsTallied : Records → PendingLoad → Type 0
+IsTallied gate u = length gate.digests + u.load.left ≡ u.load.pages
+
+-- what each call keeps of a load under way
 pub record AreJoined (rules : Rules) (modules : Modules) : Type 0 where
-  pub gate : modules.gate.loading ≡ is_some modules.loading
+  pub digests : IfSome modules.loading (IsTallied modules.gate)
   pub pages : IfSome modules.loading (TakesItsPages rules)
 
 -- the module under way isn't loaded, and its pages are held

@@ -14,19 +14,30 @@ use Rattle.spec_hardware.specs.HwExits.{page_counted}
 use Rattle.spec_hardware.specs.Machine.{HwLoad}
 use Rattle.page_guard.specs.Guarded.{IsInRam, AllAre}
 
--- the loaded modules, ascending by id, whether a load is under way, and whether the init pages are retired
+-- the loaded modules, ascending by id, the digests of the pages that the last load counted, and whether the init pages are retired
 pub record Records : Type 0 where
   pub loaded : List ModulePlacement
-  pub loading : Bool
+  pub digests : List (List ℕ)
   pub retired : Bool
 
--- a load under way, with the number of its module's pages
+-- a load under way besides its digests: its arguments, the pages of its module and those that are left to count, and whether the
+-- fields of the others are right
+pub record Progress : Type 0 where
+  pub about : ModulePlacement
+  pub pages : ℕ
+  pub left : ℕ
+  pub right : Bool
+
+-- a load under way with the digests of its pages
 pub record PageTurns : Type 0 where
   pub about : ModulePlacement
   pub pages : ℕ
   pub left : ℕ
   pub digests : List (List ℕ)
   pub right : Bool
+
+abbrev pub with_digests : List (List ℕ) → Progress → PageTurns
+with_digests digests load = record { about = load.about; pages = load.pages; left = load.left; digests = digests; right = load.right }
 
 -- as the machine records it for a hart
 abbrev pub hw_load : ℕ → PageTurns → HwLoad
@@ -36,7 +47,7 @@ hw_load hart load = record { hart = hart; about = load.about; left = load.left; 
 abbrev pub pages_at : ℕ → ℕ → Span
 pages_at gpa pages = record { first = page_of gpa; count = pages }
 
-abbrev pub load_span : PageTurns → Span
+abbrev pub load_span : Progress → Span
 load_span load = pages_at load.about.gpa load.pages
 
 -- the pages of a loaded module, as many as the policy says
@@ -45,7 +56,7 @@ module_span rules about = pages_at about.gpa (pages_in_rule (slice_get rules.mod
 
 -- no module is loaded, and none was
 abbrev pub no_modules : Records
-no_modules = record { loaded = []; loading = false; retired = false }
+no_modules = record { loaded = []; digests = []; retired = false }
 
 -- the addresses are multiples of a page's bytes, and the pages are in RAM
 abbrev pub is_place : List ℕ → (gpa va pages : ℕ) → Bool
@@ -56,8 +67,8 @@ unfoldable pub is_good_place : List ℕ → List Protection → ModulePlacement 
 is_good_place ram guard about pages = is_place ram about.gpa about.va pages && not (list_any (is_taken guard) (numbers_from (page_of about.gpa) pages))
 
 -- nothing was counted yet
-abbrev pub new_load : ModulePlacement → ℕ → PageTurns
-new_load about pages = record { about = about; pages = pages; left = pages; digests = []; right = true }
+abbrev pub new_load : ModulePlacement → ℕ → Progress
+new_load about pages = record { about = about; pages = pages; left = pages; right = true }
 
 -- the pages of each loaded module are in RAM, and approved
 pub record AreApproved (rules : Rules) (guard : List Protection) (loaded : List ModulePlacement) : Type 0 where

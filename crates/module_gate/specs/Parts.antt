@@ -10,16 +10,16 @@ use Rattle.sv_types.specs.Protections.{is_free}
 use Rattle.spec_reference.specs.Protections.{protection_at}
 use Rattle.spec_hardware.specs.Machine.{Machine, HwLoad}
 use Rattle.page_guard.specs.Guarded.{with_span}
-use Rattle.module_gate.specs.Gates.{hw_load, load_span}
+use Rattle.module_gate.specs.Gates.{Records, hw_load, load_span, with_digests}
 use Rattle.module_gate.specs.declared.modules.Modules.{Modules}
 use Rattle.module_gate.specs.declared.modules.PendingLoad.{PendingLoad}
 
--- a load under way, as the machine records it
-abbrev pub load_of : PendingLoad → HwLoad
-load_of u = hw_load u.hart u.load
+-- a load under way with the digests that the gate keeps, as the machine records it
+abbrev pub load_of : Records → PendingLoad → HwLoad
+load_of gate u = hw_load u.hart (with_digests gate.digests u.load)
 
 abbrev pub loading_of : Modules → Option HwLoad
-loading_of modules = option_map load_of modules.loading
+loading_of modules = option_map (load_of modules.gate) modules.loading
 
 abbrev pub with_modules : Machine → Rules → Region → List Protection → Modules → Machine
 with_modules m rules region guard modules = record m {

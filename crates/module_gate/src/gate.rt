@@ -1,6 +1,6 @@
 // The gate of modules.
 
-ghost use Rattle.std.specs.Prelude.{◌≡◌, ◌<◌, ◌≤◌, length, slice_get, Some, None, IfOk, IsTrue, IsSome, true, false, vec_capacity};
+ghost use Rattle.std.specs.Prelude.{◌≡◌, ◌<◌, [], ◌∷◌, ◌++◌, length, slice_get, Some, None, IfOk, IsTrue, IsSome, true};
 ghost use Rattle.sv_types.specs.Limits.{max_modules, max_module_pages};
 ghost use Rattle.sv_types.specs.Policies.{rules_of, rules_within};
 ghost use Rattle.sv_types.specs.declared.protection.Protection.TheVariants.{Free, Held};
@@ -22,13 +22,13 @@ use std::alloc::{AllocError, Global};
 use std::marker::Model;
 use sv_types::{Digest, ModulePlacement, Policy, Span};
 
-/// What is loaded. Contracts see the loaded modules, ascending by id, whether a load is under way, and whether the init
-/// pages are retired.
+/// What is loaded. Contracts see the loaded modules, ascending by id, the digests of the pages that the last load counted, and
+/// whether the init pages are retired.
 #[derive(Drop)]
 pub struct Gate {
     loaded: Vec<ModulePlacement>,
-    /// For a load's digests, until a load takes it.
-    room: Option<Vec<Digest>>,
+    /// Of the pages that the last load counted. There is room for those of the largest module.
+    digests: Vec<Digest>,
     retired: bool,
 }
 
@@ -50,29 +50,29 @@ impl Gate {
         ensures { IfOk result (λ gate. gate ≡ no_modules) }
     {
         let loaded = Vec::with_capacity(alloc, MAX_MODULES)?;
-        let room = Vec::with_capacity(alloc, MAX_MODULE_PAGES as usize)?;
+        let digests = Vec::with_capacity(alloc, MAX_MODULE_PAGES as usize)?;
         Ok(Gate {
             loaded,
-            room: Some(room),
+            digests,
             retired: false,
         })
     }
 
-    /// These modules are loaded, ascending by id, and no load is under way. The room that loads need is taken now.
+    /// These modules are loaded, ascending by id. The room that loads need is taken now.
     pub fn from_values(
         alloc: Global,
         modules: &[ModulePlacement],
         retired: bool,
     ) -> Result<Gate, AllocError>
         requires ascends { AscendsFrom 0 modules.now }
-        ensures { IfOk result (λ gate. gate ≡ record { loaded = modules.now; loading = false; retired = retired }) }
+        ensures { IfOk result (λ gate. gate ≡ record { loaded = modules.now; digests = []; retired = retired }) }
     {
         let mut loaded = Vec::with_capacity(alloc, MAX_MODULES)?;
         loaded.extend_from_slice(modules)?;
-        let room = Vec::with_capacity(alloc, MAX_MODULE_PAGES as usize)?;
+        let digests = Vec::with_capacity(alloc, MAX_MODULE_PAGES as usize)?;
         Ok(Gate {
             loaded,
-            room: Some(room),
+            digests,
             retired,
         })
     }
@@ -92,11 +92,11 @@ impl Gate {
         self.retired
     }
 
-    /// Whether a load is under way.
-    pub fn is_loading(&self) -> bool
-        ensures { result ≡ self.now.loading }
+    /// The digests of the pages that the last load counted.
+    pub fn digests(&self) -> &[Digest]
+        ensures { result.now ≡ self.now.digests }
     {
-        self.room.is_none()
+        &self.digests
     }
 
     /// The loaded module of an id.
@@ -106,8 +106,8 @@ impl Gate {
         find_module(&self.loaded, id)
     }
 
-    /// Begins the load of a module of the policy at a good place. Its pages are then held. The policy's values are within
-    /// their limits.
+    /// Begins the load of a module of the policy at a good place, where none is under way. Its pages are then held, and none is
+    /// counted. The policy's values are within their limits.
     pub fn begin(
         &mut self,
         guard: &mut Guard,
@@ -117,11 +117,10 @@ impl Gate {
     ) -> Load
         requires within { IsTrue (rules_within (rules_of policy.now)) }
         requires known { IsSome (slice_get (rules_of policy.now).modules about.id) }
-        requires idle { self.old.loading ≡ false }
         requires place { is_good_place mem.old.ram guard.old.pages about (pages_in_rule (slice_get (rules_of policy.now).modules about.id)) ≡ true }
         requires tables_match { TablesMatchGuard mem.old guard.old }
         ensures load { result ≡ new_load about (pages_in_rule (slice_get (rules_of policy.now).modules about.id)) }
-        ensures gate { self.new ≡ record self.old { loading = true } }
+        ensures gate { self.new ≡ record self.old { digests = [] } }
         ensures guard { guard.new.pages ≡ with_span guard.old.pages (load_span result) Held }
         ensures tables_match { TablesStayMatched mem.old mem.new guard.old guard.new }
     {
@@ -133,15 +132,12 @@ impl Gate {
         let Ok(hold) = guard.hold(mem, pages_at(about.gpa, rule.pages)) else {
             unreachable!();
         };
-        let Some(digests) = self.room.take() else {
-            unreachable!();
-        };
+        self.digests.clear();
         Load {
             hold,
             about,
             pages: rule.pages,
             left: rule.pages,
-            digests,
             right: true,
         }
     }
@@ -180,13 +176,12 @@ impl Gate {
         free_pages(guard, mem, policy, &self.loaded, init);
     }
 
-    /// The load under way is over, and gives its room back.
-    pub(crate) fn end_load(&mut self, mut room: Vec<Digest>)
-        requires { max_module_pages ≤ vec_capacity room }
-        ensures { self.new ≡ record self.old { loading = false } }
+    /// Keeps the digest of one more page.
+    pub(crate) fn add_digest(&mut self, digest: Digest)
+        requires { length self.old.digests < max_module_pages }
+        ensures { self.new ≡ record self.old { digests = self.old.digests ++ digest ∷ [] } }
     {
-        room.clear();
-        self.room = Some(room);
+        self.digests.push_reserved(digest);
     }
 
     /// A module is loaded.

@@ -33,9 +33,8 @@ fn begin_load(
     requires tables_match { TablesMatchGuard mem.old guard.old }
     requires known { IsSome (slice_get (rules_of policy.now).modules about.id) }
     requires none { modules.old.loading ≡ None }
-    requires idle { modules.old.gate.loading ≡ false }
     requires place { is_good_place mem.old.ram guard.old.pages about (pages_in_rule (slice_get (rules_of policy.now).modules about.id)) ≡ true }
-    ensures modules { modules.new ≡ record { gate = record modules.old.gate { loading = true }; loading = Some (record { hart = hart; load = new_load about (pages_in_rule (slice_get (rules_of policy.now).modules about.id)) }) } }
+    ensures modules { modules.new ≡ record { gate = record modules.old.gate { digests = [] }; loading = Some (record { hart = hart; load = new_load about (pages_in_rule (slice_get (rules_of policy.now).modules about.id)) }) } }
     ensures guard { guard.new.pages ≡ with_span guard.old.pages (load_span (new_load about (pages_in_rule (slice_get (rules_of policy.now).modules about.id)))) Held }
     ensures tables_match { TablesStayMatched mem.old mem.new guard.old guard.new }
 {
@@ -49,7 +48,7 @@ fn approve_load(guard: &mut Guard, mem: &mut HostMem, modules: &mut Modules)
     requires may { IfSome modules.old.loading (MayEnd guard.old.pages modules.old.gate.loaded) }
     requires there { IsSome modules.old.loading }
     requires counted { IfSome modules.old.loading (λ u. u.load.left ≡ 0) }
-    ensures modules { IfSome modules.old.loading (λ u. modules.new ≡ record { gate = record modules.old.gate { loaded = with_module modules.old.gate.loaded u.load.about; loading = false }; loading = None }) }
+    ensures modules { IfSome modules.old.loading (λ u. modules.new ≡ record { gate = record modules.old.gate { loaded = with_module modules.old.gate.loaded u.load.about }; loading = None }) }
     ensures guard { IfSome modules.old.loading (λ u. guard.new.pages ≡ with_span guard.old.pages (load_span u.load) Approved) }
     ensures tables_match { TablesStayMatched mem.old mem.new guard.old guard.new }
 {
@@ -64,14 +63,14 @@ fn release_load(guard: &mut Guard, mem: &mut HostMem, modules: &mut Modules)
     requires tables_match { TablesMatchGuard mem.old guard.old }
     requires may { IfSome modules.old.loading (MayEnd guard.old.pages modules.old.gate.loaded) }
     requires there { IsSome modules.old.loading }
-    ensures modules { IfSome modules.old.loading (λ u. modules.new ≡ record { gate = record modules.old.gate { loading = false }; loading = None }) }
+    ensures modules { modules.new ≡ record modules.old { loading = None } }
     ensures guard { IfSome modules.old.loading (λ u. guard.new.pages ≡ with_span guard.old.pages (load_span u.load) Free) }
     ensures tables_match { TablesStayMatched mem.old mem.new guard.old guard.new }
 {
     let Some(PendingLoad { hart: _, load }) = modules.loading.take() else {
         unreachable!();
     };
-    load.release(&mut modules.gate, guard, mem);
+    load.release(guard, mem);
 }
 
 /// Does to pages and modules what happens besides a reply. It is what a call, or the end of the load under way, is answered.

@@ -1,6 +1,6 @@
 // A load under way.
 
-ghost use Rattle.std.specs.Prelude.{◌≡◌, ℕ, ◌%◌, ◌<◌, None, length, slice_get, All, IsTrue, false};
+ghost use Rattle.std.specs.Prelude.{◌≡◌, ℕ, ◌+◌, ◌%◌, ◌<◌, None, length, slice_get, All, IsTrue};
 ghost use Rattle.spec_processor.specs.Bytes.{page_size};
 ghost use Rattle.sv_types.specs.Measure.{page_digest};
 ghost use Rattle.sv_types.specs.Policies.{rules_of, rules_within};
@@ -10,7 +10,7 @@ ghost use Rattle.spec_reference.specs.States.{find_module, with_module, pages_in
 ghost use Rattle.spec_hardware.specs.HwExits.{hw_is_good};
 ghost use Rattle.monitor_fields.specs.Pieces.{piece_sites, IsAligned};
 ghost use Rattle.page_guard.specs.Guarded.{with_span, IsInRam, AllAre, TablesMatchGuard, TablesStayMatched};
-ghost use Rattle.module_gate.specs.Gates.{hw_load, load_span, next_counted};
+ghost use Rattle.module_gate.specs.Gates.{hw_load, load_span, next_counted, with_digests};
 
 use crate::gate::Gate;
 use crate::rules::rule_of;
@@ -23,24 +23,23 @@ use std::marker::Model;
 use sv_types::{Bases, Digest, ModulePlacement, Policy, Site};
 
 /// A load under way, which can't be dropped. Contracts see the arguments of the load, the pages of the module, how many of
-/// them are left to count, and of those that were counted the digests and whether their fields are right.
+/// them are left to count, and whether the fields of those that were counted are right. The gate keeps their digests.
 pub struct Load {
     pub(crate) hold: Hold,
     pub(crate) about: ModulePlacement,
     pub(crate) pages: u32,
     pub(crate) left: u32,
-    pub(crate) digests: Vec<Digest>,
     pub(crate) right: bool,
 }
 
 impl Model for Load {
-    ghost use Rattle.module_gate.specs.Gates.{PageTurns};
+    ghost use Rattle.module_gate.specs.Gates.{Progress};
 
-    ghost Value = { PageTurns };
+    ghost Value = { Progress };
 
-    ghost use Rattle.module_gate.specs.InsideLoad.{turns_of, IsSoundLoad};
+    ghost use Rattle.module_gate.specs.InsideLoad.{progress_of, IsSoundLoad};
 
-    ghost view = { turns_of };
+    ghost view = { progress_of };
 
     ghost invariant = { IsSoundLoad };
 }
@@ -60,20 +59,24 @@ impl Load {
         self.left
     }
 
-    /// Counts the next page of the module, whose 4,096 bytes these are: keeps the digest of the page with its fields cleared,
-    /// and whether its fields are right for the load's addresses. The policy is the one that the load began with.
-    pub fn page(&mut self, policy: &Policy, bytes: &[u8])
+    /// Counts the next page of the module, whose 4,096 bytes these are: the gate keeps the digest of the page with its fields
+    /// cleared, and the load whether its fields are right for its addresses. Gate and policy are those that the load began with.
+    pub fn page(&mut self, gate: &mut Gate, policy: &Policy, bytes: &[u8])
         requires within { IsTrue (rules_within (rules_of policy.now)) }
         requires policy { pages_in_rule (slice_get (rules_of policy.now).modules self.old.about.id) ≡ self.old.pages }
         requires left { 0 < self.old.left }
+        requires tallied { length gate.old.digests + self.old.left ≡ self.old.pages }
         requires page { length bytes.now ≡ page_size }
-        ensures counted { (hart : ℕ) → hw_load hart self.new ≡ next_counted (rules_of policy.now) bytes.now (hw_load hart self.old) (slice_get (rules_of policy.now).modules self.old.about.id) }
+        ensures counted { (hart : ℕ) → hw_load hart (with_digests gate.new.digests self.new) ≡ next_counted (rules_of policy.now) bytes.now
+            (hw_load hart (with_digests gate.old.digests self.old)) (slice_get (rules_of policy.now).modules self.old.about.id) }
         ensures pages { self.new.pages ≡ self.old.pages }
+        ensures tallied { length gate.new.digests + self.new.left ≡ self.new.pages }
+        ensures gate { gate.new ≡ record gate.old { digests = gate.new.digests } }
     {
         let Some(rule) = rule_of(policy, self.about.id) else {
             unreachable!();
         };
-        let first = PAGE_BYTES as u32 * self.digests.len() as u32;
+        let first = PAGE_BYTES as u32 * (self.pages - self.left);
         let bases = Bases {
             va: self.about.va,
             data_va: self.about.data_va,
@@ -82,18 +85,18 @@ impl Load {
         let exports = policy.exports.as_slice();
         let digest = masked_digest(bytes, first, sites);
         let right = fields_right(bytes, first, sites, &bases, exports);
-        self.digests.push_reserved(digest);
+        gate.add_digest(digest);
         self.right &= right;
         self.left -= 1;
     }
 
-    /// Whether the counted pages are those that the policy measured, with all fields right.
-    pub fn is_good(&self, policy: &Policy) -> bool
-        ensures { (hart : ℕ) → result ≡ hw_is_good (hw_load hart self.now) (slice_get (rules_of policy.now).modules self.now.about.id) }
+    /// Whether the counted pages are those that the policy measured, with all fields right. The gate is the one of the load.
+    pub fn is_good(&self, gate: &Gate, policy: &Policy) -> bool
+        ensures { (hart : ℕ) → result ≡ hw_is_good (hw_load hart (with_digests gate.now.digests self.now)) (slice_get (rules_of policy.now).modules self.now.about.id) }
     {
         match rule_of(policy, self.about.id) {
             None => false,
-            Some(rule) => join_digests(&self.digests) == rule.measure && self.right,
+            Some(rule) => join_digests(gate.digests()) == rule.measure && self.right,
         }
     }
 
@@ -104,7 +107,7 @@ impl Load {
         requires inside { IsInRam guard.old.pages (load_span self) }
         requires held { AllAre guard.old.pages (load_span self) Held }
         requires tables_match { TablesMatchGuard mem.old guard.old }
-        ensures gate { gate.new ≡ record gate.old { loaded = with_module gate.old.loaded self.about; loading = false } }
+        ensures gate { gate.new ≡ record gate.old { loaded = with_module gate.old.loaded self.about } }
         ensures guard { guard.new.pages ≡ with_span guard.old.pages (load_span self) Approved }
         ensures tables_match { TablesStayMatched mem.old mem.new guard.old guard.new }
     {
@@ -113,20 +116,17 @@ impl Load {
             about,
             pages: _,
             left: _,
-            digests,
             right: _,
         } = self;
         guard.approve(mem, hold);
-        gate.end_load(digests);
         gate.add(about);
     }
 
-    /// Ends the load of this gate at any moment: its pages are free again.
-    pub fn release(self, gate: &mut Gate, guard: &mut Guard, mem: &mut HostMem)
+    /// Ends the load at any moment: its pages are free again.
+    pub fn release(self, guard: &mut Guard, mem: &mut HostMem)
         requires inside { IsInRam guard.old.pages (load_span self) }
         requires held { AllAre guard.old.pages (load_span self) Held }
         requires tables_match { TablesMatchGuard mem.old guard.old }
-        ensures gate { gate.new ≡ record gate.old { loading = false } }
         ensures guard { guard.new.pages ≡ with_span guard.old.pages (load_span self) Free }
         ensures tables_match { TablesStayMatched mem.old mem.new guard.old guard.new }
     {
@@ -135,11 +135,9 @@ impl Load {
             about: _,
             pages: _,
             left: _,
-            digests,
             right: _,
         } = self;
         guard.release(mem, hold);
-        gate.end_load(digests);
     }
 }
 

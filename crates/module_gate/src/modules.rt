@@ -55,9 +55,9 @@ impl Modules {
         ensures guard { guard.new.pages ≡ without_load guard.old.pages self.loading }
         ensures tables_match { TablesStayMatched mem.old mem.new guard.old guard.new }
     {
-        let Modules { mut gate, loading } = self;
+        let Modules { gate: _, loading } = self;
         if let Some(PendingLoad { hart: _, load }) = loading {
-            load.release(&mut gate, guard, mem);
+            load.release(guard, mem);
         }
     }
 }

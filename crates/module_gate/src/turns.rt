@@ -10,13 +10,14 @@ ghost use Rattle.spec_hardware.specs.GivenAnswers.{IsOfLoad};
 ghost use Rattle.spec_hardware.specs.HwCalls.{hw_given};
 ghost use Rattle.spec_hardware.specs.HwExits.{load_counted, served_load_turn};
 ghost use Rattle.spec_hardware.specs.Machine.{Machine};
-ghost use Rattle.module_gate.specs.Gates.{hw_load};
+ghost use Rattle.module_gate.specs.Gates.{hw_load, with_digests};
 ghost use Rattle.module_gate.specs.Conditions.{AreJoined, IsReadable};
 ghost use Rattle.module_gate.specs.Parts.{with_modules, loading_of};
 
 use crate::decisions::load_decision;
+use crate::gate::Gate;
 use crate::load::Load;
-use crate::modules::{Modules, PendingLoad, put_load};
+use crate::modules::Modules;
 use host_mem::HostMem;
 use spec_processor::page_of;
 use spec_reference::{Answer, pages_of};
@@ -40,16 +41,19 @@ pub fn next_page<'a>(load: &Load, mem: &'a HostMem, policy: &Policy) -> &'a [u8]
 }
 
 // Counts the next page of the module.
-fn count_page(load: &mut Load, mem: &HostMem, policy: &Policy)
+fn count_page(load: &mut Load, gate: &mut Gate, mem: &HostMem, policy: &Policy)
     requires within { IsTrue (rules_within (rules_of policy.now)) }
     requires policy { pages_in_rule (slice_get (rules_of policy.now).modules load.old.about.id) ≡ load.old.pages }
     requires left { 0 < load.old.left }
-    requires few { load.old.left ≤ load.old.pages }
+    requires tallied { length gate.old.digests + load.old.left ≡ load.old.pages }
     requires inside { page_size * (page_of load.old.about.gpa + load.old.pages) ≤ length mem.now.ram }
-    ensures counted { (hart left : ℕ) → load.old.left ≡ suc left → hw_load hart load.new ≡ load_counted (rules_of policy.now) mem.now.ram (hw_load hart load.old) left (slice_get (rules_of policy.now).modules load.old.about.id) }
+    ensures counted { (hart left : ℕ) → load.old.left ≡ suc left → hw_load hart (with_digests gate.new.digests load.new) ≡ load_counted (rules_of policy.now) mem.now.ram
+        (hw_load hart (with_digests gate.old.digests load.old)) left (slice_get (rules_of policy.now).modules load.old.about.id) }
     ensures pages { load.new.pages ≡ load.old.pages }
+    ensures tallied { length gate.new.digests + load.new.left ≡ load.new.pages }
+    ensures gate { gate.new ≡ record gate.old { digests = gate.new.digests } }
 {
-    load.page(policy, next_page(load, mem, policy));
+    load.page(gate, policy, next_page(load, mem, policy));
 }
 
 /// A turn of a load under way: the next page is counted, or, where none is left, the load's decision is the answer. None also
@@ -64,16 +68,15 @@ pub fn load_turn(mem: &HostMem, policy: &Policy, modules: &mut Modules) -> Optio
     ensures kept { OnSome result (modules.new ≡ modules.old) }
     ensures joined { AreJoined (rules_of policy.now) modules.new }
 {
-    let Some(PendingLoad { hart, mut load }) = modules.loading.take() else {
-        return None;
-    };
-    if load.left() == 0 {
-        let answer = load_decision(load.is_good(policy), load.about());
-        put_load(modules, hart, load);
-        Some(answer)
-    } else {
-        count_page(&mut load, mem, policy);
-        put_load(modules, hart, load);
-        None
+    match &mut modules.loading {
+        None => None,
+        Some(pending) if pending.load.left() == 0 => {
+            let good = pending.load.is_good(&modules.gate, policy);
+            Some(load_decision(good, pending.load.about()))
+        }
+        Some(pending) => {
+            count_page(&mut pending.load, &mut modules.gate, mem, policy);
+            None
+        }
     }
 }

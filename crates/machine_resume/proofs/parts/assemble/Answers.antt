@@ -11,7 +11,7 @@ use Rattle.snapshot_resume.specs.ResumedStates.{resumed_state}
 use Rattle.laws_resumed_start.specs.Resuming.{hw_resumed, load_resumed}
 use Rattle.machine_resume.proofs.Accepted.{known}
 use Rattle.machine_resume.proofs.Approved.{guard_is, load_free}
-use Rattle.machine_resume.proofs.Assembled.{devices_by, permitted_of, pages_guarded, tables_stay}
+use Rattle.machine_resume.proofs.Assembled.{devices_by, pages_guarded, tables_stay}
 use Rattle.machine_resume.proofs.parts.assemble.Goals as goal
 
 pub copied_parts-requires-clause-each : goal.copied_parts-requires-clause-each
@@ -79,7 +79,7 @@ returns c =
       loaded = ap (λ (g : Records). g.loaded) c.resume_loading-loading.ensures.gate ∙ ap (λ (g : Records). g.loaded) c.in_ok-copied.ensures.gate;
       retired = ap (λ (g : Records). g.retired) c.resume_loading-loading.ensures.gate ∙ ap (λ (g : Records). g.retired) c.in_ok-copied.ensures.gate;
       loading = c.resume_loading-loading.ensures.load ∙ ap (λ (ram : List ℕ). option_map (load_resumed rules ram) s.loading) c.requires.ram;
-      joined = record { gate = ap (λ (g : Records). g.loading) c.resume_loading-loading.ensures.gate; pages = c.resume_loading-loading.ensures.pages };
+      joined = record { digests = c.resume_loading-loading.ensures.digests; pages = c.resume_loading-loading.ensures.pages };
       devices = c.devices_of-devices.ensures
           ∙ ap (λ (input : List ℕ). devices_by s input c.deref-2.result.now) c.deref.ensures.value
           ∙ ap (λ (hs : List SavedHart). devices_by s s.console hs) c.deref-2.ensures.value;

@@ -1,11 +1,11 @@
-use Rattle.std.proofs.Common.{◌≡◌, ◌∙◌, sym, refl, ap, subst, slice_get}
+use Rattle.std.proofs.Common.{◌≡◌, ◌∙◌, sym, ap, subst, slice_get}
 use Rattle.std.specs.Prelude.{Option, Some, IfSome, is_some}
 use Rattle.sv_types.specs.Policies.{ModuleRule, rules_of}
 use Rattle.spec_reference.specs.States.{find_module, pages_in_rule}
 use Rattle.module_gate.specs.Gates.{is_good_place}
 use Rattle.module_gate.specs.declared.modules.PendingLoad.{PendingLoad}
 use Rattle.module_gate.proofs.Given.{MayBegin, IsCounted, MayDo, may_do}
-use Rattle.module_gate.proofs.Joined.{takes_its_pages, none_under_way, gate_idle}
+use Rattle.module_gate.proofs.Joined.{takes_its_pages, none_under_way}
 use Rattle.module_gate.proofs.PagesGiven.{at_load, begins, approves, releases}
 use Rattle.module_gate.proofs.giving.give_pages.Goals as goal
 
@@ -24,14 +24,6 @@ begin_load-requires-clause-none c =
     let may : MayBegin law c.args.mem.now.ram c.args.guard.now.pages modules c.in-BeginsLoad.about c.in-BeginsLoad.pages =
     subst (MayDo law c.args.mem.now.ram c.args.guard.now.pages modules) c.in-BeginsLoad.is (may_do law c.args.mem.now.ram c.args.guard.now.pages modules c.args.side_effect.now c.requires.given) in
     none_under_way modules may.idle
-
-pub begin_load-requires-clause-idle : goal.begin_load-requires-clause-idle
-begin_load-requires-clause-idle c =
-    let law = rules_of c.args.policy.now in
-    let modules = c.args.modules.now in
-    let may : MayBegin law c.args.mem.now.ram c.args.guard.now.pages modules c.in-BeginsLoad.about c.in-BeginsLoad.pages =
-    subst (MayDo law c.args.mem.now.ram c.args.guard.now.pages modules) c.in-BeginsLoad.is (may_do law c.args.mem.now.ram c.args.guard.now.pages modules c.args.side_effect.now c.requires.given) in
-    gate_idle law modules c.requires.joined may.idle
 
 pub begin_load-requires-clause-place : goal.begin_load-requires-clause-place
 begin_load-requires-clause-place c =
@@ -107,7 +99,7 @@ returns-in-ApprovesModule-clause-joined c =
     let modules = c.args.modules.now in
     let may : IsCounted modules c.in-ApprovesModule.about =
     subst (MayDo law c.args.mem.now.ram c.args.guard.now.pages modules) c.in-ApprovesModule.is (may_do law c.args.mem.now.ram c.args.guard.now.pages modules c.args.side_effect.now c.requires.given) in
-    rw (at_load _ modules.loading may.under_way may.there c.approve_load.ensures.modules) (record { gate = refl; pages = record {} })
+    rw (at_load _ modules.loading may.under_way may.there c.approve_load.ensures.modules) (record { digests = record {}; pages = record {} })
 
 pub returns-in-ReleasesModule-clause-machine : goal.returns-in-ReleasesModule-clause-machine
 returns-in-ReleasesModule-clause-machine c = λ m.
@@ -116,13 +108,8 @@ returns-in-ReleasesModule-clause-machine c = λ m.
     let may : IsCounted modules c.in-ReleasesModule.about =
     subst (MayDo law c.args.mem.now.ram c.args.guard.now.pages modules) c.in-ReleasesModule.is (may_do law c.args.mem.now.ram c.args.guard.now.pages modules c.args.side_effect.now c.requires.given) in
     let u = may.under_way in
-    rw (c.in-ReleasesModule.is, sym may.about_it, at_load _ modules.loading u may.there c.release_load.ensures.guard, at_load _ modules.loading u may.there c.release_load.ensures.modules, c.release_load.ensures.tables_match.ram)
+    rw (c.in-ReleasesModule.is, sym may.about_it, at_load _ modules.loading u may.there c.release_load.ensures.guard, c.release_load.ensures.modules, c.release_load.ensures.tables_match.ram)
     (releases m law c.args.mem.now c.args.hart c.args.guard.now.pages modules c.release_load.new.mem.tables u.load (takes_its_pages law modules u c.requires.joined may.there))
 
 pub returns-in-ReleasesModule-clause-joined : goal.returns-in-ReleasesModule-clause-joined
-returns-in-ReleasesModule-clause-joined c =
-    let law = rules_of c.args.policy.now in
-    let modules = c.args.modules.now in
-    let may : IsCounted modules c.in-ReleasesModule.about =
-    subst (MayDo law c.args.mem.now.ram c.args.guard.now.pages modules) c.in-ReleasesModule.is (may_do law c.args.mem.now.ram c.args.guard.now.pages modules c.args.side_effect.now c.requires.given) in
-    rw (at_load _ modules.loading may.under_way may.there c.release_load.ensures.modules) (record { gate = refl; pages = record {} })
+returns-in-ReleasesModule-clause-joined c = rw c.release_load.ensures.modules (record { digests = record {}; pages = record {} })

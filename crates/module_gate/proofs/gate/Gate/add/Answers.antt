@@ -26,5 +26,5 @@ invariant_of-self c =
     let room : 64 ≤ vec_capacity c.self.inside.loaded = c.self.invariant.modules in record {
       ascends = subst (AscendsFrom 0) (sym items) up;
       modules = omega (arith, kept, room);
-      room = c.self.invariant.room;
+      digests = c.self.invariant.digests;
     }

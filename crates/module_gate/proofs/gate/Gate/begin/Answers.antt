@@ -1,4 +1,4 @@
-use Rattle.std.proofs.Common.{rules, ◌≡◌, ◌∙◌, sym, ap, [], length, arith, slice_get, true}
+use Rattle.std.proofs.Common.{rules, ◌≡◌, ◌∙◌, sym, ap, arith, slice_get, true}
 use Rattle.std.specs.Prelude.{Some}
 use Rattle.sv_types.specs.Policies.{rules_of, module_rule}
 use Rattle.spec_reference.specs.States.{pages_in_rule}
@@ -35,11 +35,9 @@ unreachable-requires-in_default-hold c =
 pub invariant_of-result : goal.invariant_of-result
 invariant_of-result c =
     let rule = module_rule c.in-Some.rule.now in
-    let there : slice_get (rules_of c.args.policy.now).modules c.args.about.id ≡ Some rule = search rules in
-    let empty : c.in-Some-take.digests.items ≡ [] = search rules in record {
+    let there : slice_get (rules_of c.args.policy.now).modules c.args.about.id ≡ Some rule = search rules in record {
       hold = search rules;
-      turns = let none : length c.in-Some-take.digests.items ≡ 0 = ap (λ digests. length digests) empty in omega (arith, none);
       few = few_pages (rules_of c.args.policy.now) c.args.about.id rule c.requires.within there;
-      room = search rules;
+      left = omega arith;
       id = low_id (rules_of c.args.policy.now) c.args.about.id rule c.requires.within there;
     }

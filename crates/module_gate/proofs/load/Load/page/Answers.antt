@@ -1,4 +1,4 @@
-use Rattle.std.proofs.Common.{rules, ◌≡◌, ◌&&◌, ◌+◌, ◌-◌, ◌*◌, ◌∙◌, sym, ap, subst, length, slice_get, arith, [], ◌∷◌, ◌++◌}
+use Rattle.std.proofs.Common.{rules, ◌≡◌, ℕ, ◌&&◌, ◌-◌, ◌*◌, ◌∙◌, sym, ap, subst, length, slice_get, [], ◌∷◌, ◌++◌}
 use Rattle.spec_processor.specs.Bytes.{page_size}
 use Rattle.std.specs.Prelude.{All, Some}
 use Rattle.sv_types.specs.Measure.{page_digest}
@@ -7,8 +7,8 @@ use Rattle.spec_reference.specs.Loads.{module_bases}
 use Rattle.spec_reference.specs.Relocations.{masked_text, fields_right}
 use Rattle.spec_reference.specs.States.{pages_in_rule}
 use Rattle.monitor_fields.specs.Pieces.{piece_sites, IsAligned}
-use Rattle.module_gate.specs.Gates.{PageTurns, hw_load, next_counted}
-use Rattle.module_gate.specs.InsideLoad.{turns_of}
+use Rattle.module_gate.specs.Gates.{Progress, Records, hw_load, next_counted, with_digests}
+use Rattle.module_gate.specs.InsideLoad.{progress_of}
 use Rattle.module_gate.proofs.ModuleRules.{aligned_sites}
 use Rattle.module_gate.proofs.PagesCounted.{counted_where}
 use Rattle.module_gate.proofs.load.Load.page.Goals as goal
@@ -29,19 +29,20 @@ pub returns-clause-counted : goal.returns-clause-counted
 returns-clause-counted c = λ hart.
     let law = rules_of c.args.policy.now in
     let rule = module_rule c.in-Some.rule.now in
-    let inside = turns_of c.self.inside in
-    let load = hw_load hart inside in
+    let digests = c.args.gate.now.digests in
+    let inside = progress_of c.self.inside in
+    let load = hw_load hart (with_digests digests inside) in
     let bytes = c.args.bytes.now in
-    let n = length c.self.inside.digests.items in
+    let n = c.self.inside.pages - c.self.inside.left in
     let there : slice_get law.modules c.args.self.now.about.id ≡ Some rule = search rules in
-    let there_inside : slice_get law.modules c.self.inside.about.id ≡ Some rule = ap (λ (t : PageTurns). slice_get law.modules t.about.id) c.self.view_is ∙ there in
-    let pages : rule.pages ≡ c.self.inside.pages = ap pages_in_rule (sym there) ∙ c.requires.policy ∙ ap (λ (t : PageTurns). t.pages) (sym c.self.view_is) in
-    let turns : n + c.self.inside.left ≡ c.self.inside.pages = c.self.invariant.turns in
-    let number : n ≡ rule.pages - c.self.inside.left = omega (arith, pages, turns) in
+    let there_inside : slice_get law.modules c.self.inside.about.id ≡ Some rule = ap (λ (t : Progress). slice_get law.modules t.about.id) c.self.view_is ∙ there in
+    let pages : rule.pages ≡ c.self.inside.pages = ap pages_in_rule (sym there) ∙ c.requires.policy ∙ ap (λ (t : Progress). t.pages) (sym c.self.view_is) in
+    let number : n ≡ rule.pages - c.self.inside.left = ap (λ (k : ℕ). k - c.self.inside.left) (sym pages) in
     let digested : c.masked_digest-digest.result ≡ page_digest (masked_text bytes (piece_sites (page_size * n) page_size rule.sites)) = search rules in
     let judged : c.fields_right-right.result ≡ fields_right law.exports (module_bases c.self.inside.about) (piece_sites (page_size * n) (length bytes) rule.sites) bytes = search rules in
-    let pushed : c.push_reserved.new.self.items ≡ c.self.inside.digests.items ++ c.masked_digest-digest.result ∷ [] = search rules in
-    subst (λ (t : PageTurns). hw_load hart (record inside { left = c.self.inside.left - 1; digests = c.push_reserved.new.self.items; right = c.self.inside.right && c.fields_right-right.result }) ≡ next_counted law bytes (hw_load hart t) (slice_get law.modules t.about.id))
+    let pushed : c.add_digest.new.self.digests ≡ digests ++ c.masked_digest-digest.result ∷ [] = ap (λ (g : Records). g.digests) c.add_digest.ensures in
+    subst (λ (t : Progress). hw_load hart (with_digests c.add_digest.new.self.digests (record inside { left = c.self.inside.left - 1; right = c.self.inside.right && c.fields_right-right.result }))
+    ≡ next_counted law bytes (hw_load hart (with_digests digests t)) (slice_get law.modules t.about.id))
     c.self.view_is
-    (counted_where law rule load (slice_get law.modules c.self.inside.about.id) bytes n (length bytes) c.masked_digest-digest.result c.fields_right-right.result c.push_reserved.new.self.items
+    (counted_where law rule load (slice_get law.modules c.self.inside.about.id) bytes n (length bytes) c.masked_digest-digest.result c.fields_right-right.result c.add_digest.new.self.digests
     there_inside number c.requires.page digested judged pushed)
