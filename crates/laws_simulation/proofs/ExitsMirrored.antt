@@ -46,9 +46,9 @@ exit_mirrors o r h hart c Returns at once = return_mirrors o r h hart c at
 exit_mirrors o r h hart c (Demotes gpa) at once = demote_mirrors o r h hart c gpa at
 exit_mirrors o r h hart c LeavesEntry at once = absurd (cc)
 exit_mirrors o r h hart c (StopsAtWrite gpa) at once = write_stop_mirrors o r h hart c gpa at
-exit_mirrors o r h hart c (LoadsDevice rd address width signed gpa) at once =
-    device_load_mirrors o r h hart c rd address width signed (device_load r.devices gpa width) at (load_leaves_time r.devices gpa width)
-exit_mirrors o r h hart c (StoresDevice address gpa width value) at once = device_store_mirrors o r h hart c address gpa width value at
+exit_mirrors o r h hart c (LoadsDevice load) at once =
+    device_load_mirrors o r h hart c load.rd load.address load.width load.signed (device_load r.devices load.gpa load.width) at (load_leaves_time r.devices load.gpa load.width)
+exit_mirrors o r h hart c (StoresDevice store) at once = device_store_mirrors o r h hart c store.address store.gpa store.width store.value at
 exit_mirrors o r h hart c Calls at once = call_mirrors o r h hart c at
 
 -- SecVisor's answer to the exit is the last of the turn

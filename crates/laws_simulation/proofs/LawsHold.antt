@@ -177,8 +177,8 @@ again_by r h hart Returns again = absurd (cc)
 again_by r h hart (Demotes gpa) again = absurd (cc)
 again_by r h hart LeavesEntry again = refl
 again_by r h hart (StopsAtWrite gpa) again = absurd (cc)
-again_by r h hart (LoadsDevice rd address width signed gpa) again = absurd (cc)
-again_by r h hart (StoresDevice address gpa width value) again = absurd (cc)
+again_by r h hart (LoadsDevice load) again = absurd (cc)
+again_by r h hart (StoresDevice store) again = absurd (cc)
 again_by r h hart Calls again = absurd (cc)
 
 -- the turn in which a hart is sent to attempt again is the turn of the state where it has left its entry

@@ -9,5 +9,5 @@ use Rattle.spec_hardware.specs.declared.exits.ExitAnswer.TheVariants.{Returns, L
 -- only the kernel returns, and a load names a register
 abbrev pub IsPossible : Mode → ExitAnswer → Type 0
 IsPossible mode Returns = mode ≡ Kernel
-IsPossible mode (LoadsDevice rd address width signed gpa) = rd < register_count
+IsPossible mode (LoadsDevice load) = load.rd < register_count
 IsPossible mode _ = true ≡ true

@@ -9,7 +9,7 @@ ghost use Rattle.monitor_exits.specs.Possible.{IsPossible};
 use crate::addresses::{device_gpa, gpa_in_ram, is_implicit};
 use crate::fetches::raises;
 use host_mem::HostMem;
-use spec_hardware::ExitAnswer;
+use spec_hardware::{ExitAnswer, Load, Store};
 use spec_processor::{Cause, Effect, Exit};
 
 /// A refused load: a plain one reaches a device's register.
@@ -27,13 +27,13 @@ pub(crate) fn load_answer(exit: &Exit, asked: Option<Effect>) -> ExitAnswer
                 width,
                 signed,
             },
-        ) => ExitAnswer::LoadsDevice {
+        ) => ExitAnswer::LoadsDevice(Load {
             rd,
             address: exit.stval,
             width,
             signed,
             gpa: device_gpa(exit),
-        },
+        }),
         _ => raises(Cause::LoadAccess, exit.stval),
     }
 }
@@ -51,12 +51,12 @@ fn store_answer(exit: &Exit, asked: Option<Effect>) -> ExitAnswer
                 width,
                 value,
             },
-        ) => ExitAnswer::StoresDevice {
+        ) => ExitAnswer::StoresDevice(Store {
             address: exit.stval,
             gpa: device_gpa(exit),
             width,
             value,
-        },
+        }),
         _ => raises(Cause::StoreAccess, exit.stval),
     }
 }

@@ -20,26 +20,8 @@ use crate::values::loaded_value;
 use hw_devices::Devices;
 use machine_journal::Journal;
 use page_guard::Entries;
+use spec_hardware::{Load, Store};
 use spec_processor::{Cause, ExitCause};
-
-/// A load: the register that it sets, its virtual address, how it takes the value, and the guest-physical address.
-#[derive(Clone, Copy, Drop)]
-pub struct Load {
-    pub rd: u8,
-    pub address: u64,
-    pub width: u8,
-    pub signed: bool,
-    pub gpa: u64,
-}
-
-/// A store: its virtual address, the guest-physical one, and what is stored.
-#[derive(Clone, Copy, Drop)]
-pub struct Store {
-    pub address: u64,
-    pub gpa: u64,
-    pub width: u8,
-    pub value: u64,
-}
 
 /// A load of a device's register, or the guest's access fault where none is there. It takes all that a trap takes, and the
 /// devices.

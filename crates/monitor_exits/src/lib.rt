@@ -16,7 +16,7 @@ mod values;
 
 pub use answers::{Trap, answer, set, start, stay, stop};
 pub use asked::Asked;
-pub use device_accesses::{Load, Store, device_load, device_store};
+pub use device_accesses::{device_load, device_store};
 pub use exits::exit_answer;
 pub use slots::{ALL_HARTS, HartSlot, MASK_WIDTH, forget, interrupt};
 pub use traps::{guest_demotion, guest_return, guest_trap, leave_entry, stop_at_write};

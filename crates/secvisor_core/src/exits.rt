@@ -29,10 +29,10 @@ use machine_journal::Journal;
 use module_gate::{give_pages, module_answer};
 use monitor_calls::law_starts;
 use monitor_exits::{
-    Asked, Load, Store, Trap, device_load, device_store, exit_answer, guest_demotion, guest_return,
-    guest_trap, leave_entry, stop_at_write,
+    Asked, Trap, device_load, device_store, exit_answer, guest_demotion, guest_return, guest_trap,
+    leave_entry, stop_at_write,
 };
-use spec_hardware::ExitAnswer;
+use spec_hardware::{ExitAnswer, Load, Store};
 use spec_processor::Exit;
 use spec_reference::Answer;
 
@@ -128,7 +128,7 @@ impl Visor {
         requires counts { MayCount journal.old.counts }
         requires register { load.rd < register_count }
         ensures joined { IsJoined self.now hardware.new }
-        ensures answer { Answered (machine_of self.now hardware.old journal.old) hart (LoadsDevice load.rd load.address load.width load.signed load.gpa) (machine_of self.now hardware.new journal.new) }
+        ensures answer { Answered (machine_of self.now hardware.old journal.old) hart (LoadsDevice load) (machine_of self.now hardware.new journal.new) }
     {
         let slot = &mut hardware.slots[hart as usize];
         device_load(
@@ -148,7 +148,7 @@ impl Visor {
         requires counts { MayCount journal.old.counts }
         requires room { length journal.old.printed < max_printed }
         ensures joined { IsJoined self.now hardware.new }
-        ensures answer { Answered (machine_of self.now hardware.old journal.old) hart (StoresDevice store.address store.gpa store.width store.value) (machine_of self.now hardware.new journal.new) }
+        ensures answer { Answered (machine_of self.now hardware.old journal.old) hart (StoresDevice store) (machine_of self.now hardware.new journal.new) }
     {
         let slot = &mut hardware.slots[hart as usize];
         device_store(
@@ -259,36 +259,8 @@ impl Visor {
             ExitAnswer::Demotes { gpa } => self.guest_demotion(hardware, journal, hart, gpa),
             ExitAnswer::LeavesEntry => self.leave_entry(hardware, hart),
             ExitAnswer::StopsAtWrite { gpa } => self.stop_at_write(hardware, journal, hart, gpa),
-            ExitAnswer::LoadsDevice {
-                rd,
-                address,
-                width,
-                signed,
-                gpa,
-            } => {
-                let load = Load {
-                    rd,
-                    address,
-                    width,
-                    signed,
-                    gpa,
-                };
-                self.device_load(hardware, journal, hart, load);
-            }
-            ExitAnswer::StoresDevice {
-                address,
-                gpa,
-                width,
-                value,
-            } => {
-                let store = Store {
-                    address,
-                    gpa,
-                    width,
-                    value,
-                };
-                self.device_store(hardware, journal, hart, store);
-            }
+            ExitAnswer::LoadsDevice(load) => self.device_load(hardware, journal, hart, load),
+            ExitAnswer::StoresDevice(store) => self.device_store(hardware, journal, hart, store),
             ExitAnswer::Calls => self.serve_call(hardware, journal, hart),
         }
     }

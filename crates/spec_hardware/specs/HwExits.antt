@@ -27,10 +27,10 @@ hw_exit_answered m h hw mode Returns = hw_return m h hw
 hw_exit_answered m h hw mode (Demotes gpa) = hw_demote m h hw gpa
 hw_exit_answered m h hw mode LeavesEntry = with_hw m h hw_outside
 hw_exit_answered m h hw mode (StopsAtWrite gpa) = hw_write_stopped m h hw gpa
-hw_exit_answered m h hw mode (LoadsDevice rd address width signed gpa) =
-    hw_device_load m h hw mode rd address width signed (device_load m.devices gpa width)
-hw_exit_answered m h hw mode (StoresDevice address gpa width value) =
-    hw_device_store m h hw mode address (device_store m.devices m.journal gpa width value)
+hw_exit_answered m h hw mode (LoadsDevice load) =
+    hw_device_load m h hw mode load.rd load.address load.width load.signed (device_load m.devices load.gpa load.width)
+hw_exit_answered m h hw mode (StoresDevice store) =
+    hw_device_store m h hw mode store.address (device_store m.devices m.journal store.gpa store.width store.value)
 hw_exit_answered m h hw mode Calls = served_call m h hw
 
 unfoldable pub hw_exit : Machine → ℕ → HwHart → Mode → Exit → Machine

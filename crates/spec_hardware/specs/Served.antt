@@ -58,11 +58,13 @@ fetch_answer ram Kernel exit =
 
 -- plain loads and stores reach device registers
 unfoldable pub load_answer : Exit → Option Effect → ExitAnswer
-load_answer exit (Some (Effect.Load rd address width signed)) = LoadsDevice rd exit.stval width signed (device_gpa exit)
+load_answer exit (Some (Effect.Load rd address width signed)) =
+    LoadsDevice (record { rd = rd; address = exit.stval; width = width; signed = signed; gpa = device_gpa exit })
 load_answer exit _ = raises Cause.LoadAccess exit.stval
 
 unfoldable pub store_answer : Exit → Option Effect → ExitAnswer
-store_answer exit (Some (Effect.Store address width value)) = StoresDevice exit.stval (device_gpa exit) width value
+store_answer exit (Some (Effect.Store address width value)) =
+    StoresDevice (record { address = exit.stval; gpa = device_gpa exit; width = width; value = value })
 store_answer exit _ = raises Cause.StoreAccess exit.stval
 
 -- a page of RAM that refuses a store is protected
@@ -172,10 +174,10 @@ exit_answered r h hart Returns = returned_from_trap r h hart
 exit_answered r h hart (Demotes gpa) = demote r h hart gpa
 exit_answered r h hart LeavesEntry = turn (leave_entry r h hart) h
 exit_answered r h hart (StopsAtWrite gpa) = write_stopped r h hart gpa
-exit_answered r h hart (LoadsDevice rd address width signed gpa) =
-    carry_out_device_load r h hart rd address width signed (device_load r.devices gpa width)
-exit_answered r h hart (StoresDevice address gpa width value) =
-    carry_out_device_store r h hart address (device_store r.devices r.journal gpa width value)
+exit_answered r h hart (LoadsDevice load) =
+    carry_out_device_load r h hart load.rd load.address load.width load.signed (device_load r.devices load.gpa load.width)
+exit_answered r h hart (StoresDevice store) =
+    carry_out_device_store r h hart store.address (device_store r.devices r.journal store.gpa store.width store.value)
 exit_answered r h hart Calls = call r h hart
 
 unfoldable pub serve_exit : State → ℕ → Hart → Exit → State

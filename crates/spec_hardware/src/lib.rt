@@ -6,7 +6,7 @@ ghost use Rattle.spec_hardware.specs.Frame.{FrameLaw};
 
 mod exits;
 
-pub use exits::ExitAnswer;
+pub use exits::{ExitAnswer, Load, Store};
 
 /// No answer of SecVisor's changes guest RAM, the size of the tables, the policy, time, what was printed, or the counts of
 /// printed bytes that were taken away and of attempts. Other harts stay but for their software interrupts, and the hart itself

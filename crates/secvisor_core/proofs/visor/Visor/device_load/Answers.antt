@@ -9,7 +9,7 @@ pub returns-clause-answer : goal.returns-clause-answer
 unfolding hw_exit_answered
 returns-clause-answer c =
     answers c.args.self.now c.args.hardware.now c.args.journal.now c.args.hart c.index_mut-slot.result.now c.index_mut-slot.ensures.value
-    (λ m hw mode. hw_exit_answered m c.args.hart hw mode (LoadsDevice c.args.load.rd c.args.load.address c.args.load.width c.args.load.signed c.args.load.gpa))
+    (λ m hw mode. hw_exit_answered m c.args.hart hw mode (LoadsDevice c.args.load))
     c.device_load.new.slot c.device_load.new.devices c.device_load.new.journal c.requires.hart.there c.requires.joined
     (c.device_load.ensures.machine (machine_of c.args.self.now c.args.hardware.now c.args.journal.now) c.requires.joined.entries c.requires.joined.bound)
 

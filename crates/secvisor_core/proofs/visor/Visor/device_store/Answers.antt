@@ -9,7 +9,7 @@ pub returns-clause-answer : goal.returns-clause-answer
 unfolding hw_exit_answered
 returns-clause-answer c =
     answers c.args.self.now c.args.hardware.now c.args.journal.now c.args.hart c.index_mut-slot.result.now c.index_mut-slot.ensures.value
-    (λ m hw mode. hw_exit_answered m c.args.hart hw mode (StoresDevice c.args.store.address c.args.store.gpa c.args.store.width c.args.store.value))
+    (λ m hw mode. hw_exit_answered m c.args.hart hw mode (StoresDevice c.args.store))
     c.device_store.new.slot c.device_store.new.devices c.device_store.new.journal c.requires.hart.there c.requires.joined
     (c.device_store.ensures.machine (machine_of c.args.self.now c.args.hardware.now c.args.journal.now) c.requires.joined.entries c.requires.joined.bound)
 
