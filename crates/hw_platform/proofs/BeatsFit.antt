@@ -13,7 +13,9 @@ use Rattle.spec_reference.specs.States.{Disk, BlockDevice, BlockDisk, VirtioDisk
 use Rattle.spec_reference.specs.VirtioDevice.{VirtioDevice, Request}
 use Rattle.spec_reference.specs.VirtioQueue.{rings_in_ram, available_index, next_head, waiting_count}
 use Rattle.spec_reference.specs.VirtioChain.{chain, max_parts, is_good_chain}
-use Rattle.spec_reference.specs.VirtioBeats.{VirtioBeat, nothing, broken_beat, with_request, last_moves_alone, with_written, to_memory, to_disk, put_last, finish_request, make, make_first, accept_request, accept, look, go_on, is_live, virtio_beat}
+use Rattle.spec_reference.specs.VirtioBeats.{VirtioBeat, nothing, broken_beat, with_request, last_moves_alone, with_written, to_memory}
+use Rattle.spec_reference.specs.VirtioBeats.{to_disk, put_last, finish_request, make, make_first, accept_request, accept, look, go_on}
+use Rattle.spec_reference.specs.VirtioBeats.{is_live, virtio_beat}
 use Rattle.spec_reference.specs.BlockDisk.{block_beat, is_busy, block_to_disk, transfer_ended, block_after_beat, beat_gpa, beat_place, beat_size, is_to_memory}
 use Rattle.spec_reference.specs.Attacker.{poke_move}
 use Rattle.spec_reference.specs.Disk.{disk_beat}

@@ -61,7 +61,9 @@ pub(crate) fn attempt<W: InterruptLines>(
     requires count { CanCount cpu.old }
     requires ready { IsReady mem.old (hart_in (hw_harts_of slots.old) hart) (W.seen interrupt_lines.now) }
     ensures counted { cpu.new ≡ cpu.old + 1 }
-    ensures harts { hw_harts_of slots.new ≡ all_forget result (update (hw_harts_of slots.old) hart (with_core (attempt mem.old (hart_in (hw_harts_of slots.old) hart).core (W.seen interrupt_lines.now)).core)) }
+    ensures harts { hw_harts_of slots.new ≡
+        all_forget result
+        (update (hw_harts_of slots.old) hart (with_core (attempt mem.old (hart_in (hw_harts_of slots.old) hart).core (W.seen interrupt_lines.now)).core)) }
     ensures region { mem.new ≡ (attempt mem.old (hart_in (hw_harts_of slots.old) hart).core (W.seen interrupt_lines.now)).region }
     ensures outcome { result ≡ (attempt mem.old (hart_in (hw_harts_of slots.old) hart).core (W.seen interrupt_lines.now)).outcome }
     ensures aligned { (hart_in (hw_harts_of slots.new) hart).core.pc % instruction_size ≡ 0 }

@@ -30,7 +30,8 @@ fn batch_in_slot(
     requires free { (hw_at slot.old).core.reservation ≡ None }
     requires usable { IsUsable mem.old.tables own.old }
     requires count { words.old + most < 2 ^ 64 }
-    ensures ends { (lines : Lines) → pending (hw_at slot.old).core.hregs (hw_at slot.old).core.csrs lines ≡ None → EndsBy result.left result.made mem.old (hw_at slot.old).core lines mem.new (hw_at slot.new).core }
+    ensures ends { (lines : Lines) → pending (hw_at slot.old).core.hregs (hw_at slot.old).core.csrs lines ≡ None →
+        EndsBy result.left result.made mem.old (hw_at slot.old).core lines mem.new (hw_at slot.new).core }
     ensures hw { hw_at slot.new ≡ with_core (hw_at slot.new).core (hw_at slot.old) }
     ensures aligned { (hw_at slot.new).core.pc % instruction_size ≡ 0 }
     ensures free { (hw_at slot.new).core.reservation ≡ None }
@@ -66,7 +67,9 @@ pub(crate) fn batch(
     requires walks { WalksUnderRoot mem.old (hart_in (hw_harts_of slots.old) hart) }
     requires free { AreFree (hw_harts_of slots.old) }
     requires count { words.old + most < 2 ^ 64 }
-    ensures ends { (lines : Lines) → pending (hart_in (hw_harts_of slots.old) hart).core.hregs (hart_in (hw_harts_of slots.old) hart).core.csrs lines ≡ None → EndsBy result.left result.made mem.old (hart_in (hw_harts_of slots.old) hart).core lines mem.new (hart_in (hw_harts_of slots.new) hart).core }
+    ensures ends { (lines : Lines) →
+        pending (hart_in (hw_harts_of slots.old) hart).core.hregs (hart_in (hw_harts_of slots.old) hart).core.csrs lines ≡ None →
+        EndsBy result.left result.made mem.old (hart_in (hw_harts_of slots.old) hart).core lines mem.new (hart_in (hw_harts_of slots.new) hart).core }
     ensures harts { hw_harts_of slots.new ≡ update (hw_harts_of slots.old) hart (with_core (hart_in (hw_harts_of slots.new) hart).core) }
     ensures aligned { (hart_in (hw_harts_of slots.new) hart).core.pc % instruction_size ≡ 0 }
     ensures free { AreFree (hw_harts_of slots.new) }

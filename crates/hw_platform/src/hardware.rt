@@ -50,7 +50,8 @@ impl Hardware {
         requires there { hart < length self.old.slots.items }
         requires count { CanCount (attempts_of self.old) }
         requires ready { IsReady self.old.mem (hart_in (hw_harts_of self.old.slots.items) hart) (lines_at self.old.devices hart) }
-        ensures machine { (m : Machine) → with_hardware m self.new ≡ after_attempt (with_hardware m self.old) hart (attempt_of (with_hardware m self.old) hart (hart_in (hw_harts_of self.old.slots.items) hart)) }
+        ensures machine { (m : Machine) → with_hardware m self.new ≡
+            after_attempt (with_hardware m self.old) hart (attempt_of (with_hardware m self.old) hart (hart_in (hw_harts_of self.old.slots.items) hart)) }
         ensures outcome { (m : Machine) → result ≡ (attempt_of (with_hardware m self.old) hart (hart_in (hw_harts_of self.old.slots.items) hart)).outcome }
         ensures aligned { (hart_in (hw_harts_of self.new.slots.items) hart).core.pc % instruction_size ≡ 0 }
         ensures number { length self.new.slots.items ≡ length self.old.slots.items }
@@ -80,8 +81,12 @@ impl Hardware {
         requires walks { WalksUnderRoot self.old.mem (hart_in (hw_harts_of self.old.slots.items) hart) }
         requires free { AreFree (hw_harts_of self.old.slots.items) }
         requires count { attempts_of self.old + most < 2 ^ 64 }
-        ensures ends { (lines : Lines) → pending (hart_in (hw_harts_of self.old.slots.items) hart).core.hregs (hart_in (hw_harts_of self.old.slots.items) hart).core.csrs lines ≡ None → EndsBy result.left result.made self.old.mem (hart_in (hw_harts_of self.old.slots.items) hart).core lines self.new.mem (hart_in (hw_harts_of self.new.slots.items) hart).core }
-        ensures harts { hw_harts_of self.new.slots.items ≡ update (hw_harts_of self.old.slots.items) hart (with_core (hart_in (hw_harts_of self.new.slots.items) hart).core) }
+        ensures ends { (lines : Lines) →
+            pending (hart_in (hw_harts_of self.old.slots.items) hart).core.hregs (hart_in (hw_harts_of self.old.slots.items) hart).core.csrs lines ≡
+            None → EndsBy result.left result.made self.old.mem (hart_in (hw_harts_of self.old.slots.items) hart).core lines self.new.mem
+            (hart_in (hw_harts_of self.new.slots.items) hart).core }
+        ensures harts { hw_harts_of self.new.slots.items ≡
+            update (hw_harts_of self.old.slots.items) hart (with_core (hart_in (hw_harts_of self.new.slots.items) hart).core) }
         ensures aligned { (hart_in (hw_harts_of self.new.slots.items) hart).core.pc % instruction_size ≡ 0 }
         ensures free { AreFree (hw_harts_of self.new.slots.items) }
         ensures most { turns_of result ≤ most }
@@ -107,7 +112,9 @@ impl Hardware {
     pub fn is_interrupted(&self, hart: u8) -> bool
         requires whole { IsWhole self.now }
         requires there { hart < length self.now.slots.items }
-        ensures { result ≡ false → pending (hart_in (hw_harts_of self.now.slots.items) hart).core.hregs (hart_in (hw_harts_of self.now.slots.items) hart).core.csrs (lines_at self.now.devices hart) ≡ None }
+        ensures { result ≡ false →
+            pending (hart_in (hw_harts_of self.now.slots.items) hart).core.hregs (hart_in (hw_harts_of self.now.slots.items) hart).core.csrs
+            (lines_at self.now.devices hart) ≡ None }
     {
         let slot = &self.slots[hart as usize];
         if slot.hart.core.csrs.hie == 0 {

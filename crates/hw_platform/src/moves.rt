@@ -34,7 +34,12 @@ impl Hardware {
     pub fn beat(&mut self, dma: &DmaGuard) -> DmaStep
         requires whole { IsWhole self.old }
         ensures told { result ≡ beat_of (disk_beat self.old.devices.disk self.old.mem.ram (is_writable dma.now)).move }
-        ensures machine { (m : Machine) → with_hardware m self.new ≡ told_cleared (record (with_hardware m self.old) { region = after_move self.old.mem (disk_beat self.old.devices.disk self.old.mem.ram (is_writable dma.now)).move; devices = record self.old.devices { disk = (disk_beat self.old.devices.disk self.old.mem.ram (is_writable dma.now)).disk } }) result }
+        ensures machine { (m : Machine) → with_hardware m self.new ≡
+            told_cleared
+            (record (with_hardware m self.old) {
+              region = after_move self.old.mem (disk_beat self.old.devices.disk self.old.mem.ram (is_writable dma.now)).move;
+              devices = record self.old.devices { disk = (disk_beat self.old.devices.disk self.old.mem.ram (is_writable dma.now)).disk };
+            }) result }
         ensures whole { IsWhole self.new }
         ensures kept { KeepsMemory self.old self.new }
     {
@@ -48,7 +53,9 @@ impl Hardware {
     pub fn poke(&mut self, dma: &DmaGuard, gpa: u64, value: u64) -> DmaStep
         requires whole { IsWhole self.old }
         ensures told { result ≡ beat_of (poke_move self.old.mem.ram (is_writable dma.now) gpa value) }
-        ensures machine { (m : Machine) → with_hardware m self.new ≡ told_cleared (record (with_hardware m self.old) { region = after_move self.old.mem (poke_move self.old.mem.ram (is_writable dma.now) gpa value) }) result }
+        ensures machine { (m : Machine) → with_hardware m self.new ≡
+            told_cleared
+            (record (with_hardware m self.old) { region = after_move self.old.mem (poke_move self.old.mem.ram (is_writable dma.now) gpa value) }) result }
         ensures whole { IsWhole self.new }
         ensures kept { KeepsMemory self.old self.new }
     {

@@ -64,7 +64,8 @@ told_load hart w op rd tells same =
     let given = effect_given hart (load_htinst w) (load op (load_htinst w)) (found (load_htinst w) 0x707F tells.value (load op) fits tells.only) in
     record {
       address = plus (register hart.registers (rs1 (load_htinst w))) (immediate (imm_i (load_htinst w)));
-      effect = given ∙ ap (λ (n : ℕ). Some (Effect.Load n (plus (register hart.registers (rs1 (load_htinst w))) (immediate (imm_i (load_htinst w)))) (load_width op) (load_signed op))) (rd_kept w ∙ sym same);
+      effect = given ∙
+          ap (λ (n : ℕ). Some (Effect.Load n (plus (register hart.registers (rs1 (load_htinst w))) (immediate (imm_i (load_htinst w)))) (load_width op) (load_signed op))) (rd_kept w ∙ sym same);
       explicit = explicit_by (load_htinst w) tells.value 0x03 (load_htinst w == implicit_read) refl fits tells.opcode (λ e. cc);
     }
 
@@ -75,7 +76,9 @@ told_store hart w op rs2 tells same =
     let given = effect_given hart (store_htinst w) (store op (store_htinst w)) (found (store_htinst w) 0x707F tells.value (store op) fits tells.only) in
     record {
       address = plus (register hart.registers (rs1 (store_htinst w))) (immediate (imm_s (store_htinst w)));
-      effect = given ∙ ap (λ (n : ℕ). Some (Effect.Store (plus (register hart.registers (rs1 (store_htinst w))) (immediate (imm_s (store_htinst w)))) (store_width op) (register hart.registers n))) (rs2_kept w ∙ sym same);
+      effect = given ∙
+          ap (λ (n : ℕ). Some (Effect.Store (plus (register hart.registers (rs1 (store_htinst w))) (immediate (imm_s (store_htinst w)))) (store_width op)
+          (register hart.registers n))) (rs2_kept w ∙ sym same);
       explicit = explicit_by (store_htinst w) tells.value 0x23 (store_htinst w == implicit_read) refl fits tells.opcode (λ e. cc);
     }
 

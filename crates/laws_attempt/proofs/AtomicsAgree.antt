@@ -4,7 +4,8 @@ use Rattle.std.specs.Prelude.{Some, None, if◌then◌else◌, Ok, ◌==◌}
 use Rattle.spec_processor.specs.Bytes.{word, write_word, low_bytes, ram_offset, in_ram, page_size}
 use Rattle.spec_processor.specs.Effects.{amo_value}
 use Rattle.spec_processor.specs.Hardware.{Attempted, with_region}
-use Rattle.spec_processor.specs.HardwareMemory.{after_load_reserved, after_store_conditional, after_amo, fault_exception, implicit_read, with_reservation, retire_with, write_at, behind_write, aligned_translation}
+use Rattle.spec_processor.specs.HardwareMemory.{after_load_reserved, after_store_conditional, after_amo, fault_exception, implicit_read}
+use Rattle.spec_processor.specs.HardwareMemory.{with_reservation, retire_with, write_at, behind_write, aligned_translation}
 use Rattle.spec_processor.specs.HypervisorRegisters.{HypervisorRegisters}
 use Rattle.spec_processor.specs.Regions.{IsWidth, host_word, write_host}
 use Rattle.spec_processor.specs.Requests.{loaded_value, reserved_at, covers, after_write}
@@ -21,7 +22,8 @@ use Rattle.laws_processor.proofs.Reservations.{after_write_after, covers_after}
 use Rattle.spec_reference.specs.States.{State, Hart, without_reservation}
 use Rattle.spec_reference.specs.Devices.{hart_after_write}
 use Rattle.spec_reference.specs.Trapping.{exception}
-use Rattle.spec_reference.specs.Requests.{carried_out, stepped_with, carried_out_writing, ram_word, write_stopped, source_of, target_of, FromRam, ToRam, carry_out_load_reserved, carry_out_store_conditional, carry_out_amo}
+use Rattle.spec_reference.specs.Requests.{carried_out, stepped_with, carried_out_writing, ram_word, write_stopped, source_of, target_of}
+use Rattle.spec_reference.specs.Requests.{FromRam, ToRam, carry_out_load_reserved, carry_out_store_conditional, carry_out_amo}
 use Rattle.spec_hardware.specs.Served.{exit_answered, plain_answer, load_answer, write_answer, store_answer, transformed_effect}
 use Rattle.laws_attempt.proofs.Plain.{serve_plain}
 use Rattle.spec_hardware.specs.StandsFor.{Unseen}
@@ -187,7 +189,8 @@ sc_agrees o r h hart c rd address width value htinst at word whole kept =
 
 amo_writes : (o : Unseen) (r : State) (hart : Hart) (c : HypervisorRegisters) (rd width : ℕ) (op : AmoOp) (value p : ℕ)
     → with_region (write_host (region_at o r) (length o.tables + p) width (amo_value op width (host_word (region_at o r) (length o.tables + p) width) value))
-    (retire_with (behind_write (core_at o c hart) (length o.tables + p) width) rd (loaded_value true width (host_word (region_at o r) (length o.tables + p) width)) (write_at (length o.tables + p) width))
+    (retire_with (behind_write (core_at o c hart) (length o.tables + p) width) rd (loaded_value true width (host_word (region_at o r) (length o.tables + p) width))
+    (write_at (length o.tables + p) width))
     ≡ record {
       region = with_ram o.tables (write_word r.ram p width (amo_value op width (word r.ram p width) value));
       core = core_at o c (hart_after_write p width (stepped_with hart rd (loaded_value true width (word r.ram p width))));

@@ -19,7 +19,8 @@ use Rattle.laws_processor.proofs.GuestViews.{guest_pending}
 use Rattle.spec_reference.specs.States.{State, Hart, Loading}
 use Rattle.spec_reference.specs.Devices.{lines_at}
 use Rattle.spec_reference.specs.Trapping.{take_interrupt}
-use Rattle.spec_reference.specs.Turn.{fetch_and_act, fetch_in_entry, bound_entry, outside_entry, leave_entry, turn, turn_of, turn_of_started, carry_out_instruction, carry_out_word, act_on_pending, act}
+use Rattle.spec_reference.specs.Turn.{fetch_and_act, fetch_in_entry, bound_entry, outside_entry, leave_entry, turn, turn_of}
+use Rattle.spec_reference.specs.Turn.{turn_of_started, carry_out_instruction, carry_out_word, act_on_pending, act}
 use Rattle.spec_hardware.specs.Served.{plain_answer, exit_answered}
 use Rattle.laws_attempt.proofs.Plain.{serve_plain}
 use Rattle.spec_hardware.specs.StandsFor.{Unseen, hregs_in, hw_core}

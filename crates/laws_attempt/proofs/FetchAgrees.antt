@@ -27,7 +27,8 @@ use Rattle.spec_reference.specs.States.{State, Hart, Binding, binding_at}
 use Rattle.spec_reference.specs.Devices.{lines_at}
 use Rattle.spec_reference.specs.Trapping.{exception}
 use Rattle.spec_reference.specs.Requests.{settings_of}
-use Rattle.spec_reference.specs.Turn.{NoWord, fetched_in, fetched_at, fetch, demote, act_on_fetch, carry_out_word, fetch_and_act, place_of_pc, leads_into, noted_gpa, outside_entry, leave_entry, fetch_in_entry, bound_entry, turn}
+use Rattle.spec_reference.specs.Turn.{NoWord, fetched_in, fetched_at, fetch, demote, act_on_fetch, carry_out_word, fetch_and_act}
+use Rattle.spec_reference.specs.Turn.{place_of_pc, leads_into, noted_gpa, outside_entry, leave_entry, fetch_in_entry, bound_entry, turn}
 use Rattle.spec_hardware.specs.Served.{seen_of, serve_exit, exit_answer, answer_in, entry_answer, plain_answer, exit_answered, fetch_answer, is_fetch_exit, exit_ram_gpa}
 use Rattle.spec_hardware.specs.declared.exits.ExitAnswer.TheVariants.{Demotes, LeavesEntry}
 use Rattle.laws_attempt.proofs.Plain.{serve_plain}
@@ -267,7 +268,8 @@ inside_agrees o r h hart c entry i at words in_entry bound again kernel aligned 
     subst (λ (m : Mode). Agrees o r h hart c
     (after_fetch (region_at o r) (core_at o c hart) (lines_at r.devices h)
     (place_or_exception Access.Fetch hart.pc 0 (under o r (OfEntry (page_of entry.gpa)) Access.Fetch (place_of_pc r hart))))
-    (if leads_into r (page_of entry.gpa) (place_of_pc r hart) then act_on_fetch r h hart (fetched_at r.ram r.approved m (place_of_pc r hart)) else turned_away r h hart entry (noted_gpa r.ram (place_of_pc r hart)))) (sym kernel)
+    (if leads_into r (page_of entry.gpa) (place_of_pc r hart) then act_on_fetch r h hart (fetched_at r.ram r.approved m (place_of_pc r hart)) else
+    turned_away r h hart entry (noted_gpa r.ram (place_of_pc r hart)))) (sym kernel)
     (bound_at o r h hart c entry i (place_of_pc r hart) at words in_entry bound again aligned
     (first_stage_keeps (entry_in_ram r.ram) (settings_of hart.supervisor) hart.mode hart.pc Access.Fetch))
 

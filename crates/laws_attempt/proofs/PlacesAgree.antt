@@ -16,7 +16,8 @@ use Rattle.spec_processor.specs.declared.translation.Fault.{Fault}
 use Rattle.spec_processor.specs.declared.access.Access.TheVariants as Access
 use Rattle.laws_attempt.proofs.Everywhere.{Keeps, first_stage_keeps}
 use Rattle.spec_reference.specs.States.{State, Hart, is_protected}
-use Rattle.spec_reference.specs.Requests.{Source, FromRam, FromDevice, NoSource, source_at, load_source, source_of, Target, ToRam, ToDevice, Guarded, NoTarget, target_at, store_target, target_of, settings_of}
+use Rattle.spec_reference.specs.Requests.{Source, FromRam, FromDevice, NoSource, source_at, load_source, source_of, Target, ToRam, ToDevice}
+use Rattle.spec_reference.specs.Requests.{Guarded, NoTarget, target_at, store_target, target_of, settings_of}
 use Rattle.spec_hardware.specs.StandsFor.{Unseen}
 use Rattle.laws_attempt.specs.Agree.{IsAt, Agrees, region_at, core_at}
 use Rattle.laws_attempt.proofs.Under.{under, sight_of_hart, translated_under, access_in_ram, moved, stores_permitted}

@@ -21,7 +21,8 @@ use Rattle.laws_attempt.proofs.Everywhere.{Keeps, first_stage_keeps}
 use Rattle.spec_reference.specs.States.{State, Hart, is_protected}
 use Rattle.spec_reference.specs.Devices.{device_store, hart_after_write}
 use Rattle.spec_reference.specs.Trapping.{exception}
-use Rattle.spec_reference.specs.Requests.{at_next_instruction, carried_out_writing, carry_out_device_store, write_stopped, ToRam, ToDevice, Guarded, NoTarget, target_at, store_target, target_of, settings_of, carry_out_store}
+use Rattle.spec_reference.specs.Requests.{at_next_instruction, carried_out_writing, carry_out_device_store, write_stopped, ToRam, ToDevice}
+use Rattle.spec_reference.specs.Requests.{Guarded, NoTarget, target_at, store_target, target_of, settings_of, carry_out_store}
 use Rattle.spec_hardware.specs.Served.{exit_answered, plain_answer, write_answer, store_answer, transformed_effect}
 use Rattle.laws_attempt.proofs.Plain.{serve_plain}
 use Rattle.spec_hardware.specs.StandsFor.{Unseen}

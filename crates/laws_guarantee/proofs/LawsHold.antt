@@ -36,7 +36,9 @@ use Rattle.laws_invariants.proofs.Lookups.{both}
 use Rattle.laws_invariants.proofs.BeatsSound.{FreeMove, beat_page, beat_sound, free_with_disk, poke_sound}
 use Rattle.laws_invariants.proofs.StepsSound.{counted_sound}
 use Rattle.laws_invariants.proofs.EntriesHold.{runs_on}
-use Rattle.laws_guarantee.specs.Guarantee.{move_gpa, first_gpa, request_gpa, disk_gpa, device_gpa, IsMeasuredPage, IsMeasuredWord, KernelTurn, Loads, Interrupts, Traps, Demotes, DemotesAtEntry, Executes, KernelWordsLaw, Enters, ByTrap, ByStart, EntriesLaw, Leaves, ByReturn, ByDemotion, ByStop, ExitsLaw, ProtectedBytesLaw}
+use Rattle.laws_guarantee.specs.Guarantee.{move_gpa, first_gpa, request_gpa, disk_gpa, device_gpa, IsMeasuredPage, IsMeasuredWord}
+use Rattle.laws_guarantee.specs.Guarantee.{KernelTurn, Loads, Interrupts, Traps, Demotes, DemotesAtEntry, Executes, KernelWordsLaw, Enters}
+use Rattle.laws_guarantee.specs.Guarantee.{ByTrap, ByStart, EntriesLaw, Leaves, ByReturn, ByDemotion, ByStop, ExitsLaw, ProtectedBytesLaw}
 use Rattle.laws_guarantee.proofs.Does.{IsMoving, Own, Same, Entered, Returned, Demoted, Halted, Other, Rests, Begins, page_kept}
 use Rattle.laws_guarantee.proofs.TurnCases.{Attempts, ByInterrupt, ByFault, ByStray, ByPlace, ByWord, act_is}
 use Rattle.laws_invariants.specs.StateLaws.{HasOrigin, HasOrigins}

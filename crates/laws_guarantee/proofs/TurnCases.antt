@@ -22,7 +22,9 @@ use Rattle.spec_reference.specs.Run.{step}
 use Rattle.spec_reference.specs.Soundness.{IsSound}
 use Rattle.spec_reference.specs.States.{State, Hart, Binding, has_number, is_protected}
 use Rattle.spec_reference.specs.Trapping.{trap_from}
-use Rattle.spec_reference.specs.Turn.{going_hart, after_going, Fetched, NoWord, Stray, Word, fetched_in, fetched_at, fetch, fetch_of, place_of_pc, leads_into, noted_gpa, fetch_in_entry, bound_entry, demote, act_on_fetch, act_on_pending, act, carry_out_word}
+use Rattle.spec_reference.specs.Turn.{going_hart, after_going, Fetched, NoWord, Stray, Word, fetched_in, fetched_at, fetch, fetch_of}
+use Rattle.spec_reference.specs.Turn.{place_of_pc, leads_into, noted_gpa, fetch_in_entry, bound_entry, demote, act_on_fetch, act_on_pending}
+use Rattle.spec_reference.specs.Turn.{act, carry_out_word}
 use Rattle.laws_attempt.proofs.AttemptsAgree.{turn_is}
 use Rattle.laws_invariants.proofs.EntriesHold.{running}
 use Rattle.laws_guarantee.specs.UserTraps.{UserTrap, user_trap, pending_trap, fetch_trap}

@@ -27,11 +27,17 @@ use Rattle.spec_reference.specs.Devices.{DeviceLoad, DeviceStore, Port, ConsoleA
 use Rattle.spec_reference.specs.Disk.{disk_store}
 use Rattle.spec_reference.specs.Loads.{decide, is_good_load, load_step_of}
 use Rattle.spec_reference.specs.ModuleCalls.{answer_of, load_decision}
-use Rattle.spec_reference.specs.Requests.{carried_out, carried_out_writing, Source, NoSource, FromRam, FromDevice, Target, NoTarget, Guarded, ToRam, ToDevice, carry_out_device_load, carry_out_load, carry_out_load_reserved, carry_out_device_store, carry_out_store, write_stopped, carry_out_store_conditional, carry_out_amo, carry_out_csr, source_of, target_of, csr_asked}
+use Rattle.spec_reference.specs.Requests.{carried_out, carried_out_writing, Source, NoSource, FromRam, FromDevice, Target, NoTarget}
+use Rattle.spec_reference.specs.Requests.{Guarded, ToRam, ToDevice, carry_out_device_load, carry_out_load, carry_out_load_reserved}
+use Rattle.spec_reference.specs.Requests.{carry_out_device_store, carry_out_store, write_stopped, carry_out_store_conditional}
+use Rattle.spec_reference.specs.Requests.{carry_out_amo, carry_out_csr, source_of, target_of, csr_asked}
 use Rattle.spec_reference.specs.Soundness.{IsSoundLoad}
 use Rattle.spec_reference.specs.States.{State, Hart, Binding, Devices, Disk, Journal, Loading, has_number, is_protected}
 use Rattle.spec_reference.specs.Trapping.{trap_from, trap_entered, exception, returned_from_trap, hart_at_trap, hart_at_return}
-use Rattle.spec_reference.specs.Turn.{fetch_and_act, place_of_pc, leads_into, noted_gpa, outside_entry, leave_entry, fetch_in_entry, bound_entry, carry_out_kernel_only, carry_out_ecall, carry_out_sret, carry_out_effect, carry_out_instruction, carry_out_word, effect_of_word, Fetched, NoWord, Stray, Word, fetch_of, demote, act_on_fetch, act_on_pending, act, turn_of_started, turn_of, turn}
+use Rattle.spec_reference.specs.Turn.{fetch_and_act, place_of_pc, leads_into, noted_gpa, outside_entry, leave_entry, fetch_in_entry}
+use Rattle.spec_reference.specs.Turn.{bound_entry, carry_out_kernel_only, carry_out_ecall, carry_out_sret, carry_out_effect}
+use Rattle.spec_reference.specs.Turn.{carry_out_instruction, carry_out_word, effect_of_word, Fetched, NoWord, Stray, Word, fetch_of, demote}
+use Rattle.spec_reference.specs.Turn.{act_on_fetch, act_on_pending, act, turn_of_started, turn_of, turn}
 use Rattle.spec_reference.specs.declared.answers.Answer.{Answer}
 use Rattle.spec_reference.specs.declared.answers.SideEffect.{SideEffect}
 use Rattle.spec_reference.specs.declared.answers.SideEffect.TheVariants.{ShutsDown, SendsInterrupts, StartsHart, BeginsLoad}
@@ -48,7 +54,9 @@ use Rattle.laws_invariants.proofs.Sounds.{InFreePage}
 use Rattle.laws_invariants.proofs.StepsSound.{leave_goes}
 use Rattle.laws_guarantee.specs.Guarantee.{Strays, IsOutOfPlace, WritesGuarded}
 use Rattle.laws_guarantee.proofs.StraysAt.{strays}
-use Rattle.laws_guarantee.proofs.Does.{Leaving, Returning, Demoting, IsMoving, Own, Same, Entered, Returned, Demoted, Halted, Other, Rests, Begins, IsNoStop, GoesOn, StopsAtEntry, StopsAtWrite, Does, rests_other, does_nothing, does_set, does_write, choose_does, decide_does, does_for, does_left}
+use Rattle.laws_guarantee.proofs.Does.{Leaving, Returning, Demoting, IsMoving, Own, Same, Entered, Returned, Demoted, Halted, Other, Rests}
+use Rattle.laws_guarantee.proofs.Does.{Begins, IsNoStop, GoesOn, StopsAtEntry, StopsAtWrite, Does, rests_other, does_nothing, does_set}
+use Rattle.laws_guarantee.proofs.Does.{does_write, choose_does, decide_does, does_for, does_left}
 use Rattle.sv_types.proofs.SetElements.{set_other}
 
 -- ---- traps

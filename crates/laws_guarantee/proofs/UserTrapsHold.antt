@@ -18,7 +18,10 @@ use Rattle.sv_types.specs.declared.event.Rule.{Rule}
 use Rattle.sv_types.specs.declared.event.Verdict.{Verdict}
 use Rattle.sv_types.specs.declared.event.Verdict.TheVariants.{Running, Shutdown, Stopped}
 use Rattle.spec_reference.specs.Devices.{with_bytes, DeviceLoad, DeviceStore, device_load, device_store}
-use Rattle.spec_reference.specs.Requests.{Source, NoSource, FromRam, FromDevice, Target, NoTarget, Guarded, ToRam, ToDevice, carry_out_device_load, carry_out_load, carry_out_load_reserved, carry_out_device_store, carry_out_store, carry_out_store_conditional, carry_out_amo, carry_out_csr, source_of, target_of, csr_asked}
+use Rattle.spec_reference.specs.Requests.{Source, NoSource, FromRam, FromDevice, Target, NoTarget, Guarded, ToRam, ToDevice}
+use Rattle.spec_reference.specs.Requests.{carry_out_device_load, carry_out_load, carry_out_load_reserved, carry_out_device_store}
+use Rattle.spec_reference.specs.Requests.{carry_out_store, carry_out_store_conditional, carry_out_amo, carry_out_csr, source_of, target_of}
+use Rattle.spec_reference.specs.Requests.{csr_asked}
 use Rattle.spec_reference.specs.States.{State, Hart}
 use Rattle.spec_reference.specs.Trapping.{trap_from, exception}
 use Rattle.spec_reference.specs.Turn.{Fetched, NoWord, Stray, Word, carry_out_kernel_only, carry_out_ecall, carry_out_sret, carry_out_effect, carry_out_instruction, carry_out_word, act_on_fetch}

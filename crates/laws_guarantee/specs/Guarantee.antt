@@ -28,7 +28,8 @@ use Rattle.spec_reference.specs.Run.{step}
 use Rattle.spec_reference.specs.Soundness.{IsSound}
 use Rattle.spec_reference.specs.States.{State, Hart, Disk, BlockDisk, VirtioDisk, Loading, Binding, has_number, in_kernel, is_approved_in, is_protected}
 use Rattle.spec_reference.specs.Trapping.{hart_at_trap, hart_at_return, trap_from}
-use Rattle.spec_reference.specs.Turn.{NoWord, Word, after_going, bound_entry, carry_out_word, demote, effect_of_word, fetch_of, going_hart, leads_into, noted_gpa, place_of_pc}
+use Rattle.spec_reference.specs.Turn.{NoWord, Word, after_going, bound_entry, carry_out_word, demote, effect_of_word, fetch_of, going_hart}
+use Rattle.spec_reference.specs.Turn.{leads_into, noted_gpa, place_of_pc}
 use Rattle.laws_attempt.specs.Agree.{IsNotLoading}
 use Rattle.laws_invariants.specs.EntryLaws.{TrapsIn}
 use Rattle.laws_invariants.specs.StateLaws.{IsText, IsModulePage, HasOrigins}

@@ -11,12 +11,16 @@ use Rattle.sv_types.specs.declared.virtio.VirtioMove.{VirtioMove}
 use Rattle.sv_types.specs.declared.virtio.VirtioPart.{VirtioPart}
 use Rattle.spec_reference.specs.States.{State, Disk, BlockDevice, BlockDisk, VirtioDisk, is_protected}
 use Rattle.spec_reference.specs.Move.{Move, Idle, FromRam, IntoRam, DeniedAt, OutsideRam}
-use Rattle.spec_reference.specs.BlockDisk.{BlockBeat, block_beat, block_to_memory, block_to_disk, transfer_ended, block_ended, block_after_beat, beat_gpa, beat_place, beat_size, beats_done, one_further, is_busy, is_to_memory, sector_size}
+use Rattle.spec_reference.specs.BlockDisk.{BlockBeat, block_beat, block_to_memory, block_to_disk, transfer_ended, block_ended}
+use Rattle.spec_reference.specs.BlockDisk.{block_after_beat, beat_gpa, beat_place, beat_size, beats_done, one_further, is_busy}
+use Rattle.spec_reference.specs.BlockDisk.{is_to_memory, sector_size}
 use Rattle.spec_reference.specs.VirtioDevice.{VirtioDevice, Request, driver_ok, is_broken}
 use Rattle.spec_reference.specs.VirtioQueue.{rings_in_ram, available_index, next_head, waiting_count}
 use Rattle.spec_reference.specs.VirtioChain.{chain, max_parts, is_good_chain, data_of, result_of}
 use Rattle.spec_reference.specs.VirtioRequests.{sector_of}
-use Rattle.spec_reference.specs.VirtioBeats.{VirtioBeat, nothing, broken_beat, with_request, last_moves_alone, with_written, to_memory, to_disk, put_last, finish_request, make, make_first, next_beat_count, result_in, accept_request, accept, look, go_on, is_live, virtio_beat}
+use Rattle.spec_reference.specs.VirtioBeats.{VirtioBeat, nothing, broken_beat, with_request, last_moves_alone, with_written, to_memory}
+use Rattle.spec_reference.specs.VirtioBeats.{to_disk, put_last, finish_request, make, make_first, next_beat_count, result_in}
+use Rattle.spec_reference.specs.VirtioBeats.{accept_request, accept, look, go_on, is_live, virtio_beat}
 use Rattle.spec_reference.specs.Attacker.{poke_move}
 use Rattle.spec_reference.specs.Devices.{with_disk}
 use Rattle.spec_reference.specs.Disk.{DmaStep, disk_beat}
@@ -119,7 +123,8 @@ reads_sound r d true aligned inside = memory_sound r d (not (is_protected r (pag
 reads_sound r d false aligned inside = record { device = block_sound d (beat_size * (beats_done d.block.status + 1) == sector_size * d.block.count) aligned; move = tt }
 
 inside_sound : (r : State) (d : BlockDevice) (inside : Bool) → d.block.gpa % beat_size ≡ 0 → in_ram r.ram (beat_gpa d.block) beat_size ≡ inside
-    → IsSoundBlockBeat r (if not inside then transfer_ended d BlockStatus.OutOfRange OutsideRam else if is_to_memory d.block.status then block_to_memory d (λ page. not (is_protected r page)) else block_to_disk d r.ram)
+    → IsSoundBlockBeat r (if not inside then transfer_ended d BlockStatus.OutOfRange OutsideRam else if is_to_memory d.block.status then
+    block_to_memory d (λ page. not (is_protected r page)) else block_to_disk d r.ram)
 inside_sound r d true aligned inside = reads_sound r d (is_to_memory d.block.status) aligned inside
 inside_sound r d false aligned inside = record { device = λ busy. cc; move = tt }
 

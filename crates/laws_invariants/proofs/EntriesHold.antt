@@ -1,5 +1,6 @@
 -- After an entry from user mode: the hart's next turn demotes it, or reads the word that the entry is bound to.
-use Rattle.std.proofs.Common.{◌≡◌, ℕ, zero, suc, ◌-◌, ◌/◌, ◌%◌, ◌^◌, ◌≤◌, ◌⊎◌, inl, inr, List, [], ◌∷◌, ◌++◌, length, refl, sym, ◌∙◌, ap, subst, Bool, true, false, ◌&&◌, ◌||◌, arith, bit_and, slice_get}
+use Rattle.std.proofs.Common.{◌≡◌, ℕ, zero, suc, ◌-◌, ◌/◌, ◌%◌, ◌^◌, ◌≤◌, ◌⊎◌, inl, inr, List, [], ◌∷◌, ◌++◌, length, refl, sym, ◌∙◌, ap}
+use Rattle.std.proofs.Common.{subst, Bool, true, false, ◌&&◌, ◌||◌, arith, bit_and, slice_get}
 use Rattle.std.specs.Prelude.{Option, Some, None, if◌then◌else◌, is_some, not, ◌==◌, IsTrue}
 use Rattle.std.proofs.lemmas.Bool.{eqb-true, eq-eqb}
 use Rattle.std.proofs.lemmas.Bool.Decides.{nat_tests}
@@ -28,7 +29,9 @@ use Rattle.spec_reference.specs.Run.{run, step, happen, happen_under}
 use Rattle.spec_reference.specs.Soundness.{IsSound}
 use Rattle.spec_reference.specs.States.{State, Hart, Binding, binding_of, binding_at, place_of_entry, has_number, is_protected}
 use Rattle.spec_reference.specs.Trapping.{trap_from, hart_at_trap}
-use Rattle.spec_reference.specs.Turn.{NoWord, demote, carry_out_word, place_of_pc, leads_into, noted_gpa, fetched_in, fetched_at, fetch, act_on_fetch, fetch_and_act, leave_entry, outside_entry, fetch_in_entry, bound_entry, act_on_pending, act, turn}
+use Rattle.spec_reference.specs.Turn.{NoWord, demote, carry_out_word, place_of_pc, leads_into, noted_gpa, fetched_in, fetched_at, fetch}
+use Rattle.spec_reference.specs.Turn.{act_on_fetch, fetch_and_act, leave_entry, outside_entry, fetch_in_entry, bound_entry, act_on_pending}
+use Rattle.spec_reference.specs.Turn.{act, turn}
 use Rattle.laws_attempt.specs.Agree.{IsNotLoading}
 use Rattle.laws_attempt.proofs.AttemptsAgree.{turn_is, get_back}
 use Rattle.laws_attempt.proofs.Everywhere.{Keeps, first_stage_keeps}

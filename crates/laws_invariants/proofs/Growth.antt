@@ -9,7 +9,9 @@ use Rattle.sv_types.specs.declared.sbi.SbiCode.{SbiCode}
 use Rattle.spec_processor.specs.declared.mode.Mode.{Mode}
 use Rattle.spec_processor.specs.declared.mode.Mode.TheVariants.{Kernel, User}
 use Rattle.spec_reference.specs.States.{State, Journal}
-use Rattle.spec_reference.specs.Counting.{with_count, with_note, printed_low, machine_ended, count_trap, count_return, count_retired, count_denied, count_demote, count_dropped, count_load, count_unload, count_refused, count_turn, count_beat, count_key, count_tick}
+use Rattle.spec_reference.specs.Counting.{with_count, with_note, printed_low, machine_ended, count_trap, count_return, count_retired}
+use Rattle.spec_reference.specs.Counting.{count_denied, count_demote, count_dropped, count_load, count_unload, count_refused, count_turn}
+use Rattle.spec_reference.specs.Counting.{count_beat, count_key, count_tick}
 use Rattle.spec_reference.specs.Answers.{count_answer}
 use Rattle.laws_invariants.specs.GrowthLaws.{NoneFalls, Grows}
 

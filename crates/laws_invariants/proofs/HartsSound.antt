@@ -5,7 +5,9 @@ use Rattle.spec_processor.specs.Traps.{trap_target, mode_at_return}
 use Rattle.std.proofs.lemmas.Bool.{eqb-true}
 use Rattle.std.proofs.lemmas.Nat.{and_le_r}
 use Rattle.spec_processor.specs.Effects.{next_pc, effect_of, even, plus, branch_taken, register, immediate}
-use Rattle.sv_types.specs.Policies.{Rules, rules_within, each_within, entry_within, numbers_within, entries_count_within, entries_within, exports_count_within, exports_within, lists_within, bound_within, init_within, modules_count_within, modules_within}
+use Rattle.sv_types.specs.Policies.{Rules, rules_within, each_within, entry_within, numbers_within, entries_count_within, entries_within}
+use Rattle.sv_types.specs.Policies.{exports_count_within, exports_within, lists_within, bound_within, init_within, modules_count_within}
+use Rattle.sv_types.specs.Policies.{modules_within}
 use Rattle.spec_processor.specs.Registers.{IsLegalSupervisor, write_csr}
 use Rattle.spec_processor.specs.declared.csr.Csr.{Csr}
 use Rattle.spec_processor.specs.declared.effect.Effect.{Effect}
@@ -34,7 +36,13 @@ masked_below value mask small e = let le : bit_and value mask ≤ mask = and_le_
 -- a hart at a pc that is a multiple of 4, with other registers and another reservation
 pub at_pc : {rules : Rules} (hart : Hart) (registers : List ℕ) (pc : ℕ) (reservation : Option ℕ) → IsSoundHart rules hart → pc % 4 ≡ 0 → pc < 2 ^ 64
     → IsSoundHart rules (record hart { registers = registers; pc = pc; reservation = reservation })
-at_pc hart registers pc reservation k aligned small = record { aligned = aligned; small = small; legal = k.legal; entry = k.entry; stopped = λ off. record { mode = (k.stopped off).mode; entry = (k.stopped off).entry } }
+at_pc hart registers pc reservation k aligned small = record {
+  aligned = aligned;
+  small = small;
+  legal = k.legal;
+  entry = k.entry;
+  stopped = λ off. record { mode = (k.stopped off).mode; entry = (k.stopped off).entry };
+}
 
 -- after its instruction
 pub goes_after : {rules : Rules} (hart : Hart) (registers : List ℕ) (reservation : Option ℕ) → IsSoundHart rules hart
@@ -43,12 +51,24 @@ goes_after hart registers reservation k = at_pc hart registers (next_pc hart.pc)
 
 -- where it stands
 pub stays_there : {rules : Rules} (hart : Hart) (reservation : Option ℕ) → IsSoundHart rules hart → IsSoundHart rules (record hart { reservation = reservation })
-stays_there hart reservation k = record { aligned = k.aligned; small = k.small; legal = k.legal; entry = k.entry; stopped = λ off. record { mode = (k.stopped off).mode; entry = (k.stopped off).entry } }
+stays_there hart reservation k = record {
+  aligned = k.aligned;
+  small = k.small;
+  legal = k.legal;
+  entry = k.entry;
+  stopped = λ off. record { mode = (k.stopped off).mode; entry = (k.stopped off).entry };
+}
 
 -- a register access
 pub csr_sound : {rules : Rules} (hart : Hart) (csr : Csr) (value : ℕ) (writes : Bool) → IsSoundHart rules hart
     → IsSoundHart rules (if writes then record hart { supervisor = write_csr hart.supervisor csr value } else hart)
-csr_sound hart csr value true k = record { aligned = k.aligned; small = k.small; legal = guest_write_is_legal hart.supervisor csr value k.legal; entry = k.entry; stopped = λ off. record { mode = (k.stopped off).mode; entry = (k.stopped off).entry } }
+csr_sound hart csr value true k = record {
+  aligned = k.aligned;
+  small = k.small;
+  legal = guest_write_is_legal hart.supervisor csr value k.legal;
+  entry = k.entry;
+  stopped = λ off. record { mode = (k.stopped off).mode; entry = (k.stopped off).entry };
+}
 csr_sound hart csr value false k = k
 
 -- ---- traps and their return
@@ -153,7 +173,8 @@ aligned_among before (x ∷ entries) entry within e =
 -- a permitted entry is an instruction's address
 pub entry_aligned : (rules : Rules) (entry : ℕ) → IsTrue (rules_within rules) → has_number rules.entries entry ≡ true → entry % 4 ≡ 0
 entry_aligned rules entry within e =
-    let lists = second_of (numbers_within rules) (lists_within rules) (init_within rules.ram_pages rules.init) (modules_count_within (length rules.modules)) (modules_within (length rules.exports) rules.modules) within in
+    let lists = second_of (numbers_within rules) (lists_within rules) (init_within rules.ram_pages rules.init) (modules_count_within (length rules.modules))
+    (modules_within (length rules.exports) rules.modules) within in
     aligned_among [] rules.entries entry
     (second_of (entries_count_within (length rules.entries)) (entries_within rules.entries) (exports_count_within (length rules.exports)) (exports_within rules.exports) (bound_within rules) lists) e
 

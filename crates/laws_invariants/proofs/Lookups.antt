@@ -1,6 +1,7 @@
 -- What is found among approved pages and loaded modules after a change of their lists.
 use Rattle.laws_attempt.proofs.LoadsKept.{or_first, or_second}
-use Rattle.std.proofs.Common.{◌≡◌, ℕ, zero, suc, ◌+◌, ◌<◌, ◌≤◌, List, [], ◌∷◌, ◌++◌, filter, map, refl, sym, ◌∙◌, ap, subst, Bool, true, false, not, ◌&&◌, ◌||◌, arith, slice_get, length, length-take, take, drop, min}
+use Rattle.std.proofs.Common.{◌≡◌, ℕ, zero, suc, ◌+◌, ◌<◌, ◌≤◌, List, [], ◌∷◌, ◌++◌, filter, map, refl, sym, ◌∙◌, ap, subst, Bool, true}
+use Rattle.std.proofs.Common.{false, not, ◌&&◌, ◌||◌, arith, slice_get, length, length-take, take, drop, min}
 use Rattle.std.specs.Prelude.{Option, Some, None, if◌then◌else◌, is_some, ◌==◌, nat_lt}
 use Rattle.std.proofs.lemmas.Bool.{eqb-true, and_right, false_from_ne_true}
 use Rattle.std.proofs.lemmas.Bool.Decides.{nat_tests}
@@ -132,7 +133,8 @@ two_ids m first id true false rest a b other = refl
 two_ids m first id false true rest a b other = refl
 two_ids m first id false false rest a b other = refl
 
-not_found : (first : ModulePlacement) (id : ℕ) (b : Bool) (rest : Option ModulePlacement) → (first.id == id) ≡ b → (if b then Some first else rest) ≡ None → ((first.id == id) ≡ true → ⊥) × (rest ≡ None)
+not_found : (first : ModulePlacement) (id : ℕ) (b : Bool) (rest : Option ModulePlacement) → (first.id == id) ≡ b → (if b then Some first else rest) ≡ None →
+    ((first.id == id) ≡ true → ⊥) × (rest ≡ None)
 not_found first id true rest at e = absurd (cc)
 not_found first id false rest at e = (λ t. both (first.id == id) t at, e)
 

@@ -26,10 +26,16 @@ use Rattle.spec_reference.specs.declared.answers.SideEffect.TheVariants.{SendsIn
 use Rattle.spec_reference.specs.Devices.{DeviceLoad, DeviceStore, device_load, device_store, hart_after_write, lines_at, with_bytes}
 use Rattle.spec_reference.specs.Loads.{decide, is_good_load, load_step_of}
 use Rattle.spec_reference.specs.ModuleCalls.{answer_of, load_decision}
-use Rattle.spec_reference.specs.Requests.{carried_out_writing, Source, NoSource, FromRam, FromDevice, Target, NoTarget, Guarded, ToRam, ToDevice, carry_out_device_load, carry_out_load, carry_out_load_reserved, carry_out_device_store, carry_out_store, write_stopped, carry_out_store_conditional, carry_out_amo, carry_out_csr, source_of, target_of, csr_asked}
+use Rattle.spec_reference.specs.Requests.{carried_out_writing, Source, NoSource, FromRam, FromDevice, Target, NoTarget, Guarded, ToRam}
+use Rattle.spec_reference.specs.Requests.{ToDevice, carry_out_device_load, carry_out_load, carry_out_load_reserved, carry_out_device_store}
+use Rattle.spec_reference.specs.Requests.{carry_out_store, write_stopped, carry_out_store_conditional, carry_out_amo, carry_out_csr}
+use Rattle.spec_reference.specs.Requests.{source_of, target_of, csr_asked}
 use Rattle.spec_reference.specs.States.{State, Hart, Binding, Devices, Journal, Loading}
 use Rattle.spec_reference.specs.Trapping.{trap_from, exception, returned_from_trap, may_enter}
-use Rattle.spec_reference.specs.Turn.{place_of_pc, leads_into, outside_entry, leave_entry, fetch_in_entry, bound_entry, carry_out_kernel_only, carry_out_ecall, carry_out_sret, carry_out_effect, carry_out_instruction, carry_out_word, Fetched, NoWord, Stray, Word, fetch_of, act_on_fetch, act_on_pending, act, turn_of_started, turn_of, turn}
+use Rattle.spec_reference.specs.Turn.{place_of_pc, leads_into, outside_entry, leave_entry, fetch_in_entry, bound_entry}
+use Rattle.spec_reference.specs.Turn.{carry_out_kernel_only, carry_out_ecall, carry_out_sret, carry_out_effect, carry_out_instruction}
+use Rattle.spec_reference.specs.Turn.{carry_out_word, Fetched, NoWord, Stray, Word, fetch_of, act_on_fetch, act_on_pending, act}
+use Rattle.spec_reference.specs.Turn.{turn_of_started, turn_of, turn}
 use Rattle.laws_attempt.specs.Agree.{IsNotLoading}
 use Rattle.laws_invariants.proofs.AnswersMay.{MayHaveSideEffect, answer_may}
 use Rattle.laws_invariants.proofs.Lookups.{both}

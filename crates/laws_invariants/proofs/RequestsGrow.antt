@@ -17,7 +17,9 @@ use Rattle.spec_reference.specs.States.{State, Hart, Devices, Disk, Journal}
 use Rattle.spec_reference.specs.Counting.{with_count, count_retired, printed_low}
 use Rattle.spec_reference.specs.Disk.{disk_store}
 use Rattle.spec_reference.specs.Devices.{DeviceLoad, DeviceStore, Port, ConsoleAt, DiskAt, Nowhere, port_at, port_store, device_load, device_store, with_bytes}
-use Rattle.spec_reference.specs.Requests.{carried_out_writing, Source, NoSource, FromRam, FromDevice, Target, NoTarget, Guarded, ToRam, ToDevice, carry_out_device_load, carry_out_load, carry_out_load_reserved, carry_out_device_store, carry_out_store, write_stopped, carry_out_store_conditional, carry_out_amo, carry_out_csr}
+use Rattle.spec_reference.specs.Requests.{carried_out_writing, Source, NoSource, FromRam, FromDevice, Target, NoTarget, Guarded, ToRam}
+use Rattle.spec_reference.specs.Requests.{ToDevice, carry_out_device_load, carry_out_load, carry_out_load_reserved, carry_out_device_store}
+use Rattle.spec_reference.specs.Requests.{carry_out_store, write_stopped, carry_out_store_conditional, carry_out_amo, carry_out_csr}
 use Rattle.spec_reference.specs.Trapping.{trap_from, exception, returned_from_trap, may_enter}
 use Rattle.laws_invariants.proofs.Growth.{Moves, Gains, choose_gains, ended, retires, printed_retired, trapped, returned}
 

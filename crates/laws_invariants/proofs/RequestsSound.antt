@@ -26,10 +26,15 @@ use Rattle.sv_types.specs.declared.block.BlockCommand.{BlockCommand}
 use Rattle.sv_types.specs.declared.block.BlockState.{BlockState}
 use Rattle.sv_types.specs.declared.block.BlockStatus.{BlockStatus}
 use Rattle.spec_reference.specs.VirtioStores.{virtio_store}
-use Rattle.spec_reference.specs.BlockDisk.{BlockRegister, block_register, block_store, block_stored, unless_busy, is_busy, can_begin, block_ended, block_told, beat_size, Sector, Address, Count, Command, Status, sector_size}
+use Rattle.spec_reference.specs.BlockDisk.{BlockRegister, block_register, block_store, block_stored, unless_busy, is_busy, can_begin}
+use Rattle.spec_reference.specs.BlockDisk.{block_ended, block_told, beat_size, Sector, Address, Count, Command, Status, sector_size}
 use Rattle.spec_reference.specs.Disk.{disk_load, disk_store}
 use Rattle.spec_reference.specs.Devices.{DeviceLoad, DeviceStore, Port, ConsoleAt, DiskAt, Nowhere, port_at, device_load_of, port_load, port_store, device_load, device_store}
-use Rattle.spec_reference.specs.Requests.{carried_out, carried_out_writing, settings_of, Source, NoSource, FromRam, FromDevice, Target, NoTarget, Guarded, ToRam, ToDevice, target_at, store_target, target_of, ram_word, carry_out_device_load, carry_out_load, carry_out_load_reserved, carry_out_device_store, carry_out_store, write_stopped, carry_out_store_conditional, carry_out_amo, carry_out_csr, csr_now, with_csr_set}
+use Rattle.spec_reference.specs.Requests.{carried_out, carried_out_writing, settings_of, Source, NoSource, FromRam, FromDevice, Target}
+use Rattle.spec_reference.specs.Requests.{NoTarget, Guarded, ToRam, ToDevice, target_at, store_target, target_of, ram_word}
+use Rattle.spec_reference.specs.Requests.{carry_out_device_load, carry_out_load, carry_out_load_reserved, carry_out_device_store}
+use Rattle.spec_reference.specs.Requests.{carry_out_store, write_stopped, carry_out_store_conditional, carry_out_amo, carry_out_csr}
+use Rattle.spec_reference.specs.Requests.{csr_now, with_csr_set}
 use Rattle.spec_reference.specs.Trapping.{trap_from, exception, returned_from_trap, hart_at_trap, hart_at_return, may_enter}
 use Rattle.spec_reference.specs.Soundness.{IsSound, IsSoundHart, IsSoundBlock, IsSoundDisk}
 use Rattle.laws_attempt.proofs.Everywhere.{Keeps, first_stage_keeps}

@@ -96,7 +96,13 @@ get_map f (x ∷ harts) zero z e = (x, (refl, cc))
 get_map f (x ∷ harts) (suc k) z e = get_map f harts k z e
 
 forgot_sound : {rules : Rules} (place width : ℕ) (hart : Hart) → IsSoundHart rules hart → IsSoundHart rules (hart_after_write place width hart)
-forgot_sound place width hart s = record { aligned = s.aligned; small = s.small; legal = s.legal; entry = s.entry; stopped = λ off. record { mode = (s.stopped off).mode; entry = (s.stopped off).entry } }
+forgot_sound place width hart s = record {
+  aligned = s.aligned;
+  small = s.small;
+  legal = s.legal;
+  entry = s.entry;
+  stopped = λ off. record { mode = (s.stopped off).mode; entry = (s.stopped off).entry };
+}
 
 pub apart : (p q : ℕ) → (p ≡ q → ⊥) → (p < q) ⊎ (q < p)
 apart p q other = elim (lt_or_le p q) [
@@ -114,7 +120,8 @@ pub record InFreePage (r : State) (place : ℕ) (bytes : List ℕ) : Type 0 wher
   pub inside : place + length bytes ≤ length r.ram
 
 other_page : (approved : List ApprovedPage) (page q : ℕ) (bytes : List ℕ) → is_approved_in approved page ≡ false → approved_bytes approved q ≡ Some bytes → q ≡ page → ⊥
-other_page approved page q bytes free found same = let there : approved_bytes approved page ≡ Some bytes = subst (λ (p : ℕ). approved_bytes approved p ≡ Some bytes) same found in let e = rw there at free in cc
+other_page approved page q bytes free found same = let there : approved_bytes approved page ≡ Some bytes = subst (λ (p : ℕ). approved_bytes approved p ≡
+    Some bytes) same found in let e = rw there at free in cc
 
 -- whole pages are left as they are by bytes inside another page
 pub pages_kept : (ram bytes : List ℕ) (at page from n : ℕ) → at + length bytes ≤ length ram → page_size * page ≤ at → at + length bytes ≤ page_size * (page + 1)

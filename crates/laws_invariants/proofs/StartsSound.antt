@@ -1,5 +1,6 @@
 -- A start is sound.
-use Rattle.std.proofs.Common.{◌≡◌, ℕ, zero, suc, ◌+◌, ◌-◌, ◌*◌, ◌/◌, ◌%◌, ◌^◌, ◌<◌, ◌≤◌, inl, inr, List, [], ◌∷◌, length, replicate, map, flat_map, fold, refl, sym, ◌∙◌, ap, subst, Bool, true, false, ◌&&◌, ◌||◌, arith, lit<, slice_get}
+use Rattle.std.proofs.Common.{◌≡◌, ℕ, zero, suc, ◌+◌, ◌-◌, ◌*◌, ◌/◌, ◌%◌, ◌^◌, ◌<◌, ◌≤◌, inl, inr, List, [], ◌∷◌, length, replicate, map}
+use Rattle.std.proofs.Common.{flat_map, fold, refl, sym, ◌∙◌, ap, subst, Bool, true, false, ◌&&◌, ◌||◌, arith, lit<, slice_get}
 use Rattle.std.specs.Prelude.{Some, None, if◌then◌else◌, is_some, ◌==◌, nat_le, nat_lt, IsTrue}
 use Rattle.std.specs.List.{list_any}
 use Rattle.std.proofs.lemmas.Bool.{eqb-true, and_from, cases_Bool}
@@ -7,7 +8,8 @@ use Rattle.std.proofs.lemmas.Bool.Decides.{nat_tests}
 use Rattle.std.proofs.lemmas.List.{length-replicate}
 use Rattle.sv_types.specs.Boot.{flat_ram_pages}
 use Rattle.spec_processor.specs.Bytes.{part, with_padding, page_bytes, page_size, page_of, ram_base, ram_offset}
-use Rattle.sv_types.specs.Kernel.{first_refusal, header_entry, segment_checks, kernel_refusal, kernel_segments, loaded_headers, loaded_segment, is_executable, is_text_of, segments_ram, text_pages, with_segment}
+use Rattle.sv_types.specs.Kernel.{first_refusal, header_entry, segment_checks, kernel_refusal, kernel_segments, loaded_headers}
+use Rattle.sv_types.specs.Kernel.{loaded_segment, is_executable, is_text_of, segments_ram, text_pages, with_segment}
 use Rattle.sv_types.specs.Policies.{Rules, rules_within}
 use Rattle.sv_types.specs.ApprovedPages.{approved_bytes, approved_pages, numbers_from}
 use Rattle.spec_processor.specs.Regions.{max_ram_pages}
@@ -161,7 +163,8 @@ some_text : (file : List ℕ) (ram_pages page : ℕ) (hs : List ProgramHeader) �
     → list_any (is_text_of page) (map (loaded_segment file) hs) ≡ true → page < ram_pages
 some_text file ram_pages page [] none e = cc
 some_text file ram_pages page (h ∷ hs) none e =
-    text_by ram_pages page file h (segment_passed (length file) ram_pages h (first_passed (segment_checks (length file) ram_pages h) _ none)) (is_text_of page (loaded_segment file h)) (list_any (is_text_of page) (map (loaded_segment file) hs)) refl e
+    text_by ram_pages page file h (segment_passed (length file) ram_pages h (first_passed (segment_checks (length file) ram_pages h) _ none))
+    (is_text_of page (loaded_segment file h)) (list_any (is_text_of page) (map (loaded_segment file) hs)) refl e
     (some_text file ram_pages page hs (rest_passed (segment_checks (length file) ram_pages h) _ none))
   where
     text_by : (ram_pages page : ℕ) (file : List ℕ) (h : ProgramHeader) → Passed (length file) ram_pages h → (b rest : Bool) → is_text_of page (loaded_segment file h) ≡ b → (b || rest) ≡ true

@@ -30,7 +30,8 @@ flat_sound s k = subst IsSound (sym k.same)
     (start_sound (flat_rules k.digest) (with_padding k.pages (page_size * flat_ram_pages)) (numbers_from 0 (length k.pages / page_size)) ram_base (block_disk [])
     (flat_can k.pages k.digest k.fits) (block_quiet []))
 
-image_sound : {boot : Rules → (file disk : List ℕ) → State} (s : State) (disk : Disk) (k : StartsBy boot s) → boot k.rules k.file k.disk ≡ image_start k.rules k.file disk → IsSoundDisk disk → IsSound s
+image_sound : {boot : Rules → (file disk : List ℕ) → State} (s : State) (disk : Disk) (k : StartsBy boot s) → boot k.rules k.file k.disk ≡ image_start k.rules k.file disk →
+    IsSoundDisk disk → IsSound s
 image_sound s disk k same quiet = subst IsSound (sym (k.same ∙ same))
     (start_sound k.rules (segments_ram (kernel_segments k.file) k.rules.ram_pages) (text_pages (kernel_segments k.file)) (header_entry k.file) disk
     (image_can k.rules k.file k.bootable.within k.bootable.words k.bootable.accepted k.bootable.entry) quiet)

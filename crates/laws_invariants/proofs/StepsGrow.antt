@@ -25,7 +25,10 @@ use Rattle.spec_reference.specs.Move.{Move, Idle, FromRam, IntoRam, DeniedAt, Ou
 use Rattle.spec_reference.specs.Devices.{lines_at, with_disk, with_bytes, after_move, may_move_to, beat, poke, key, tick}
 use Rattle.spec_reference.specs.Requests.{source_of, target_of, csr_asked}
 use Rattle.spec_reference.specs.Run.{happen, happen_under, step}
-use Rattle.spec_reference.specs.Turn.{place_of_pc, leads_into, noted_gpa, outside_entry, leave_entry, fetch_in_entry, bound_entry, carry_out_kernel_only, carry_out_ecall, carry_out_sret, carry_out_effect, carry_out_instruction, carry_out_word, Fetched, NoWord, Stray, Word, fetch_of, act_on_fetch, act_on_pending, act, turn_of_started, turn_of, turn}
+use Rattle.spec_reference.specs.Turn.{place_of_pc, leads_into, noted_gpa, outside_entry, leave_entry, fetch_in_entry, bound_entry}
+use Rattle.spec_reference.specs.Turn.{carry_out_kernel_only, carry_out_ecall, carry_out_sret, carry_out_effect, carry_out_instruction}
+use Rattle.spec_reference.specs.Turn.{carry_out_word, Fetched, NoWord, Stray, Word, fetch_of, act_on_fetch, act_on_pending, act}
+use Rattle.spec_reference.specs.Turn.{turn_of_started, turn_of, turn}
 use Rattle.laws_invariants.specs.GrowthLaws.{Grows, GrowsLaw}
 use Rattle.laws_invariants.proofs.CallsGrow.{call_gains, load_step_gains}
 use Rattle.laws_invariants.proofs.Growth.{Moves, Gains, choose_gains, still, retires, demotes, denies, drops, turn_grows, beat_grows, key_grows, tick_grows, rests_grows}

@@ -29,7 +29,10 @@ use Rattle.spec_reference.specs.Devices.{lines_at, with_disk, after_move, beat, 
 use Rattle.spec_reference.specs.Trapping.{exception}
 use Rattle.spec_reference.specs.Origins.{ownership}
 use Rattle.spec_reference.specs.Requests.{at_next_instruction, carried_out, source_of, target_of, csr_asked}
-use Rattle.spec_reference.specs.Turn.{fetch_and_act, place_of_pc, leads_into, noted_gpa, outside_entry, leave_entry, fetch_in_entry, bound_entry, carry_out_kernel_only, carry_out_ecall, carry_out_sret, with_set, carry_out_effect, carry_out_instruction, carry_out_word, Fetched, NoWord, Stray, Word, fetch_of, demote, act_on_fetch, act_on_pending, act, turn_of_started, turn_of, turn}
+use Rattle.spec_reference.specs.Turn.{fetch_and_act, place_of_pc, leads_into, noted_gpa, outside_entry, leave_entry, fetch_in_entry}
+use Rattle.spec_reference.specs.Turn.{bound_entry, carry_out_kernel_only, carry_out_ecall, carry_out_sret, with_set, carry_out_effect}
+use Rattle.spec_reference.specs.Turn.{carry_out_instruction, carry_out_word, Fetched, NoWord, Stray, Word, fetch_of, demote, act_on_fetch}
+use Rattle.spec_reference.specs.Turn.{act_on_pending, act, turn_of_started, turn_of, turn}
 use Rattle.spec_reference.specs.Run.{happen, happen_under, step, run}
 use Rattle.spec_reference.specs.Soundness.{IsSound, IsSoundHart}
 use Rattle.laws_attempt.proofs.AllTold.{all_told}
@@ -37,7 +40,8 @@ use Rattle.laws_attempt.proofs.EffectsAgree.{IsTold}
 use Rattle.laws_invariants.proofs.BeatsSound.{FreeMove, IsSoundBeat, beat_page, beat_sound, free_with_disk, poke_sound}
 use Rattle.laws_invariants.proofs.CallsSound.{call_goes, load_step_goes}
 use Rattle.laws_invariants.proofs.HartsSound.{at_pc, demoted_sound, GoesRight, effects_right}
-use Rattle.laws_invariants.proofs.RequestsSound.{exception_goes, trap_goes, return_goes, retire_goes, load_goes, load_reserved_goes, store_goes, store_conditional_goes, amo_goes, target_free, csr_goes}
+use Rattle.laws_invariants.proofs.RequestsSound.{exception_goes, trap_goes, return_goes, retire_goes, load_goes, load_reserved_goes}
+use Rattle.laws_invariants.proofs.RequestsSound.{store_goes, store_conditional_goes, amo_goes, target_free, csr_goes}
 use Rattle.laws_invariants.proofs.Sounds.{Goes, goes_set, goes_beside, goes_bytes, goes_on, choose_goes, decide_goes, text_stays}
 
 -- ---- instructions

@@ -10,7 +10,10 @@ use Rattle.spec_reference.specs.Loads.{is_good_load, decide, load_step_of}
 use Rattle.spec_reference.specs.ModuleCalls.{answer_of, load_decision}
 use Rattle.spec_reference.specs.declared.answers.Answer.{Answer}
 use Rattle.spec_reference.specs.declared.answers.SideEffect.{SideEffect}
-use Rattle.spec_reference.specs.declared.answers.SideEffect.TheVariants.{Nothing, SetsTimer, Prints, TakesInput, ShutsDown, SendsInterrupts, StartsHart, BeginsLoad, RefusesLoad, ApprovesModule, ReleasesModule, UnloadsModule, RefusesUnload, RetiresInit, RefusesRetire}
+use Rattle.spec_reference.specs.declared.answers.SideEffect.TheVariants.{Nothing, SetsTimer, Prints, TakesInput, ShutsDown, SendsInterrupts}
+use Rattle.spec_reference.specs.declared.answers.SideEffect.TheVariants.{StartsHart, BeginsLoad, RefusesLoad, ApprovesModule}
+use Rattle.spec_reference.specs.declared.answers.SideEffect.TheVariants.{ReleasesModule, UnloadsModule, RefusesUnload, RetiresInit}
+use Rattle.spec_reference.specs.declared.answers.SideEffect.TheVariants.{RefusesRetire}
 use Rattle.spec_reference.specs.declared.answers.Reply.{Reply}
 use Rattle.laws_invariants.proofs.Lookups.{approved_front, approved_without}
 use Rattle.laws_resume.specs.Continues.{Alike}

@@ -17,7 +17,10 @@ use Rattle.spec_reference.specs.States.{State, Hart, Disk, is_protected, has_num
 use Rattle.spec_reference.specs.Counting.{printed_low}
 use Rattle.spec_reference.specs.Disk.{disk_store}
 use Rattle.spec_reference.specs.Devices.{DeviceLoad, Port, ConsoleAt, DiskAt, Nowhere, port_at, port_store, device_load, device_store, with_bytes}
-use Rattle.spec_reference.specs.Requests.{carried_out_writing, Source, NoSource, FromRam, FromDevice, Target, NoTarget, Guarded, ToRam, ToDevice, carry_out_device_load, carry_out_load, carry_out_load_reserved, carry_out_device_store, carry_out_store, carry_out_store_conditional, carry_out_amo, carry_out_csr, target_of, store_target, settings_of}
+use Rattle.spec_reference.specs.Requests.{carried_out_writing, Source, NoSource, FromRam, FromDevice, Target, NoTarget, Guarded, ToRam}
+use Rattle.spec_reference.specs.Requests.{ToDevice, carry_out_device_load, carry_out_load, carry_out_load_reserved, carry_out_device_store}
+use Rattle.spec_reference.specs.Requests.{carry_out_store, carry_out_store_conditional, carry_out_amo, carry_out_csr, target_of}
+use Rattle.spec_reference.specs.Requests.{store_target, settings_of}
 use Rattle.spec_reference.specs.Trapping.{trap_from, exception, returned_from_trap, may_enter}
 use Rattle.laws_resume.specs.Continues.{Alike}
 

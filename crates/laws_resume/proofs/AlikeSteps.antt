@@ -25,9 +25,14 @@ use Rattle.spec_reference.specs.Move.{Move, Idle, FromRam, IntoRam, DeniedAt, Ou
 use Rattle.spec_reference.specs.Devices.{lines_at, with_disk, with_bytes, after_move, after_dma_step, beat, poke, key, tick}
 use Rattle.spec_reference.specs.Requests.{source_of, target_of, csr_asked, carry_out_store, carry_out_store_conditional, carry_out_amo, Target}
 use Rattle.spec_reference.specs.Run.{happen, happen_under, step}
-use Rattle.spec_reference.specs.Turn.{place_of_pc, leads_into, noted_gpa, outside_entry, leave_entry, demote, fetch_in_entry, bound_entry, carry_out_kernel_only, carry_out_ecall, carry_out_sret, carry_out_effect, carry_out_instruction, carry_out_word, Fetched, NoWord, Stray, Word, fetch, fetched_at, fetched_in, fetch_of, fetch_and_act, act_on_fetch, act_on_pending, act, turn_of_started, turn_of, turn}
+use Rattle.spec_reference.specs.Turn.{place_of_pc, leads_into, noted_gpa, outside_entry, leave_entry, demote, fetch_in_entry, bound_entry}
+use Rattle.spec_reference.specs.Turn.{carry_out_kernel_only, carry_out_ecall, carry_out_sret, carry_out_effect, carry_out_instruction}
+use Rattle.spec_reference.specs.Turn.{carry_out_word, Fetched, NoWord, Stray, Word, fetch, fetched_at, fetched_in, fetch_of, fetch_and_act}
+use Rattle.spec_reference.specs.Turn.{act_on_fetch, act_on_pending, act, turn_of_started, turn_of, turn}
 use Rattle.laws_resume.specs.Continues.{Alike, AlikeLaw}
-use Rattle.laws_resume.proofs.AlikeRequests.{Twins, second, AlikeAfter, choose_alike, protected_same, exception_alike, trap_alike, return_alike, load_alike, load_reserved_alike, target_same, store_alike, store_conditional_alike, amo_alike, csr_alike}
+use Rattle.laws_resume.proofs.AlikeRequests.{Twins, second, AlikeAfter, choose_alike, protected_same, exception_alike, trap_alike}
+use Rattle.laws_resume.proofs.AlikeRequests.{return_alike, load_alike, load_reserved_alike, target_same, store_alike}
+use Rattle.laws_resume.proofs.AlikeRequests.{store_conditional_alike, amo_alike, csr_alike}
 use Rattle.laws_resume.proofs.AlikeCalls.{call_alike, load_step_alike}
 
 -- ---- instructions

@@ -25,17 +25,25 @@ use Rattle.spec_reference.specs.Answers.{devices_side_effect, state_after_answer
 use Rattle.spec_reference.specs.Calls.{asked_by, facts_of}
 use Rattle.spec_reference.specs.Counting.{count, count_turn, count_beat, count_key, count_tick, printed_low}
 use Rattle.spec_reference.specs.Attacker.{poke_move}
-use Rattle.spec_reference.specs.Devices.{DeviceLoad, DeviceStore, Port, ConsoleAt, DiskAt, Nowhere, device_load_of, port_at, port_load, port_store, device_load, device_store, lines_at, with_disk, with_bytes, after_move, may_move_to, beat, poke, key, tick}
+use Rattle.spec_reference.specs.Devices.{DeviceLoad, DeviceStore, Port, ConsoleAt, DiskAt, Nowhere, device_load_of, port_at, port_load}
+use Rattle.spec_reference.specs.Devices.{port_store, device_load, device_store, lines_at, with_disk, with_bytes, after_move, may_move_to}
+use Rattle.spec_reference.specs.Devices.{beat, poke, key, tick}
 use Rattle.spec_reference.specs.Disk.{DmaStep, disk_load, disk_store, disk_beat}
 use Rattle.spec_reference.specs.Loads.{is_good_load, decide, load_step_of}
 use Rattle.spec_reference.specs.ModuleCalls.{answer_of, load_decision}
 use Rattle.spec_reference.specs.Move.{Move, Idle, FromRam, IntoRam, DeniedAt, OutsideRam}
-use Rattle.spec_reference.specs.Requests.{carried_out_writing, Source, NoSource, Target, NoTarget, Guarded, ToRam, ToDevice, carry_out_device_load, carry_out_load, carry_out_load_reserved, carry_out_device_store, carry_out_store, carry_out_store_conditional, carry_out_amo, carry_out_csr, source_of, target_of, csr_asked}
+use Rattle.spec_reference.specs.Requests.{carried_out_writing, Source, NoSource, Target, NoTarget, Guarded, ToRam, ToDevice}
+use Rattle.spec_reference.specs.Requests.{carry_out_device_load, carry_out_load, carry_out_load_reserved, carry_out_device_store}
+use Rattle.spec_reference.specs.Requests.{carry_out_store, carry_out_store_conditional, carry_out_amo, carry_out_csr, source_of, target_of}
+use Rattle.spec_reference.specs.Requests.{csr_asked}
 use Rattle.spec_reference.specs.Requests as requests
 use Rattle.spec_reference.specs.Run.{happen, happen_under, step}
 use Rattle.spec_reference.specs.States.{State, Hart, Devices, Disk, Journal, Loading, Binding, is_protected}
 use Rattle.spec_reference.specs.Trapping.{trap_from, exception, returned_from_trap, may_enter}
-use Rattle.spec_reference.specs.Turn.{place_of_pc, leads_into, outside_entry, leave_entry, fetch_in_entry, bound_entry, carry_out_kernel_only, carry_out_ecall, carry_out_sret, carry_out_effect, carry_out_instruction, carry_out_word, Fetched, NoWord, Stray, Word, fetch_of, act_on_fetch, act_on_pending, act, turn_of_started, turn_of, turn}
+use Rattle.spec_reference.specs.Turn.{place_of_pc, leads_into, outside_entry, leave_entry, fetch_in_entry, bound_entry}
+use Rattle.spec_reference.specs.Turn.{carry_out_kernel_only, carry_out_ecall, carry_out_sret, carry_out_effect, carry_out_instruction}
+use Rattle.spec_reference.specs.Turn.{carry_out_word, Fetched, NoWord, Stray, Word, fetch_of, act_on_fetch, act_on_pending, act}
+use Rattle.spec_reference.specs.Turn.{turn_of_started, turn_of, turn}
 use Rattle.spec_reference.specs.declared.answers.Answer.{Answer}
 use Rattle.spec_reference.specs.declared.answers.SideEffect.{SideEffect}
 use Rattle.spec_reference.specs.declared.answers.SideEffect.TheVariants.{SetsTimer, StartsHart, TakesInput}
@@ -84,7 +92,8 @@ load_same_at : (d : Devices) (gpa width : ℕ) → LoadSame d (device_load d gpa
 unfolding device_load
 load_same_at d gpa width = port_load_same d (port_at gpa) width
 
-device_load_same : (r : State) (h : ℕ) (hart : Hart) (rd address width : ℕ) (signed : Bool) (x : Option DeviceLoad) → LoadSame r.devices x → Same r (carry_out_device_load r h hart rd address width signed x)
+device_load_same : (r : State) (h : ℕ) (hart : Hart) (rd address width : ℕ) (signed : Bool) (x : Option DeviceLoad) → LoadSame r.devices x →
+    Same r (carry_out_device_load r h hart rd address width signed x)
 unfolding carry_out_device_load
 device_load_same r h hart rd address width signed None same = exception_same r h hart Cause.LoadAccess address
 device_load_same r h hart rd address width signed (Some l) same = same

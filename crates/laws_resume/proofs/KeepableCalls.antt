@@ -19,20 +19,25 @@ use Rattle.sv_types.specs.declared.saved.ModulePlacement.{ModulePlacement}
 use Rattle.sv_types.specs.declared.sbi.SbiCode.{SbiCode}
 use Rattle.sv_types.specs.declared.sbi.SbiCode.TheVariants.{Success, RefusedByMeasure}
 use Rattle.spec_reference.specs.Answers.{with_reply, devices_side_effect, journal_side_effect, pages_side_effect, harts_side_effect, state_after_answer, call, count_answer}
-use Rattle.spec_reference.specs.Calls.{Asked, Facts, facts_of, asked_by, extension_of, mask_exists, mask_names, started_hart, hart_at, integer_registers_at_boot, timer_call, ipi_call, start_other, hart_call, reset_call}
+use Rattle.spec_reference.specs.Calls.{Asked, Facts, facts_of, asked_by, extension_of, mask_exists, mask_names, started_hart, hart_at}
+use Rattle.spec_reference.specs.Calls.{integer_registers_at_boot, timer_call, ipi_call, start_other, hart_call, reset_call}
 use Rattle.spec_reference.specs.Counting.{with_count, with_note, count_load, count_unload, count_refused}
 use Rattle.spec_reference.specs.Loads.{is_good_load, decide}
 use Rattle.spec_reference.specs.ModuleCalls.{good_address, load_call, load_decision, unload_call, retire_call, module_call, call_answer_by, answer_of}
 use Rattle.spec_reference.specs.States.{State, Hart, Devices, Journal, Loading, find_module, has_number}
 use Rattle.spec_reference.specs.declared.answers.Answer.{Answer}
 use Rattle.spec_reference.specs.declared.answers.SideEffect.{SideEffect}
-use Rattle.spec_reference.specs.declared.answers.SideEffect.TheVariants.{SetsTimer, Prints, TakesInput, ShutsDown, SendsInterrupts, StartsHart, BeginsLoad, RefusesLoad, ApprovesModule, ReleasesModule, UnloadsModule, RefusesUnload, RetiresInit, RefusesRetire}
+use Rattle.spec_reference.specs.declared.answers.SideEffect.TheVariants.{SetsTimer, Prints, TakesInput, ShutsDown, SendsInterrupts}
+use Rattle.spec_reference.specs.declared.answers.SideEffect.TheVariants.{StartsHart, BeginsLoad, RefusesLoad, ApprovesModule}
+use Rattle.spec_reference.specs.declared.answers.SideEffect.TheVariants.{ReleasesModule, UnloadsModule, RefusesUnload, RetiresInit}
+use Rattle.spec_reference.specs.declared.answers.SideEffect.TheVariants.{RefusesRetire}
 use Rattle.spec_reference.specs.declared.answers.Extension.{Extension}
 use Rattle.spec_reference.specs.declared.answers.Reply.{Reply}
 use Rattle.spec_reference.specs.declared.answers.Reply.TheVariants.{Gives, Replies, Stays, Stops}
 use Rattle.laws_invariants.proofs.AnswersMay.{MayHaveSideEffect, answer_may}
 use Rattle.laws_resume.specs.Keepable.{ram_size, IsKeepableHart, AreKeepable, IsKeepableNote, IsKeepableJournal, IsKeepableClock, AreAligned, MayGoOn, IsKeepableLoad, IsKeepableText, IsKeepable}
-use Rattle.laws_resume.proofs.KeepableParts.{zero_stays, are_set, are_interrupted, below, load_beside, load_interrupted, load_begun, journal_noted, journal_ended, clock_set, aligned_with, aligned_without}
+use Rattle.laws_resume.proofs.KeepableParts.{zero_stays, are_set, are_interrupted, below, load_beside, load_interrupted, load_begun}
+use Rattle.laws_resume.proofs.KeepableParts.{journal_noted, journal_ended, clock_set, aligned_with, aligned_without}
 use Rattle.laws_resume.proofs.KeepableRequests.{Moving, hart_kept, there, shorter}
 use Rattle.laws_attempt.proofs.AttemptsAgree.{get_back}
 use Rattle.sv_types.proofs.TruthValues.{and_first, and_second}
@@ -231,7 +236,8 @@ record_kept r _ h harts d j all journal clock console modules load text =
     record { harts = all; journal = journal; clock = clock; console = console; modules = modules; load = load; text = text }
 
 answered_keeps : (r : State) (h : ℕ) (hart : Hart) (a : Answer) → IsKeepable r → length r.harts ≡ r.rules.harts → h < r.rules.harts → IsKeepableHart (ram_size r.rules) hart
-    → MayHaveSideEffect r a.side_effect → Begins a.reply a.side_effect → IsKeepableLoad (harts_side_effect a.side_effect (slice_set r.harts h (with_reply a.reply hart))) (pages_side_effect a.side_effect h r).loading
+    → MayHaveSideEffect r a.side_effect → Begins a.reply a.side_effect →
+    IsKeepableLoad (harts_side_effect a.side_effect (slice_set r.harts h (with_reply a.reply hart))) (pages_side_effect a.side_effect h r).loading
     → IsKeepable (state_after_answer r h hart a)
 unfolding state_after_answer
 answered_keeps r h hart a k number there one may begins load =

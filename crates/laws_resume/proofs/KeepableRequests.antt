@@ -21,7 +21,10 @@ use Rattle.sv_types.specs.declared.event.Verdict.TheVariants.{Stopped}
 use Rattle.spec_reference.specs.Counting.{with_count, count_trap, count_return, count_retired, machine_ended, printed_low}
 use Rattle.spec_reference.specs.Devices.{DeviceLoad, device_load_of, Port, ConsoleAt, DiskAt, Nowhere, port_at, port_load, device_load, port_store, device_store, with_bytes}
 use Rattle.spec_reference.specs.Disk.{disk_load, disk_store}
-use Rattle.spec_reference.specs.Requests.{carried_out_writing, Source, NoSource, FromRam, FromDevice, Target, NoTarget, Guarded, ToRam, ToDevice, carry_out_device_load, carry_out_load, carry_out_load_reserved, carry_out_device_store, carry_out_store, carry_out_store_conditional, carry_out_amo, carry_out_csr, write_stopped, source_of, source_at, load_source, with_csr_set}
+use Rattle.spec_reference.specs.Requests.{carried_out_writing, Source, NoSource, FromRam, FromDevice, Target, NoTarget, Guarded, ToRam}
+use Rattle.spec_reference.specs.Requests.{ToDevice, carry_out_device_load, carry_out_load, carry_out_load_reserved, carry_out_device_store}
+use Rattle.spec_reference.specs.Requests.{carry_out_store, carry_out_store_conditional, carry_out_amo, carry_out_csr, write_stopped}
+use Rattle.spec_reference.specs.Requests.{source_of, source_at, load_source, with_csr_set}
 use Rattle.spec_reference.specs.Soundness.{IsSound}
 use Rattle.spec_reference.specs.States.{State, Hart, Devices, Journal, Disk}
 use Rattle.spec_reference.specs.Trapping.{trap_from, exception, returned_from_trap, may_enter, hart_at_trap, hart_at_return}

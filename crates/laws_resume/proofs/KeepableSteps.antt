@@ -28,7 +28,10 @@ use Rattle.spec_reference.specs.Requests.{source_of, target_of, csr_asked}
 use Rattle.spec_reference.specs.Run.{happen, happen_under, step}
 use Rattle.spec_reference.specs.Soundness.{IsSound, IsSoundLoad}
 use Rattle.spec_reference.specs.States.{State, Hart, Loading, Binding, is_protected}
-use Rattle.spec_reference.specs.Turn.{place_of_pc, leads_into, noted_gpa, outside_entry, leave_entry, demote, fetch_in_entry, bound_entry, carry_out_kernel_only, carry_out_ecall, carry_out_sret, carry_out_effect, carry_out_instruction, carry_out_word, Fetched, NoWord, Stray, Word, fetch_of, fetch_and_act, act_on_fetch, act_on_pending, act, turn_of_started, turn_of, turn}
+use Rattle.spec_reference.specs.Turn.{place_of_pc, leads_into, noted_gpa, outside_entry, leave_entry, demote, fetch_in_entry, bound_entry}
+use Rattle.spec_reference.specs.Turn.{carry_out_kernel_only, carry_out_ecall, carry_out_sret, carry_out_effect, carry_out_instruction}
+use Rattle.spec_reference.specs.Turn.{carry_out_word, Fetched, NoWord, Stray, Word, fetch_of, fetch_and_act, act_on_fetch, act_on_pending}
+use Rattle.spec_reference.specs.Turn.{act, turn_of_started, turn_of, turn}
 use Rattle.laws_attempt.specs.Agree.{IsNotLoading}
 use Rattle.laws_attempt.proofs.AllTold.{all_told}
 use Rattle.laws_attempt.proofs.EffectsAgree.{IsTold}
@@ -37,7 +40,9 @@ use Rattle.laws_invariants.proofs.AnswersMay.{decision_may}
 use Rattle.laws_invariants.proofs.StepsSound.{leave_goes, counted_sound, step_goes}
 use Rattle.laws_resume.specs.Keepable.{ram_size, IsKeepable, KeepsLaw}
 use Rattle.laws_resume.proofs.KeepableParts.{zero_stays, keepable_at, below, journal_noted}
-use Rattle.laws_resume.proofs.KeepableRequests.{Moving, hart_kept, there, aligned_pc, set_alone, retired, choose_keeps, trap_keeps, exception_keeps, return_keeps, load_keeps, source_inside, load_reserved_keeps, bytes_keep, store_keeps, store_conditional_keeps, amo_keeps, csr_keeps}
+use Rattle.laws_resume.proofs.KeepableRequests.{Moving, hart_kept, there, aligned_pc, set_alone, retired, choose_keeps, trap_keeps}
+use Rattle.laws_resume.proofs.KeepableRequests.{exception_keeps, return_keeps, load_keeps, source_inside, load_reserved_keeps, bytes_keep}
+use Rattle.laws_resume.proofs.KeepableRequests.{store_keeps, store_conditional_keeps, amo_keeps, csr_keeps}
 use Rattle.laws_resume.proofs.KeepableCalls.{call_keeps, Loads, decision_keeps, page_turn_keeps}
 
 -- ---- instructions

@@ -1,5 +1,6 @@
 -- The harts in which a machine goes on, with the load under way, the notes, the verdict and the clock.
-use Rattle.std.proofs.Common.{◌≡◌, ℕ, zero, suc, ◌+◌, ◌-◌, ◌*◌, ◌%◌, ◌^◌, ◌<◌, ◌≤◌, List, [], ◌∷◌, ◌++◌, length, map, min, drop, replicate, refl, ◌∙◌, ap, subst, Bool, true, false, not, ◌&&◌, ◌||◌, arith, slice_get, length-append}
+use Rattle.std.proofs.Common.{◌≡◌, ℕ, zero, suc, ◌+◌, ◌-◌, ◌*◌, ◌%◌, ◌^◌, ◌<◌, ◌≤◌, List, [], ◌∷◌, ◌++◌, length, map, min, drop, replicate}
+use Rattle.std.proofs.Common.{refl, ◌∙◌, ap, subst, Bool, true, false, not, ◌&&◌, ◌||◌, arith, slice_get, length-append}
 use Rattle.sv_types.specs.Limits.{max_notes}
 use Rattle.std.specs.Prelude.{Option, Some, None, option_map, is_some, ◌==◌, nat_lt, nat_le, slice_index}
 use Rattle.std.specs.List.{list_all}
@@ -23,7 +24,8 @@ use Rattle.spec_reference.specs.States.{Hart, Binding, binding_at}
 use Rattle.spec_saved_machine.specs.declared.harts.SavedHart.{SavedHart}
 use Rattle.spec_saved_machine.specs.declared.whole.SavedLoad.{SavedLoad}
 use Rattle.snapshot_format.specs.Forms.{is_word, has_all}
-use Rattle.snapshot_format.specs.HartForms.{is_user, flag, mode, place, place_number, is_reservable, reservation, multiple_of, legal, privilege, trap_status, status, registers, begins_with_0, hart, harts}
+use Rattle.snapshot_format.specs.HartForms.{is_user, flag, mode, place, place_number, is_reservable, reservation, multiple_of, legal}
+use Rattle.snapshot_format.specs.HartForms.{privilege, trap_status, status, registers, begins_with_0, hart, harts}
 use Rattle.snapshot_format.specs.JournalForms.{hart_number, demote_form, load_note, unload, retire, answer, note_after, note_form, notes, stopped_entry, stopped_write, verdict_after, verdict}
 use Rattle.snapshot_format.specs.PageForms.{may_load, module_within, is_above, load, load_after, load_under_way}
 use Rattle.snapshot_format.proofs.FormLaws.{first_true, second_true}

@@ -29,7 +29,9 @@ use Rattle.snapshot_format.specs.PageForms.{load_under_way}
 use Rattle.snapshot_format.specs.Snapshots.{Contents, snapshot}
 use Rattle.snapshot_format.specs.declared.whole.TextPage.{TextPage}
 use Rattle.snapshot_format.proofs.FormLaws.{first_true, second_true}
-use Rattle.snapshot_resume.specs.Judgements.{page_numbers, is_retired, text_left, loaded_pages, load_pages, approved_of, fits, is_loaded, load_fits, is_of_policy, take_pages, then_held, guard_due, is_guarded_right, joins, is_there, has_text, has_modules, resume_refusal}
+use Rattle.snapshot_resume.specs.Judgements.{page_numbers, is_retired, text_left, loaded_pages, load_pages, approved_of, fits, is_loaded}
+use Rattle.snapshot_resume.specs.Judgements.{load_fits, is_of_policy, take_pages, then_held, guard_due, is_guarded_right, joins, is_there}
+use Rattle.snapshot_resume.specs.Judgements.{has_text, has_modules, resume_refusal}
 use Rattle.snapshot_resume.specs.ResumedStates.{resumed_hart, resumed_load, resumed_state, timers_of}
 use Rattle.snapshot_resume.specs.declared.refusal.ResumeRefusal.{ResumeRefusal}
 use Rattle.snapshot_resume.specs.declared.refusal.ResumeRefusal.TheVariants.{OtherPolicy, OtherPages, OtherKernel, OtherText, OtherModule}
@@ -41,7 +43,9 @@ use Rattle.laws_resume.proofs.FormParts.{HasParts, parts_of, max_is, block_goes}
 use Rattle.laws_resume.proofs.ResumedHarts.{harts_sound, harts_kept, LoadParts, load_parts_of, load_kept, journal_kept, clock_kept}
 use Rattle.laws_resume.proofs.KeepableSteps.{keeps_law}
 use Rattle.laws_resume.proofs.ResumedHolds.{resumed_law}
-use Rattle.laws_resume.proofs.ResumedPages.{text_ascends, text_inside, ModuleParts, modules_parts, found_all, found_begins, Fits, fits_is, place_aligned, module_inside, in_first, in_second, in_one, both_below, loaded_inside, among_loaded, of_module, one_module, approved_is, keeps_text}
+use Rattle.laws_resume.proofs.ResumedPages.{text_ascends, text_inside, ModuleParts, modules_parts, found_all, found_begins, Fits, fits_is}
+use Rattle.laws_resume.proofs.ResumedPages.{place_aligned, module_inside, in_first, in_second, in_one, both_below, loaded_inside}
+use Rattle.laws_resume.proofs.ResumedPages.{among_loaded, of_module, one_module, approved_is, keeps_text}
 use Rattle.laws_resume.proofs.TakenPages.{Taking, AllBelow, either_one, taken_in_two, length_taken, taken_at, were_free, apart, found_later}
 use Rattle.laws_invariants.proofs.Lookups.{all_found, number_filtered}
 use Rattle.snapshot_resume.proofs.ModuleSites.{OfPolicy, of_policy}

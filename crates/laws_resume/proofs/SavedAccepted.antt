@@ -1,5 +1,6 @@
 -- What was saved of a state isn't refused.
-use Rattle.std.proofs.Common.{◌≡◌, ℕ, zero, suc, ◌+◌, ◌-◌, ◌*◌, ◌/◌, ◌%◌, ◌<◌, ◌≤◌, List, [], ◌∷◌, length, map, replicate, refl, sym, ◌∙◌, ap, subst, Bool, true, false, not, ◌&&◌, ◌||◌, arith, slice_get}
+use Rattle.std.proofs.Common.{◌≡◌, ℕ, zero, suc, ◌+◌, ◌-◌, ◌*◌, ◌/◌, ◌%◌, ◌<◌, ◌≤◌, List, [], ◌∷◌, length, map, replicate, refl, sym, ◌∙◌}
+use Rattle.std.proofs.Common.{ap, subst, Bool, true, false, not, ◌&&◌, ◌||◌, arith, slice_get}
 use Rattle.sv_types.proofs.Sums.{nothing_plus}
 use Rattle.std.specs.Prelude.{Option, Some, None, option_map, is_some, if◌then◌else◌, ◌==◌, nat_lt, nat_le, IsTrue}
 use Rattle.std.specs.List.{list_all}
@@ -27,7 +28,9 @@ use Rattle.spec_saved_machine.specs.SavedStates.{saved_harts, saved_load}
 use Rattle.spec_saved_machine.specs.declared.harts.SavedHart.{SavedHart}
 use Rattle.snapshot_format.specs.Snapshots.{Contents}
 use Rattle.snapshot_format.specs.declared.whole.TextPage.{TextPage}
-use Rattle.snapshot_resume.specs.Judgements.{approved_of, are_same, fits, guard_due, has_modules, has_text, is_bound, protections_are_due, is_guarded_right, is_loaded, is_of_policy, is_retired, is_same, is_there, joins, load_fits, load_pages, loaded_pages, page_numbers, resume_refusal, take_pages, text_left, then_held}
+use Rattle.snapshot_resume.specs.Judgements.{approved_of, are_same, fits, guard_due, has_modules, has_text, is_bound, protections_are_due}
+use Rattle.snapshot_resume.specs.Judgements.{is_guarded_right, is_loaded, is_of_policy, is_retired, is_same, is_there, joins, load_fits}
+use Rattle.snapshot_resume.specs.Judgements.{load_pages, loaded_pages, page_numbers, resume_refusal, take_pages, text_left, then_held}
 use Rattle.spec_reference.proofs.PageSpans.{in_numbers}
 use Rattle.snapshot_resume.proofs.ModuleSites.{some_pages}
 use Rattle.laws_resume.specs.Keepable.{AscendFrom, IsKeepable}
@@ -252,7 +255,8 @@ guarded_right r c sound a h same pages =
 page_in : (text : List TextPage) (i : ℕ) (t : TextPage) → slice_get text i ≡ Some t → has_number (page_numbers text) t.page ≡ true
 page_in [] i t at = cc
 page_in (x ∷ text) zero t at =
-    let same : x ≡ t = cc in subst (λ (y : TextPage). (x.page == y.page || has_number (page_numbers text) y.page) ≡ true) same (ap (λ (b : Bool). b || has_number (page_numbers text) x.page) (same_number x.page))
+    let same : x ≡ t = cc in subst (λ (y : TextPage). (x.page == y.page || has_number (page_numbers text) y.page) ≡
+    true) same (ap (λ (b : Bool). b || has_number (page_numbers text) x.page) (same_number x.page))
 page_in (x ∷ text) (suc i) t at = rw (page_in text i t at) (or_true (x.page == t.page))
 
 or_by : (a b : Bool) → (a ≡ false → b ≡ true) → (a || b) ≡ true

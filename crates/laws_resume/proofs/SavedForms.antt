@@ -1,4 +1,4 @@
--- What was saved of a state has a form as bytes.
+-- What was saved of a state has an encoding.
 use Rattle.std.proofs.Common.{◌≡◌, ℕ, ◌*◌, ◌≤◌, List, [], length, refl, sym, ◌∙◌, ap, subst, true, ◌&&◌, arith}
 use Rattle.std.specs.Prelude.{◌==◌, nat_le, IsTrue}
 use Rattle.std.proofs.lemmas.Bool.{eq-eqb}
@@ -46,7 +46,8 @@ within_parts rules within =
     first_true (numbers_within rules) (lists_within rules)
     (first_true (numbers_within rules && lists_within rules) (init_within rules.ram_pages rules.init)
     (first_true (numbers_within rules && lists_within rules && init_within rules.ram_pages rules.init) (modules_count_within (length rules.modules))
-    (first_true (numbers_within rules && lists_within rules && init_within rules.ram_pages rules.init && modules_count_within (length rules.modules)) (modules_within (length rules.exports) rules.modules) within))) in
+    (first_true (numbers_within rules && lists_within rules && init_within rules.ram_pages rules.init && modules_count_within (length rules.modules))
+    (modules_within (length rules.exports) rules.modules) within))) in
     let both = first_true (format_within rules.format && harts_within rules.harts) (ram_pages_within rules.ram_pages) numbers in
     let harts = second_true (format_within rules.format) (harts_within rules.harts) both in
     let pages = second_true (format_within rules.format && harts_within rules.harts) (ram_pages_within rules.ram_pages) numbers in

@@ -1,4 +1,4 @@
--- The harts that were saved of a state have a form as bytes.
+-- The harts that were saved of a state have an encoding.
 use Rattle.std.proofs.Common.{◌≡◌, ℕ, zero, suc, ◌+◌, ◌-◌, ◌*◌, ◌%◌, ◌<◌, ◌≤◌, List, [], ◌∷◌, ◌++◌, length, drop, refl, ◌∙◌, ap, subst, Bool, true, false, not, ◌&&◌, ◌||◌, arith, slice_get}
 use Rattle.std.specs.Prelude.{Option, Some, None, option_map, ◌==◌, nat_le, IsTrue}
 use Rattle.std.specs.List.{list_all}

@@ -1,4 +1,4 @@
--- The counts, the notes and the verdict of a state have a form as bytes.
+-- The counts, the notes and the verdict of a state have an encoding.
 use Rattle.std.proofs.Common.{◌≡◌, ℕ, ◌<◌, ◌≤◌, List, [], ◌∷◌, ◌++◌, length, min, refl, true, arith}
 use Rattle.std.specs.Prelude.{◌==◌, nat_lt, nat_le}
 use Rattle.std.specs.List.{list_all}
@@ -14,7 +14,9 @@ use Rattle.sv_types.specs.declared.sbi.SbiCode.{SbiCode}
 use Rattle.spec_reference.specs.Counting.{CountsAtMost}
 use Rattle.snapshot_format.specs.Forms.{is_word, has_all}
 use Rattle.snapshot_format.specs.HartForms.{multiple_of}
-use Rattle.snapshot_format.specs.JournalForms.{answer, code, count, counts, demote_form, denied_note, event_counts, hart_counts, hart_number, is_among, load_note, note_form, note_after, notes, retire, rule_counts, stopped_entry, stopped_write, unload, verdict, verdict_after}
+use Rattle.snapshot_format.specs.JournalForms.{answer, code, count, counts, demote_form, denied_note, event_counts, hart_counts}
+use Rattle.snapshot_format.specs.JournalForms.{hart_number, is_among, load_note, note_form, note_after, notes, retire, rule_counts}
+use Rattle.snapshot_format.specs.JournalForms.{stopped_entry, stopped_write, unload, verdict, verdict_after}
 use Rattle.snapshot_format.specs.Typed.{are_words, is_typed_note, note_numbers, verdict_numbers}
 use Rattle.snapshot_format.proofs.FormLaws.{both_true, first_true, second_true}
 use Rattle.laws_resume.specs.Keepable.{AreKeepableNotes, IsKeepableJournal, IsKeepableNote, IsKeepableVerdict}

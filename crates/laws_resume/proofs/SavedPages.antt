@@ -1,4 +1,4 @@
--- The pages, the text and the modules that were saved of a state have a form as bytes.
+-- The pages, the text and the modules that were saved of a state have an encoding.
 use Rattle.std.proofs.Common.{◌≡◌, ℕ, zero, suc, ◌+◌, ◌%◌, ◌<◌, ◌≤◌, List, [], ◌∷◌, ◌++◌, length, map, refl, ◌∙◌, ap, subst, Bool, true, false, not, ◌&&◌, ◌||◌, arith, slice_get}
 use Rattle.std.specs.Prelude.{Option, Some, None, option_map, ◌==◌, nat_lt, nat_le, IsTrue}
 use Rattle.std.specs.List.{list_all}
@@ -16,7 +16,8 @@ use Rattle.spec_reference.specs.States.{State, Hart, Loading, has_number, find_m
 use Rattle.spec_saved_machine.specs.SavedStates.{saved_hart, saved_harts, saved_load}
 use Rattle.snapshot_format.specs.Forms.{is_word, has_all}
 use Rattle.snapshot_format.specs.HartForms.{multiple_of, flag, is_user}
-use Rattle.snapshot_format.specs.PageForms.{is_above, last_id, last_page, load, load_after, load_under_way, may_load, module_within, modules, next_module, protection_form, protections, text, text_page}
+use Rattle.snapshot_format.specs.PageForms.{is_above, last_id, last_page, load, load_after, load_under_way, may_load, module_within}
+use Rattle.snapshot_format.specs.PageForms.{modules, next_module, protection_form, protections, text, text_page}
 use Rattle.snapshot_format.specs.Typed.{are_words, is_typed_module, is_typed_page, load_numbers, module_numbers}
 use Rattle.snapshot_format.specs.declared.whole.TextPage.{TextPage}
 use Rattle.snapshot_format.proofs.FormLaws.{both_true, first_true, second_true}

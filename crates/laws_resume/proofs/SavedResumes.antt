@@ -1,5 +1,6 @@
 -- What was saved of a state leads back to it.
-use Rattle.std.proofs.Common.{◌≡◌, ℕ, zero, suc, ◌+◌, ◌-◌, ◌*◌, ◌<◌, ◌≤◌, inl, inr, List, [], ◌∷◌, ◌++◌, length, map, drop, replicate, refl, sym, ◌∙◌, ap, subst, Bool, true, false, not, ◌&&◌, arith, add-one}
+use Rattle.std.proofs.Common.{◌≡◌, ℕ, zero, suc, ◌+◌, ◌-◌, ◌*◌, ◌<◌, ◌≤◌, inl, inr, List, [], ◌∷◌, ◌++◌, length, map, drop, replicate, refl}
+use Rattle.std.proofs.Common.{sym, ◌∙◌, ap, subst, Bool, true, false, not, ◌&&◌, arith, add-one}
 use Rattle.std.specs.Prelude.{Option, Some, None, option_map, is_some, if◌then◌else◌, ◌==◌, slice_index}
 use Rattle.std.proofs.lemmas.List.{append-nil}
 use Rattle.spec_processor.specs.Bits.{flag}
@@ -96,7 +97,8 @@ timers_by clock h (hart ∷ harts) (t ∷ rest) at few never =
 
 timers_back : (clock : Clock) (harts : List Hart) → length harts ≤ 4 → IsKeepableClock (length harts) clock → timers_of (saved_harts clock 0 harts) ≡ clock.timers
 timers_back clock harts few k =
-    let own : 4 - length (saved_harts clock 0 harts) ≡ length clock.timers - length harts = left (length (saved_harts clock 0 harts)) (length clock.timers) (length harts) (length_saved clock 0 harts) k.four in
+    let own : 4 - length (saved_harts clock 0 harts) ≡
+    length clock.timers - length harts = left (length (saved_harts clock 0 harts)) (length clock.timers) (length harts) (length_saved clock 0 harts) k.four in
     ap (λ (n : ℕ). timers_from clock 0 harts ++ replicate n latest) own
     ∙ timers_by clock 0 harts clock.timers refl (subst (λ (n : ℕ). length harts ≤ n) (sym k.four) few)
     (λ h past below. k.unset h past (subst (λ (n : ℕ). h < n) k.four below))

@@ -1,4 +1,4 @@
--- When what was saved of a state has a form as bytes, so that it is read again as it was. This project's own.
+-- When what was saved of a state has an encoding, so that it is read again as it was. This project's own.
 use Rattle.std.specs.Prelude.{◌≡◌, ◌≤◌, true}
 use Rattle.sv_types.specs.Limits.{max_events}
 use Rattle.spec_reference.specs.Counting.{CountsAtMost}

@@ -60,8 +60,8 @@ pub fn law_saved_accepted()
     ensures { SavedAcceptedLaw }
 {}
 
-/// What was saved has a form as bytes, and so is read again as it was, where its numbers are words, as its types say, its device and its disk
-/// go together, and no count is above the number of events.
+/// What was saved has an encoding, and so is read again as it was, where its numbers are words, as its types say, its device
+/// and its disk go together, and no count is above the number of events.
 pub fn law_saved_form()
     ensures { SavedFormLaw }
 {}

@@ -56,5 +56,6 @@ page_listed ram guard n b at =
     by_flag true n = refl
     by_flag false n = refl
 
-    last : (k n : ℕ) (b : Bool) → k ≡ n → is_approved (protection_at guard n) ≡ b → map (digest_in ram) (if is_approved (protection_at guard k) then k ∷ [] else []) ≡ (if b then digest_in ram n ∷ [] else [])
+    last : (k n : ℕ) (b : Bool) → k ≡ n → is_approved (protection_at guard n) ≡ b → map (digest_in ram) (if is_approved (protection_at guard k) then k ∷ [] else []) ≡
+        (if b then digest_in ram n ∷ [] else [])
     last k n b same at = rw (same, at) (by_flag b n)

@@ -33,7 +33,8 @@ pub record IsMeasuredBoot (rules : Rules) (file : List ℕ) : Type 0 where
 
 -- the digests of the text before the first event are those that a run keeps
 abbrev pub BootDigestsLaw : Type 0
-BootDigestsLaw = (rules : Rules) (file disk : List ℕ) → IsMeasuredBoot rules file → KeepsDigests (boot_start rules file disk) (digested_text (boot_start rules file disk))
+BootDigestsLaw = (rules : Rules) (file disk : List ℕ) → IsMeasuredBoot rules file →
+    KeepsDigests (boot_start rules file disk) (digested_text (boot_start rules file disk))
 
 -- a snapshot after the first k events, with the text of the start
 pub record IsSnapAfter (rules : Rules) (file disk : List ℕ) (events : List Event) (k : ℕ) (s : Snapshot) : Type 0 where

@@ -10,7 +10,8 @@ use Rattle.laws_processor.proofs.ByteLemmas.{length_low_bytes}
 use Rattle.spec_reference.specs.States.{State, Disk, BlockDevice, BlockDisk, VirtioDisk, protection_in, protection_by, is_protected, is_approved_in, has_number, protections_of}
 use Rattle.spec_reference.specs.BlockDisk.{block_beat, block_to_memory, block_to_disk, block_after_beat, beat_place, beat_gpa, beat_size, is_busy, is_to_memory, transfer_ended}
 use Rattle.spec_reference.specs.VirtioDevice.{VirtioDevice, Request}
-use Rattle.spec_reference.specs.VirtioBeats.{VirtioBeat, nothing, broken_beat, with_request, with_written, last_moves_alone, to_memory, put_last, finish_request, make, make_first, go_on, is_live, virtio_beat}
+use Rattle.spec_reference.specs.VirtioBeats.{VirtioBeat, nothing, broken_beat, with_request, with_written, last_moves_alone, to_memory}
+use Rattle.spec_reference.specs.VirtioBeats.{put_last, finish_request, make, make_first, go_on, is_live, virtio_beat}
 use Rattle.spec_reference.specs.Attacker.{poke_move}
 use Rattle.spec_reference.specs.Disk.{block_dma_step, virtio_dma_step, disk_beat, is_writable, DmaStep}
 use Rattle.sv_types.specs.Schedule.{poke_size, is_poke_address}
@@ -39,7 +40,8 @@ bit_of : (r : State) (page : ℕ) → page < r.rules.ram_pages → is_writable (
 unfolding protection_in is_protected
 bit_of r page below =
     let first : 0 + page ≡ page = omega arith in
-    ap (λ (bit : Option Bool). unwrap_or bit false) (slice_get-map is_free (protections_of r) page ∙ ap (option_map is_free) (get_numbers (protection_in r.approved r.held) 0 r.rules.ram_pages page below
+    ap (λ (bit : Option Bool). unwrap_or bit false) (slice_get-map is_free (protections_of r) page ∙
+    ap (option_map is_free) (get_numbers (protection_in r.approved r.held) 0 r.rules.ram_pages page below
     ∙ ap (λ (k : ℕ). Some (protection_in r.approved r.held k)) first))
     ∙ free_by (is_approved_in r.approved page) (has_number r.held page)
 
@@ -54,7 +56,8 @@ beat_by : (d : BlockDevice) (ram : List ℕ) (f g : ℕ → Bool) (busy inside r
 beat_by d ram f g false inside reads same = refl
 beat_by d ram f g true false reads same = refl
 beat_by d ram f g true true true same =
-    ap (λ (b : Bool). if b then record { device = record d { block = block_after_beat d.block }; move = IntoRam (beat_gpa d.block) (part d.bytes (beat_place d.block) beat_size) } else transfer_ended d BlockStatus.Denied (DeniedAt (beat_gpa d.block))) (same refl)
+    ap (λ (b : Bool). if b then record { device = record d { block = block_after_beat d.block }; move = IntoRam (beat_gpa d.block) (part d.bytes (beat_place d.block) beat_size) }
+    else transfer_ended d BlockStatus.Denied (DeniedAt (beat_gpa d.block))) (same refl)
 beat_by d ram f g true true false same = refl
 
 block_meets : (d : BlockDevice) (ram : List ℕ) (f g : ℕ → Bool) → AgreeInRam ram f g → block_beat d ram f ≡ block_beat d ram g
@@ -63,10 +66,13 @@ block_meets d ram f g agree =
     beat_by d ram f g (is_busy d.block) (in_ram ram (beat_gpa d.block) beat_size) (is_to_memory d.block.status) (agree (beat_gpa d.block) beat_size (omega arith))
 
 memory_meets : (d : VirtioDevice) (q : Request) (gpa place size : ℕ) (f g : ℕ → Bool) (inside : Bool) → (inside ≡ true → f (page_of gpa) ≡ g (page_of gpa))
-    → (if not inside then broken_beat d OutsideRam else if f (page_of gpa) then record { device = with_request d (with_written q size); move = IntoRam gpa (part d.bytes place size) } else record { device = with_request d (last_moves_alone q); move = DeniedAt gpa })
-    ≡ (if not inside then broken_beat d OutsideRam else if g (page_of gpa) then record { device = with_request d (with_written q size); move = IntoRam gpa (part d.bytes place size) } else record { device = with_request d (last_moves_alone q); move = DeniedAt gpa })
+    → (if not inside then broken_beat d OutsideRam else if f (page_of gpa) then
+    record { device = with_request d (with_written q size); move = IntoRam gpa (part d.bytes place size) } else record { device = with_request d (last_moves_alone q); move = DeniedAt gpa })
+    ≡ (if not inside then broken_beat d OutsideRam else if g (page_of gpa) then
+    record { device = with_request d (with_written q size); move = IntoRam gpa (part d.bytes place size) } else record { device = with_request d (last_moves_alone q); move = DeniedAt gpa })
 memory_meets d q gpa place size f g true same =
-    ap (λ (b : Bool). if b then record { device = with_request d (with_written q size); move = IntoRam gpa (part d.bytes place size) } else record { device = with_request d (last_moves_alone q); move = DeniedAt gpa }) (same refl)
+    ap (λ (b : Bool). if b then record { device = with_request d (with_written q size); move = IntoRam gpa (part d.bytes place size) } else
+    record { device = with_request d (last_moves_alone q); move = DeniedAt gpa }) (same refl)
 memory_meets d q gpa place size f g false same = refl
 
 put_meets : (d next : VirtioDevice) (gpa : ℕ) (bytes : List ℕ) (f g : ℕ → Bool) (inside : Bool) → (inside ≡ true → f (page_of gpa) ≡ g (page_of gpa))

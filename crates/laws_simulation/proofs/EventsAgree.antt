@@ -145,7 +145,14 @@ count_unprotected r f page e = e
 count_free : (r : State) (f : Counts → Counts) (x : Move) → FreeMove (count r f) x → FreeMove r x
 count_free r f Idle free = tt
 count_free r f (FromRam gpa) free = tt
-count_free r f (IntoRam gpa bytes) free = record { size = free.size; some = free.some; short = free.short; one_page = free.one_page; inside = free.inside; free = count_unprotected r f (page_of gpa) free.free }
+count_free r f (IntoRam gpa bytes) free = record {
+  size = free.size;
+  some = free.some;
+  short = free.short;
+  one_page = free.one_page;
+  inside = free.inside;
+  free = count_unprotected r f (page_of gpa) free.free;
+}
 count_free r f (DeniedAt gpa) free = tt
 count_free r f OutsideRam free = tt
 

@@ -97,7 +97,8 @@ protections_same : (p : Unseen) (x : State) → (machine_of p x).protections ≡
 unfolding machine_of
 protections_same p x = refl
 
-views_same : (after : Machine) (p : Unseen) (r next : State) (tables : List ℕ) → after ≡ machine_of p next → next.rules ≡ r.rules → AreViews tables r.rules.ram_pages (bound_pages r.rules) (protection_at after.protections)
+views_same : (after : Machine) (p : Unseen) (r next : State) (tables : List ℕ) → after ≡ machine_of p next → next.rules ≡ r.rules →
+    AreViews tables r.rules.ram_pages (bound_pages r.rules) (protection_at after.protections)
     → AreViews tables next.rules.ram_pages (bound_pages next.rules) (protection_in next.approved next.held)
 views_same after p r next tables same rules views =
     let here : after.protections ≡ protections_of next = ap (λ (x : Machine). x.protections) same ∙ protections_same p next in
@@ -150,7 +151,8 @@ pub served_turn : (m : Machine) (r : State) (h : ℕ) (hw : HwHart) (hart : Hart
     → Answered (left_by m h hw) h (with_tables (served_exit (left_by m h hw) h exit) tables) (turn r h)
 served_turn m r h hw hart exit tables makes left once t =
     let k = exit_turn m r h hw hart exit makes left in
-    served_stands (left_by m h hw) r h hart exit (turn r h) tables k.0 makes.hart_is makes.started k.1 (subst (λ (a : ExitAnswer). is_again a ≡ false) (asked_same m r h hw hart exit makes) once) (turn_goes r h makes.stands.sound).sound t
+    served_stands (left_by m h hw) r h hart exit (turn r h) tables k.0 makes.hart_is makes.started k.1 (subst (λ (a : ExitAnswer). is_again a ≡
+    false) (asked_same m r h hw hart exit makes) once) (turn_goes r h makes.stands.sound).sound t
 
 tables_at : (o : Unseen) (r : State) → IsRightFor o r → AreTables (machine_of o r) (machine_of o r) (machine_of o r).region.tables
 unfolding machine_of

@@ -16,7 +16,8 @@ use Rattle.laws_attempt.specs.Agree.{IsAt}
 use Rattle.spec_reference.specs.Counting.{with_count, with_note, machine_ended, count_retired, count_return, count_demote, count_trap, printed_low}
 use Rattle.spec_reference.specs.Disk.{disk_load}
 use Rattle.spec_reference.specs.Devices.{port_load, device_load_of, DeviceLoad, DeviceStore, Port, ConsoleAt, DiskAt, Nowhere, device_load, device_store, port_store, port_at}
-use Rattle.spec_hardware.specs.HwHarts.{hw_at_return, hw_demoted, hw_outside, hw_passed, hw_with, hw_trap, hw_exception, hw_return, hw_demote, hw_device_load, hw_device_store, hw_write_stopped, hw_at_trap}
+use Rattle.spec_hardware.specs.HwHarts.{hw_at_return, hw_demoted, hw_outside, hw_passed, hw_with, hw_trap, hw_exception, hw_return}
+use Rattle.spec_hardware.specs.HwHarts.{hw_demote, hw_device_load, hw_device_store, hw_write_stopped, hw_at_trap}
 use Rattle.spec_hardware.specs.Machine.{HwHart}
 use Rattle.spec_reference.specs.States.{State, Hart, Devices, Disk, Journal, without_reservation}
 use Rattle.spec_reference.specs.Requests.{carry_out_device_load, carry_out_device_store, write_stopped, at_next_instruction, stepped_with}

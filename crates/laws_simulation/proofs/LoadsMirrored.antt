@@ -49,7 +49,8 @@ text_lies r load rule s k known =
 
 -- ---- the decision
 
-measured_same : (text : List ℕ) (pages : ℕ) (rule : ModuleRule) → length (masked_text text rule.sites) ≡ page_size * pages → measure (masked_text text rule.sites) ≡ joined_digests (page_digests pages (masked_text text rule.sites))
+measured_same : (text : List ℕ) (pages : ℕ) (rule : ModuleRule) → length (masked_text text rule.sites) ≡ page_size * pages → measure (masked_text text rule.sites) ≡
+    joined_digests (page_digests pages (masked_text text rule.sites))
 unfolding measure
 measured_same text pages rule size =
     let n : length (masked_text text rule.sites) / page_size ≡ pages = omega arith in
@@ -90,7 +91,8 @@ decision_mirrors o r h hart c load at k none =
     let good : Bool = is_good_load r.rules r.ram load.about (slice_get r.rules.modules load.about.id) in
     subst (λ (a : Answer). Mirrors o r h (hw_given (machine_of o r) h a) (state_after_answer r h hart (load_decision good load.about)))
     (sym (ap (λ (m : ModulePlacement). load_decision (hw_is_good kept (slice_get (machine_of o r).rules.modules m.id)) m) (about_is r.rules r.ram load (slice_get r.rules.modules load.about.id))
-    ∙ ap (λ (b : Bool). load_decision b load.about) (ap (λ (rules : Rules). hw_is_good kept (slice_get rules.modules load.about.id)) (rules_are o r) ∙ good_is r load (slice_get r.rules.modules load.about.id) at.sound k none refl)))
+    ∙ ap (λ (b : Bool). load_decision b load.about) (ap (λ (rules : Rules). hw_is_good kept (slice_get rules.modules load.about.id)) (rules_are o r) ∙
+    good_is r load (slice_get r.rules.modules load.about.id) at.sound k none refl)))
     (given_mirrors o r h hart c (load_decision good load.about) at (decision_may r load good k refl))
 
 -- ---- a page turn
@@ -124,20 +126,25 @@ kept_next rules ram load left rule within known aligned inside more few =
     let room : page_size * n + page_size ≤ length text = rw size (page_room rule.pages left least) in
     let page : page_bytes text n ≡ page_bytes ram (page_of load.about.gpa + n) = page_there ram (ram_offset load.about.gpa) n rule.pages aligned (page_less rule.pages left least) in
     let old : rule.pages - load.left ≡ n = ap (λ (m : ℕ). rule.pages - m) more in
-    let digests : page_digests (rule.pages - left) (masked_text text rule.sites) ≡ page_digests (rule.pages - load.left) (masked_text text rule.sites) ++ page_digest (masked_text (page_bytes ram (page_of load.about.gpa + n)) (page_sites n rule.sites)) ∷ [] =
+    let digests : page_digests (rule.pages - left) (masked_text text rule.sites) ≡
+    page_digests (rule.pages - load.left) (masked_text text rule.sites) ++ page_digest (masked_text (page_bytes ram (page_of load.about.gpa + n)) (page_sites n rule.sites)) ∷ [] =
     ap (λ (m : ℕ). page_digests m (masked_text text rule.sites)) (counted_left rule.pages left least) ∙ digest_more n (masked_text text rule.sites)
-    ∙ ap (λ (bytes : List ℕ). page_digests n (masked_text text rule.sites) ++ page_digest bytes ∷ []) (page_masked text n rule.sites room all ∙ ap (λ (bytes : List ℕ). masked_text bytes (page_sites n rule.sites)) page)
+    ∙ ap (λ (bytes : List ℕ). page_digests n (masked_text text rule.sites) ++ page_digest bytes ∷ []) (page_masked text n rule.sites room all ∙
+    ap (λ (bytes : List ℕ). masked_text bytes (page_sites n rule.sites)) page)
     ∙ ap (λ (m : ℕ). page_digests m (masked_text text rule.sites) ++ page_digest (masked_text (page_bytes ram (page_of load.about.gpa + n)) (page_sites n rule.sites)) ∷ []) (sym old) in
     let right : fields_right rules.exports (module_bases load.about) (filter (below (rule.pages - left)) rule.sites) text
     ≡ (fields_right rules.exports (module_bases load.about) (filter (below (rule.pages - load.left)) rule.sites) text
     && fields_right rules.exports (module_bases load.about) (page_sites n rule.sites) (page_bytes ram (page_of load.about.gpa + n))) =
     ap (λ (m : ℕ). fields_right rules.exports (module_bases load.about) (filter (below m) rule.sites) text) (counted_left rule.pages left least)
     ∙ right_more rules.exports (module_bases load.about) text n rule.sites all
-    ∙ ap (λ (bytes : List ℕ). fields_right rules.exports (module_bases load.about) (filter (below n) rule.sites) text && fields_right rules.exports (module_bases load.about) (page_sites n rule.sites) bytes) page
-    ∙ ap (λ (m : ℕ). fields_right rules.exports (module_bases load.about) (filter (below m) rule.sites) text && fields_right rules.exports (module_bases load.about) (page_sites n rule.sites) (page_bytes ram (page_of load.about.gpa + n))) (sym old) in
+    ∙ ap (λ (bytes : List ℕ). fields_right rules.exports (module_bases load.about) (filter (below n) rule.sites) text &&
+    fields_right rules.exports (module_bases load.about) (page_sites n rule.sites) bytes) page
+    ∙ ap (λ (m : ℕ). fields_right rules.exports (module_bases load.about) (filter (below m) rule.sites) text &&
+    fields_right rules.exports (module_bases load.about) (page_sites n rule.sites) (page_bytes ram (page_of load.about.gpa + n))) (sym old) in
     rw (digests, right) refl
 
-counted_is : (r : State) (load : Loading) (left : ℕ) (rule : ModuleRule) → IsSound r → HoldsModule r.rules r.approved r.loaded r.held load → load.left ≡ suc left → slice_get r.rules.modules load.about.id ≡ Some rule
+counted_is : (r : State) (load : Loading) (left : ℕ) (rule : ModuleRule) → IsSound r → HoldsModule r.rules r.approved r.loaded r.held load → load.left ≡ suc left →
+    slice_get r.rules.modules load.about.id ≡ Some rule
     → load_kept_by r.rules r.ram (record load { left = left }) (Some rule) ≡ load_counted r.rules r.ram (load_kept_by r.rules r.ram load (Some rule)) left (Some rule)
 counted_is r load left rule s k more known =
     kept_next r.rules r.ram load left rule s.within known k.aligned (text_inside r load rule s k known) more (subst (λ (m : ℕ). load.left ≤ m) (ap pages_in_rule known) k.left)
@@ -146,24 +153,28 @@ no_rule : (r : State) (load : Loading) (left : ℕ) → load_kept_by r.rules r.r
 unfolding load_kept_by load_counted
 no_rule r load left = refl
 
-counted_by : (r : State) (load : Loading) (left : ℕ) (x : Option ModuleRule) → IsSound r → HoldsModule r.rules r.approved r.loaded r.held load → load.left ≡ suc left → slice_get r.rules.modules load.about.id ≡ x
+counted_by : (r : State) (load : Loading) (left : ℕ) (x : Option ModuleRule) → IsSound r → HoldsModule r.rules r.approved r.loaded r.held load → load.left ≡ suc left →
+    slice_get r.rules.modules load.about.id ≡ x
     → load_kept_by r.rules r.ram (record load { left = left }) x ≡ load_counted r.rules r.ram (load_kept_by r.rules r.ram load x) left x
 counted_by r load left None s k more known = no_rule r load left
 counted_by r load left (Some rule) s k more known = counted_is r load left rule s k more known
 
-page_mirrors : (o : Unseen) (r : State) (h : ℕ) (hart : Hart) (c : HypervisorRegisters) (load : Loading) (left : ℕ) → IsAt o r h hart c → HoldsModule r.rules r.approved r.loaded r.held load → load.left ≡ suc left
+page_mirrors : (o : Unseen) (r : State) (h : ℕ) (hart : Hart) (c : HypervisorRegisters) (load : Loading) (left : ℕ) → IsAt o r h hart c →
+    HoldsModule r.rules r.approved r.loaded r.held load → load.left ≡ suc left
     → Mirrors o r h (record (machine_of o r) { loading = Some (load_counted r.rules r.ram (load_kept r.rules r.ram load) left (slice_get r.rules.modules (load_kept r.rules r.ram load).about.id)) })
     (record r { loading = Some (record load { left = left }) })
 unfolding machine_of
 page_mirrors o r h hart c load left at k more =
     no_hart o r h hart c (Some (record load { left = left })) _ r.journal at
     (ap Some (counted_by r load left (slice_get r.rules.modules load.about.id) at.sound k more refl
-    ∙ ap (λ (m : ModulePlacement). load_counted r.rules r.ram (load_kept r.rules r.ram load) left (slice_get r.rules.modules m.id)) (sym (about_is r.rules r.ram load (slice_get r.rules.modules load.about.id)))))
+    ∙ ap (λ (m : ModulePlacement). load_counted r.rules r.ram (load_kept r.rules r.ram load) left (slice_get r.rules.modules m.id))
+    (sym (about_is r.rules r.ram load (slice_get r.rules.modules load.about.id)))))
     (prints_none r.journal.printed)
 
 -- ---- the next step
 
-step_by : (o : Unseen) (r : State) (h : ℕ) (hart : Hart) (c : HypervisorRegisters) (load : Loading) (left : ℕ) → IsAt o r h hart c → HoldsModule r.rules r.approved r.loaded r.held load → load.left ≡ left
+step_by : (o : Unseen) (r : State) (h : ℕ) (hart : Hart) (c : HypervisorRegisters) (load : Loading) (left : ℕ) → IsAt o r h hart c →
+    HoldsModule r.rules r.approved r.loaded r.held load → load.left ≡ left
     → Mirrors o r h (hw_load_step (machine_of o r) h (load_kept r.rules r.ram load) left) (load_step_of r h hart load left)
 unfolding machine_of hw_load_step load_step_of
 step_by o r h hart c load zero at k e = decision_mirrors o r h hart c load at k e

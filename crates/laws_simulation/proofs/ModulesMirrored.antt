@@ -1,7 +1,8 @@
 -- Pages and modules: the machine knows of them what the state says, and SecVisor's answers change them as the reference
 -- machine's do.
 use mathlib.Core.Path.{fun_ext}
-use Rattle.std.proofs.Common.{◌≡◌, ℕ, zero, suc, ◌+◌, ◌-◌, ◌*◌, ◌/◌, ◌<◌, ◌≤◌, inl, inr, List, [], ◌∷◌, length, map, filter, refl, sym, ◌∙◌, ap, subst, Bool, true, false, not, ◌&&◌, ◌||◌, arith, slice_get}
+use Rattle.std.proofs.Common.{◌≡◌, ℕ, zero, suc, ◌+◌, ◌-◌, ◌*◌, ◌/◌, ◌<◌, ◌≤◌, inl, inr, List, [], ◌∷◌, length, map, filter, refl, sym, ◌∙◌}
+use Rattle.std.proofs.Common.{ap, subst, Bool, true, false, not, ◌&&◌, ◌||◌, arith, slice_get}
 use Rattle.std.specs.Prelude.{Option, Some, None, option_map, if◌then◌else◌, ◌==◌, nat_lt, is_some}
 use Rattle.std.specs.List.{list_any}
 use Rattle.std.proofs.lemmas.Bool.Decides.{nat_tests}
@@ -25,7 +26,9 @@ use Rattle.spec_reference.specs.declared.answers.SideEffect.{SideEffect}
 use Rattle.spec_reference.specs.declared.answers.SideEffect.TheVariants.{BeginsLoad, ApprovesModule, ReleasesModule, UnloadsModule, RetiresInit}
 use Rattle.spec_reference.specs.Origins.{AllAbove, Ascends, IsOwned, ownership, is_kernel_text}
 use Rattle.spec_reference.specs.Protections.{protection_at, or_free, with_pages, with_each}
-use Rattle.spec_reference.specs.States.{State, Hart, Loading, has_number, is_approved_in, is_protected, module_pages, find_module, with_module, without_module, without_pages, pages_in_rule, protection_in, protection_by, protections_of}
+use Rattle.spec_reference.specs.States.{State, Hart, Loading, has_number, is_approved_in, is_protected, module_pages, find_module}
+use Rattle.spec_reference.specs.States.{with_module, without_module, without_pages, pages_in_rule, protection_in, protection_by}
+use Rattle.spec_reference.specs.States.{protections_of}
 use Rattle.spec_reference.specs.Relocations.{fields_right}
 use Rattle.spec_hardware.specs.StandsFor.{Unseen, IsRightFor, machine_of, hw_harts, load_kept, load_kept_by, kept_digests, kept_answer, without_printed}
 use Rattle.spec_reference.specs.Soundness.{IsSound, IsSoundLoad, HoldsModule}
@@ -114,7 +117,8 @@ unfolding find_module
 above_found id k [] m all e = cc
 above_found id k (x ∷ modules) m all e = above_by id k x modules m (x.id == k) refl all e (above_found id k modules m all.1)
   where
-    above_by : (id k : ℕ) (x : ModulePlacement) (modules : List ModulePlacement) (m : ModulePlacement) (b : Bool) → (x.id == k) ≡ b → AllAbove id (x ∷ modules) → (if b then Some x else find_module modules k) ≡ Some m
+    above_by : (id k : ℕ) (x : ModulePlacement) (modules : List ModulePlacement) (m : ModulePlacement) (b : Bool) → (x.id == k) ≡ b → AllAbove id (x ∷ modules) →
+        (if b then Some x else find_module modules k) ≡ Some m
         → (find_module modules k ≡ Some m → id < m.id) → id < m.id
     above_by id k x modules m true at all e rest = let same : x ≡ m = cc in subst (λ (n : ModulePlacement). id < n.id) same all.0
     above_by id k x modules m false at all e rest = rest e
@@ -150,7 +154,8 @@ unfolding find_module
 fits_any test [] id m found e = cc
 fits_any test (x ∷ modules) id m found e = any_by test x modules id m (x.id == id) refl found e (fits_any test modules id m)
   where
-    any_by : (test : ModulePlacement → Bool) (x : ModulePlacement) (modules : List ModulePlacement) (id : ℕ) (m : ModulePlacement) (b : Bool) → (x.id == id) ≡ b → (if b then Some x else find_module modules id) ≡ Some m → test m ≡ true
+    any_by : (test : ModulePlacement → Bool) (x : ModulePlacement) (modules : List ModulePlacement) (id : ℕ) (m : ModulePlacement) (b : Bool) → (x.id == id) ≡ b →
+        (if b then Some x else find_module modules id) ≡ Some m → test m ≡ true
         → (find_module modules id ≡ Some m → test m ≡ true → list_any test modules ≡ true) → list_any test (x ∷ modules) ≡ true
     any_by test x modules id m true at found e rest = let same : x ≡ m = cc in let there : test x ≡ true = ap test same ∙ e in rw there refl
     any_by test x modules id m false at found e rest = or_right (test x) (list_any test modules) (rest found e)

@@ -189,10 +189,12 @@ at_page r page below =
     let first : 0 + page ≡ page = omega arith in
     ap or_free (get_numbers (protection_in r.approved r.held) 0 r.rules.ram_pages page below) ∙ ap (protection_in r.approved r.held) first
 
-pub views_from : (tables : List ℕ) (r : State) → AreViews tables r.rules.ram_pages (bound_pages r.rules) (protection_at (protections_of r)) → AreViews tables r.rules.ram_pages (bound_pages r.rules) (protection_in r.approved r.held)
+pub views_from : (tables : List ℕ) (r : State) → AreViews tables r.rules.ram_pages (bound_pages r.rules) (protection_at (protections_of r)) →
+    AreViews tables r.rules.ram_pages (bound_pages r.rules) (protection_in r.approved r.held)
 views_from tables r views =
     views_meet tables r.rules.ram_pages (bound_pages r.rules) (protection_at (protections_of r)) (protection_in r.approved r.held) (λ page below. at_page r page below) views
 
-pub views_to : (tables : List ℕ) (r : State) → AreViews tables r.rules.ram_pages (bound_pages r.rules) (protection_in r.approved r.held) → AreViews tables r.rules.ram_pages (bound_pages r.rules) (protection_at (protections_of r))
+pub views_to : (tables : List ℕ) (r : State) → AreViews tables r.rules.ram_pages (bound_pages r.rules) (protection_in r.approved r.held) →
+    AreViews tables r.rules.ram_pages (bound_pages r.rules) (protection_at (protections_of r))
 views_to tables r views =
     views_meet tables r.rules.ram_pages (bound_pages r.rules) (protection_in r.approved r.held) (protection_at (protections_of r)) (λ page below. sym (at_page r page below)) views

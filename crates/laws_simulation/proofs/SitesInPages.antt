@@ -1,6 +1,8 @@
 -- The fields of a module's text, page by page: a policy within its limits has each field in one page, so that clearing them and
 -- judging them goes page by page.
-use Rattle.std.proofs.Common.{◌≡◌, ℕ, zero, suc, ◌+◌, ◌-◌, ◌*◌, ◌/◌, ◌%◌, ◌<◌, ◌≤◌, ◌⊎◌, inl, inr, List, [], ◌∷◌, ◌++◌, length, take, drop, filter, refl, sym, ◌∙◌, ap, subst, Bool, true, false, ◌&&◌, ◌||◌, arith, slice_get, length-drop, drop-drop, take-append-drop}
+use Rattle.std.proofs.Common.{◌≡◌, ℕ, zero, suc, ◌+◌, ◌-◌, ◌*◌, ◌/◌, ◌%◌, ◌<◌, ◌≤◌, ◌⊎◌, inl, inr, List, [], ◌∷◌, ◌++◌, length, take, drop}
+use Rattle.std.proofs.Common.{filter, refl, sym, ◌∙◌, ap, subst, Bool, true, false, ◌&&◌, ◌||◌, arith, slice_get, length-drop, drop-drop}
+use Rattle.std.proofs.Common.{take-append-drop}
 use Rattle.std.specs.Prelude.{Some, if◌then◌else◌, ◌==◌, nat_lt, IsTrue}
 use Rattle.std.proofs.lemmas.Bool.{eqb-true, cases_Bool}
 use Rattle.std.proofs.lemmas.Bool.Decides.{nat_tests}
@@ -100,7 +102,8 @@ same_word : (text : List ℕ) (n : ℕ) (site : Site) → (page_size * n) + (sit
 same_word text n site back fits =
     word_in_page_bytes text n (site.offset - page_size * n) (width_of site) fits ∙ ap (λ (at : ℕ). word text at (width_of site)) back
 
-clear_here : (text : List ℕ) (n : ℕ) (site : Site) → page_size * n + page_size ≤ length text → page_size * n + (site.offset - page_size * n) ≡ site.offset → site.offset - page_size * n + width_of site ≤ page_size
+clear_here : (text : List ℕ) (n : ℕ) (site : Site) → page_size * n + page_size ≤ length text → page_size * n + (site.offset - page_size * n) ≡ site.offset →
+    site.offset - page_size * n + width_of site ≤ page_size
     → page_bytes (clear_field text site) n ≡ clear_field (page_bytes text n) (moved_site n site)
 unfolding clear_field
 clear_here text n site room back fits =
@@ -132,7 +135,8 @@ length_masked text (site ∷ sites) all =
     let same = length_cleared text site all.0 in
     length_masked (clear_field text site) sites (subst (λ (n : ℕ). AllLieIn n sites) (sym same) all.1) ∙ same
 
-in_page : (n : ℕ) (site : Site) (bytes : ℕ) → LiesIn bytes site → (site.offset / page_size == n) ≡ true → (page_size * n + (site.offset - page_size * n) ≡ site.offset) × (site.offset - page_size * n + width_of site ≤ page_size)
+in_page : (n : ℕ) (site : Site) (bytes : ℕ) → LiesIn bytes site → (site.offset / page_size == n) ≡ true → (page_size * n + (site.offset - page_size * n) ≡ site.offset) ×
+    (site.offset - page_size * n + width_of site ≤ page_size)
 in_page n site bytes k here =
     let same : site.offset / page_size ≡ n = eqb-true (site.offset / page_size) n here in
     let whole = k.whole in
@@ -190,7 +194,8 @@ not_both : (off n : ℕ) → nat_lt off (page_size * n) ≡ true → (off / page
 not_both off n lower = grind (arith, nat_tests)
 
 lifted : (exports : List Export) (bases : Bases) (text : List ℕ) (b : Bool) (site : Site) (sites : List Site)
-    → fields_right exports bases (if b then site ∷ sites else sites) text ≡ (if b then field_right exports bases text site && fields_right exports bases sites text else fields_right exports bases sites text)
+    → fields_right exports bases (if b then site ∷ sites else sites) text ≡
+    (if b then field_right exports bases text site && fields_right exports bases sites text else fields_right exports bases sites text)
 unfolding fields_right
 lifted exports bases text true site sites = refl
 lifted exports bases text false site sites = refl
@@ -210,7 +215,8 @@ right_more exports bases text n (site ∷ sites) all =
     let p : Bool = field_right exports bases text site in
     lifted exports bases text (below (suc n) site) site (filter (below (suc n)) sites)
     ∙ ap (λ (b : Bool). if b then p && x else x) (bounds site.offset n)
-    ∙ three p (field_right exports bases (page_bytes text n) (moved_site n site)) x (fields_right exports bases (filter (below n) sites) text) (fields_right exports bases (page_sites n sites) (page_bytes text n))
+    ∙ three p (field_right exports bases (page_bytes text n) (moved_site n site)) x (fields_right exports bases (filter (below n) sites) text)
+    (fields_right exports bases (page_sites n sites) (page_bytes text n))
     (below n site) (is_site_in n site) (λ here. same_right exports bases text n site all.0 here) (λ lower. not_both site.offset n lower) rest
     ∙ rw (lifted exports bases text (below n site) site (filter (below n) sites), lifted exports bases (page_bytes text n) (is_site_in n site) (moved_site n site) (page_sites n sites)) refl
 

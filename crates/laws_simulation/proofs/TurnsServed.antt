@@ -18,7 +18,8 @@ use Rattle.laws_simulation.specs.Laws.{MakesAttempt, IsQuiet}
 use Rattle.spec_hardware.specs.HardwareEvent.{attempt_of}
 use Rattle.spec_hardware.specs.Machine.{Machine, HwHart, HwLoad, update, all_forget, with_core, after_attempt, after_quiet_attempt, with_count_raised}
 use Rattle.spec_hardware.specs.HwHarts.{hw_outside, hw_seen, asks_again}
-use Rattle.spec_hardware.specs.Served.{Seen, is_implicit, exit_gpa, is_sret_word, fetch_answer, load_answer, store_answer, write_answer, virtual_answer, answer_by, plain_answer, answer_in, exit_answer, is_again}
+use Rattle.spec_hardware.specs.Served.{Seen, is_implicit, exit_gpa, is_sret_word, fetch_answer, load_answer, store_answer, write_answer}
+use Rattle.spec_hardware.specs.Served.{virtual_answer, answer_by, plain_answer, answer_in, exit_answer, is_again}
 use Rattle.spec_hardware.specs.declared.exits.ExitAnswer.{ExitAnswer}
 use Rattle.spec_processor.specs.Bytes.{in_ram}
 use Rattle.spec_processor.specs.declared.effect.Effect.{Effect}

@@ -4,7 +4,9 @@ use Rattle.std.specs.Prelude.{Some, None, Option, option_map, IfSome, nat_le}
 use Rattle.std.proofs.lemmas.Bool.{leb-true, cases_Bool}
 use Rattle.sv_types.specs.ApprovedPages.{numbers_from}
 use Rattle.spec_processor.specs.Bytes.{page_of, ram_offset, page_size}
-use Rattle.sv_types.specs.Policies.{Rules, ModuleRule, each_within, rules_within, numbers_within, lists_within, init_within, modules_count_within, module_within, modules_within, module_pages_within, sites_count_within, sites_of, sites_within}
+use Rattle.sv_types.specs.Policies.{Rules, ModuleRule, each_within, rules_within, numbers_within, lists_within, init_within}
+use Rattle.sv_types.specs.Policies.{modules_count_within, module_within, modules_within, module_pages_within, sites_count_within, sites_of}
+use Rattle.sv_types.specs.Policies.{sites_within}
 use Rattle.sv_types.specs.declared.saved.ModulePlacement.{ModulePlacement}
 use Rattle.sv_types.specs.declared.protection.Protection.TheVariants.{Held, Approved}
 use Rattle.spec_reference.specs.States.{State, Loading, protection_in, protection_by, has_number, is_approved_in, find_module, pages_in_rule, protections_of}

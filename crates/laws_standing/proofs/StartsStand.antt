@@ -22,7 +22,8 @@ use Rattle.spec_hardware.specs.StandsFor.{bound_pages, Unseen, IsRightFor, machi
 use Rattle.laws_invariants.proofs.Lookups.{approved_alone}
 use Rattle.laws_invariants.proofs.StartsSound.{CanStart, start_sound, block_quiet, virtio_quiet, flat_can, image_can}
 use Rattle.laws_simulation.proofs.ProtectionsChange.{each_changed, span_changed, views_from}
-use Rattle.laws_standing.specs.Starts.{IsGuarded, FlatStartLaw, ImageStartLaw, VirtioStartLaw, machine_at_boot, flat_machine, image_machine, hw_at_boot, hw_harts_at_boot, flat_protections, image_protections}
+use Rattle.laws_standing.specs.Starts.{IsGuarded, FlatStartLaw, ImageStartLaw, VirtioStartLaw, machine_at_boot, flat_machine, image_machine}
+use Rattle.laws_standing.specs.Starts.{hw_at_boot, hw_harts_at_boot, flat_protections, image_protections}
 use Rattle.sv_types.proofs.PageNumbers.{numbers_length}
 
 -- ---- harts
@@ -55,7 +56,8 @@ boot_same tables rules ram text entry disk = rw (boot_hw_harts (length tables) r
 all_pages : (r : State) → length (protections_of r) ≡ r.rules.ram_pages
 all_pages r = length-map (numbers_from 0 r.rules.ram_pages) (protection_in r.approved r.held) ∙ numbers_length 0 r.rules.ram_pages
 
-boot_views : (tables : List ℕ) (r : State) → AreViews tables (length (protections_of r)) (bound_pages r.rules) (protection_at (protections_of r)) → AreViews tables r.rules.ram_pages (bound_pages r.rules) (protection_in r.approved r.held)
+boot_views : (tables : List ℕ) (r : State) → AreViews tables (length (protections_of r)) (bound_pages r.rules) (protection_at (protections_of r)) →
+    AreViews tables r.rules.ram_pages (bound_pages r.rules) (protection_in r.approved r.held)
 boot_views tables r views = views_from tables r (subst (λ (n : ℕ). AreViews tables n (bound_pages r.rules) (protection_at (protections_of r))) (all_pages r) views)
 
 boot_right : (tables : List ℕ) (rules : Rules) (ram text : List ℕ) (entry : ℕ) (disk : Disk)

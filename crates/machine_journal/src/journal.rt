@@ -7,7 +7,9 @@ ghost use Rattle.sv_types.specs.Boot.{no_counts};
 ghost use Rattle.sv_types.specs.declared.event.Note.TheVariants.{Demote, Denied, Load, Unload, Retire};
 ghost use Rattle.sv_types.specs.declared.event.Verdict.TheVariants.{Running, Shutdown, Stopped};
 ghost use Rattle.sv_types.specs.declared.sbi.SbiCode.TheVariants.{Success};
-ghost use Rattle.spec_reference.specs.Counting.{with_count, count_turn, count_beat, count_key, count_tick, count_retired, count_trap, count_return, count_demote, count_denied, count_dropped, count_load, count_unload, MayCount, with_note, printed_low, machine_ended};
+ghost use Rattle.spec_reference.specs.Counting.{with_count, count_turn, count_beat, count_key, count_tick, count_retired, count_trap};
+ghost use Rattle.spec_reference.specs.Counting.{count_return, count_demote, count_denied, count_dropped, count_load, count_unload};
+ghost use Rattle.spec_reference.specs.Counting.{MayCount, with_note, printed_low, machine_ended};
 ghost use Rattle.machine_journal.specs.Journals.{count_batch};
 ghost use Rattle.spec_reference.specs.Answers.{count_answer, journal_side_effect};
 

@@ -33,9 +33,11 @@ inserted_is [] m = refl
 inserted_is (first ∷ modules) m = by (nat_lt m.id first.id) (inserted_is modules m)
   where
     by : (b : Bool) → insert modules (position_or_len (λ (k : ModulePlacement). nat_lt m.id k.id) modules) m ≡ with_module modules m
-        → insert (first ∷ modules) (if not b then 1 + position_or_len (λ (k : ModulePlacement). nat_lt m.id k.id) modules else 0) m ≡ (if b then m ∷ (first ∷ modules) else first ∷ with_module modules m)
+        → insert (first ∷ modules) (if not b then 1 + position_or_len (λ (k : ModulePlacement). nat_lt m.id k.id) modules else 0) m ≡
+        (if b then m ∷ (first ∷ modules) else first ∷ with_module modules m)
     by true e = refl
-    by false e = let one : 1 + position_or_len (λ (k : ModulePlacement). nat_lt m.id k.id) modules ≡ suc (position_or_len (λ (k : ModulePlacement). nat_lt m.id k.id) modules) = omega arith in rw one (ap (λ (rest : List ModulePlacement). first ∷ rest) e)
+    by false e = let one : 1 + position_or_len (λ (k : ModulePlacement). nat_lt m.id k.id) modules ≡
+        suc (position_or_len (λ (k : ModulePlacement). nat_lt m.id k.id) modules) = omega arith in rw one (ap (λ (rest : List ModulePlacement). first ∷ rest) e)
 
 -- ---- ascending lists
 
@@ -63,7 +65,8 @@ other_first : (first : ModulePlacement) (id : ℕ) (b : Bool) (rest : Option Mod
 other_first first id true rest e = absurd (cc)
 other_first first id false rest e = (refl, e)
 
-pub ascends_with : (low : ℕ) (modules : List ModulePlacement) (m : ModulePlacement) → AscendsFrom low modules → low ≤ m.id → m.id < 64 → find_module modules m.id ≡ None → AscendsFrom low (with_module modules m)
+pub ascends_with : (low : ℕ) (modules : List ModulePlacement) (m : ModulePlacement) → AscendsFrom low modules → low ≤ m.id → m.id < 64 → find_module modules m.id ≡ None →
+    AscendsFrom low (with_module modules m)
 unfolding with_module find_module
 ascends_with low [] m up from below none = (from, omega (arith, below))
 ascends_with low (first ∷ rest) m up from below none =

@@ -27,6 +27,7 @@ pub piece_is_page : (n : ℕ) (sites : List Site) → piece_sites (page_size * n
 unfolding piece_sites page_sites
 piece_is_page n [] = refl
 piece_is_page n (site ∷ sites) =
-    let same : lies_in (page_size * n) page_size site ≡ is_site_in n site = same_place n site.offset (nat_le (page_size * n) site.offset) (nat_lt (site.offset - page_size * n) page_size) (is_site_in n site) refl refl refl in
+    let same : lies_in (page_size * n) page_size site ≡
+    is_site_in n site = same_place n site.offset (nat_le (page_size * n) site.offset) (nat_lt (site.offset - page_size * n) page_size) (is_site_in n site) refl refl refl in
     ap (λ (b : Bool). if b then moved_site n site ∷ piece_sites (page_size * n) page_size sites else piece_sites (page_size * n) page_size sites) same
     ∙ ap (λ (rest : List Site). if is_site_in n site then moved_site n site ∷ rest else rest) (piece_is_page n sites)

@@ -32,14 +32,20 @@ module _ (m : Machine) (rules : Rules) (region : Region) (h : ℕ) (guard : List
       ≡ with_tables (hw_pages_side_effect (BeginsLoad about asked) h old) tables
   unfolding hw_pages_side_effect
   begins about pages asked same =
-      ap (λ (k : ℕ). after (with_span guard (load_span (new_load about k)) Held) (record { gate = record modules.gate { digests = [] }; loading = Some (record { hart = h; load = new_load about k }) })) same
+      ap (λ (k : ℕ). after (with_span guard (load_span (new_load about k)) Held) (record {
+        gate = record modules.gate { digests = [] };
+        loading = Some (record { hart = h; load = new_load about k });
+      })) same
 
   pub approves : (load : Progress) → pages_in_rule (slice_get rules.modules load.about.id) ≡ load.pages
       → after (with_span guard (load_span load) Approved) (record { gate = record modules.gate { loaded = with_module modules.gate.loaded load.about }; loading = None })
       ≡ with_tables (hw_pages_side_effect (ApprovesModule load.about) h old) tables
   unfolding hw_pages_side_effect
   approves load takes =
-      ap (λ (k : ℕ). after (with_span guard (pages_at load.about.gpa k) Approved) (record { gate = record modules.gate { loaded = with_module modules.gate.loaded load.about }; loading = None })) (sym takes)
+      ap (λ (k : ℕ). after (with_span guard (pages_at load.about.gpa k) Approved) (record {
+        gate = record modules.gate { loaded = with_module modules.gate.loaded load.about };
+        loading = None;
+      })) (sym takes)
 
   pub releases : (load : Progress) → pages_in_rule (slice_get rules.modules load.about.id) ≡ load.pages
       → after (with_span guard (load_span load) Free) (record modules { loading = None })

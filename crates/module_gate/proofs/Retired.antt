@@ -40,7 +40,8 @@ filter_more test [] x = refl
 filter_more test (y ∷ xs) x = by (test y) (test x) (filter_more test xs x)
   where
     by : (a b : Bool) → filter test (xs ++ x ∷ []) ≡ (if b then filter test xs ++ x ∷ [] else filter test xs)
-        → (if a then y ∷ filter test (xs ++ x ∷ []) else filter test (xs ++ x ∷ [])) ≡ (if b then (if a then y ∷ filter test xs else filter test xs) ++ x ∷ [] else (if a then y ∷ filter test xs else filter test xs))
+        → (if a then y ∷ filter test (xs ++ x ∷ []) else filter test (xs ++ x ∷ [])) ≡
+        (if b then (if a then y ∷ filter test xs else filter test xs) ++ x ∷ [] else (if a then y ∷ filter test xs else filter test xs))
     by true true e = ap (◌∷◌ y) e
     by true false e = ap (◌∷◌ y) e
     by false true e = e

@@ -3,7 +3,8 @@
 ghost use Rattle.std.specs.Prelude.{◌≡◌, ℕ, Bool, List, slice_get, is_some};
 ghost use Rattle.sv_types.specs.Policies.{rules_of};
 ghost use Rattle.spec_reference.specs.Calls.{Facts};
-ghost use Rattle.spec_reference.specs.ModuleCalls.{module_asked, load_refused, load_call, load_decision, unload_refused, unload_call, retire_refused, retire_call, module_call};
+ghost use Rattle.spec_reference.specs.ModuleCalls.{module_asked, load_refused, load_call, load_decision, unload_refused, unload_call};
+ghost use Rattle.spec_reference.specs.ModuleCalls.{retire_refused, retire_call, module_call};
 ghost use Rattle.spec_reference.specs.States.{find_module};
 ghost use Rattle.page_guard.specs.Guarded.{TablesMatchGuard};
 ghost use Rattle.module_gate.specs.Parts.{loading_of, facts_in};
@@ -73,7 +74,9 @@ fn load_call(
     asked: &Asked,
 ) -> Answer
     requires { TablesMatchGuard mem.now guard.now }
-    ensures { (started : List Bool) (input : List ℕ) → result ≡ load_call (facts_in started input (rules_of policy.now) mem.now.ram guard.now.pages modules.now) asked.now (slice_get (rules_of policy.now).modules asked.now.a0) }
+    ensures { (started : List Bool) (input : List ℕ) → result ≡
+        load_call (facts_in started input (rules_of policy.now) mem.now.ram guard.now.pages modules.now) asked.now
+        (slice_get (rules_of policy.now).modules asked.now.a0) }
 {
     let about = module_asked(asked);
     let Some(rule) = rule_of(policy, about.id) else {
@@ -136,7 +139,8 @@ pub fn module_answer(
     asked: &Asked,
 ) -> Answer
     requires { TablesMatchGuard mem.now guard.now }
-    ensures { (started : List Bool) (input : List ℕ) → result ≡ module_call (facts_in started input (rules_of policy.now) mem.now.ram guard.now.pages modules.now) asked.now }
+    ensures { (started : List Bool) (input : List ℕ) → result ≡
+        module_call (facts_in started input (rules_of policy.now) mem.now.ram guard.now.pages modules.now) asked.now }
 {
     match asked.function {
         LOAD => load_call(policy, guard, mem, modules, asked),

@@ -34,8 +34,13 @@ fn begin_load(
     requires known { IsSome (slice_get (rules_of policy.now).modules about.id) }
     requires none { modules.old.loading ≡ None }
     requires place { is_good_place mem.old.ram guard.old.pages about (pages_in_rule (slice_get (rules_of policy.now).modules about.id)) ≡ true }
-    ensures modules { modules.new ≡ record { gate = record modules.old.gate { digests = [] }; loading = Some (record { hart = hart; load = new_load about (pages_in_rule (slice_get (rules_of policy.now).modules about.id)) }) } }
-    ensures guard { guard.new.pages ≡ with_span guard.old.pages (load_span (new_load about (pages_in_rule (slice_get (rules_of policy.now).modules about.id)))) Held }
+    ensures modules { modules.new ≡
+        record {
+          gate = record modules.old.gate { digests = [] };
+          loading = Some (record { hart = hart; load = new_load about (pages_in_rule (slice_get (rules_of policy.now).modules about.id)) });
+        } }
+    ensures guard { guard.new.pages ≡
+        with_span guard.old.pages (load_span (new_load about (pages_in_rule (slice_get (rules_of policy.now).modules about.id)))) Held }
     ensures tables_match { TablesStayMatched mem.old mem.new guard.old guard.new }
 {
     let load = modules.gate.begin(guard, mem, policy, about);
@@ -48,7 +53,8 @@ fn approve_load(guard: &mut Guard, mem: &mut HostMem, modules: &mut Modules)
     requires may { IfSome modules.old.loading (MayEnd guard.old.pages modules.old.gate.loaded) }
     requires there { IsSome modules.old.loading }
     requires counted { IfSome modules.old.loading (λ u. u.load.left ≡ 0) }
-    ensures modules { IfSome modules.old.loading (λ u. modules.new ≡ record { gate = record modules.old.gate { loaded = with_module modules.old.gate.loaded u.load.about }; loading = None }) }
+    ensures modules { IfSome modules.old.loading (λ u. modules.new ≡
+        record { gate = record modules.old.gate { loaded = with_module modules.old.gate.loaded u.load.about }; loading = None }) }
     ensures guard { IfSome modules.old.loading (λ u. guard.new.pages ≡ with_span guard.old.pages (load_span u.load) Approved) }
     ensures tables_match { TablesStayMatched mem.old mem.new guard.old guard.new }
 {
@@ -89,7 +95,8 @@ pub fn give_pages(
     requires joined { AreJoined (rules_of policy.now) modules.old }
     requires guarded { AreGuarded (rules_of policy.now) guard.old.pages modules.old.gate.loaded (loading_of modules.old) }
     requires given { IsGiven (facts_in [] [] (rules_of policy.now) mem.old.ram guard.old.pages modules.old) (loading_of modules.old) side_effect.now }
-    ensures machine { (m : Machine) → with_modules m (rules_of policy.now) mem.new guard.new.pages modules.new ≡ with_tables (hw_pages_side_effect side_effect.now hart (with_modules m (rules_of policy.now) mem.old guard.old.pages modules.old)) mem.new.tables }
+    ensures machine { (m : Machine) → with_modules m (rules_of policy.now) mem.new guard.new.pages modules.new ≡
+        with_tables (hw_pages_side_effect side_effect.now hart (with_modules m (rules_of policy.now) mem.old guard.old.pages modules.old)) mem.new.tables }
     ensures changed { result ≡ sets_protections side_effect.now }
     ensures kept { result ≡ false → (guard.new ≡ guard.old) × (mem.new ≡ mem.old) }
     ensures joined { AreJoined (rules_of policy.now) modules.new }

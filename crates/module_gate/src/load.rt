@@ -92,7 +92,8 @@ impl Load {
 
     /// Whether the counted pages are those that the policy measured, with all fields right. The gate is the one of the load.
     pub fn is_good(&self, gate: &Gate, policy: &Policy) -> bool
-        ensures { (hart : ℕ) → result ≡ hw_is_good (hw_load hart (with_digests gate.now.digests self.now)) (slice_get (rules_of policy.now).modules self.now.about.id) }
+        ensures { (hart : ℕ) → result ≡
+            hw_is_good (hw_load hart (with_digests gate.now.digests self.now)) (slice_get (rules_of policy.now).modules self.now.about.id) }
     {
         match rule_of(policy, self.about.id) {
             None => false,

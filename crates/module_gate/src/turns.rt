@@ -47,7 +47,8 @@ fn count_page(load: &mut Load, gate: &mut Gate, mem: &HostMem, policy: &Policy)
     requires left { 0 < load.old.left }
     requires tallied { length gate.old.digests + load.old.left ≡ load.old.pages }
     requires inside { page_size * (page_of load.old.about.gpa + load.old.pages) ≤ length mem.now.ram }
-    ensures counted { (hart left : ℕ) → load.old.left ≡ suc left → hw_load hart (with_digests gate.new.digests load.new) ≡ load_counted (rules_of policy.now) mem.now.ram
+    ensures counted { (hart left : ℕ) → load.old.left ≡ suc left → hw_load hart (with_digests gate.new.digests load.new) ≡
+        load_counted (rules_of policy.now) mem.now.ram
         (hw_load hart (with_digests gate.old.digests load.old)) left (slice_get (rules_of policy.now).modules load.old.about.id) }
     ensures pages { load.new.pages ≡ load.old.pages }
     ensures tallied { length gate.new.digests + load.new.left ≡ load.new.pages }
@@ -62,8 +63,11 @@ pub fn load_turn(mem: &HostMem, policy: &Policy, modules: &mut Modules) -> Optio
     requires within { IsTrue (rules_within (rules_of policy.now)) }
     requires joined { AreJoined (rules_of policy.now) modules.old }
     requires readable { IsReadable (rules_of policy.now) mem.now modules.old }
-    ensures counted { result ≡ None → (m : Machine) (h : ℕ) (guard : List Protection) → with_modules m (rules_of policy.now) mem.now guard modules.new ≡ served_load_turn (with_modules m (rules_of policy.now) mem.now guard modules.old) h }
-    ensures decided { IfSome result (λ answer. (m : Machine) (h : ℕ) (guard : List Protection) → served_load_turn (with_modules m (rules_of policy.now) mem.now guard modules.old) h ≡ hw_given (with_modules m (rules_of policy.now) mem.now guard modules.old) h answer) }
+    ensures counted { result ≡ None → (m : Machine) (h : ℕ) (guard : List Protection) →
+        with_modules m (rules_of policy.now) mem.now guard modules.new ≡ served_load_turn (with_modules m (rules_of policy.now) mem.now guard modules.old) h }
+    ensures decided { IfSome result (λ answer. (m : Machine) (h : ℕ) (guard : List Protection) →
+        served_load_turn (with_modules m (rules_of policy.now) mem.now guard modules.old) h ≡
+        hw_given (with_modules m (rules_of policy.now) mem.now guard modules.old) h answer) }
     ensures given { IfSome result (λ answer. IsOfLoad (rules_of policy.now) (loading_of modules.old) answer.side_effect) }
     ensures kept { OnSome result (modules.new ≡ modules.old) }
     ensures joined { AreJoined (rules_of policy.now) modules.new }

@@ -9,7 +9,10 @@ use Rattle.spec_reference.specs.Calls.{Asked, Facts}
 use Rattle.spec_reference.specs.ModuleCalls.{load_call, unload_call, retire_call, module_call, load_decision, good_address}
 use Rattle.spec_reference.specs.declared.answers.Answer.{Answer}
 use Rattle.spec_reference.specs.declared.answers.SideEffect.{SideEffect}
-use Rattle.spec_reference.specs.declared.answers.SideEffect.TheVariants.{Nothing, SetsTimer, Prints, TakesInput, ShutsDown, SendsInterrupts, StartsHart, BeginsLoad, RefusesLoad, ApprovesModule, ReleasesModule, UnloadsModule, RefusesUnload, RetiresInit, RefusesRetire}
+use Rattle.spec_reference.specs.declared.answers.SideEffect.TheVariants.{Nothing, SetsTimer, Prints, TakesInput, ShutsDown, SendsInterrupts}
+use Rattle.spec_reference.specs.declared.answers.SideEffect.TheVariants.{StartsHart, BeginsLoad, RefusesLoad, ApprovesModule}
+use Rattle.spec_reference.specs.declared.answers.SideEffect.TheVariants.{ReleasesModule, UnloadsModule, RefusesUnload, RetiresInit}
+use Rattle.spec_reference.specs.declared.answers.SideEffect.TheVariants.{RefusesRetire}
 use Rattle.monitor_calls.specs.Known.{StartsOneOf}
 
 either : (n : ℕ) (b : Bool) (yes_answer no_answer : Answer) → StartsOneOf n yes_answer.side_effect → StartsOneOf n no_answer.side_effect

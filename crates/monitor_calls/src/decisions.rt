@@ -2,7 +2,8 @@
 
 ghost use Rattle.std.specs.Prelude.{◌≡◌, ◌<◌, ◌≤◌, ℕ, length, slice_get, OnSome, false};
 ghost use Rattle.sv_types.specs.Limits.{max_harts};
-ghost use Rattle.spec_reference.specs.Calls.{Facts, first_input, base_call, timer_call, ipi_call, fence_call, start_other, status_of_hart, hart_call, shut_down, reset_call};
+ghost use Rattle.spec_reference.specs.Calls.{Facts, first_input, base_call, timer_call, ipi_call, fence_call, start_other, status_of_hart};
+ghost use Rattle.spec_reference.specs.Calls.{hart_call, shut_down, reset_call};
 ghost use Rattle.spec_reference.specs.ModuleCalls.{answer_of};
 ghost use Rattle.monitor_exits.specs.Asking.{is_about_modules};
 ghost use Rattle.monitor_calls.specs.Known.{started_of, StartsOneOf};
@@ -221,7 +222,8 @@ fn reset_call(asked: &Asked) -> Answer
 pub fn answer_of(slots: &[HartSlot], entries: &Entries, input: &[u8], asked: &Asked) -> Answer
     requires few { length slots.now ≤ max_harts }
     requires others { is_about_modules asked.now ≡ false }
-    ensures answer { (f : Facts) → f.rules.entries ≡ entries.now.entries → f.started ≡ started_of slots.now → f.input ≡ input.now → result ≡ answer_of f asked.now }
+    ensures answer { (f : Facts) → f.rules.entries ≡ entries.now.entries → f.started ≡ started_of slots.now → f.input ≡ input.now → result ≡
+        answer_of f asked.now }
     ensures starts { StartsOneOf (length slots.now) result.side_effect }
 {
     let harts = slots.len() as u64;

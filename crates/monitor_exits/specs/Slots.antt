@@ -10,7 +10,8 @@ slot_after_write hpa width slot = record slot {
 }
 
 abbrev pub slot_with_software : HartSlot → HartSlot
-slot_with_software slot = record slot { hart = record slot.hart { core = record slot.hart.core { csrs = record slot.hart.core.csrs { hvip = virtual_software_bit } } } }
+slot_with_software slot = record slot
+    { hart = record slot.hart { core = record slot.hart.core { csrs = record slot.hart.core.csrs { hvip = virtual_software_bit } } } }
 
 -- of slots that are numbered from `at` on, the first n
 unfoldable pub first_changed : (ℕ → HartSlot → HartSlot) → (at n : ℕ) → List HartSlot → List HartSlot

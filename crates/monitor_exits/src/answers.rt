@@ -7,7 +7,8 @@ ghost use Rattle.spec_processor.specs.IntegerRegisters.{register_count};
 ghost use Rattle.spec_processor.specs.Traps.{is_interrupt, guest_number, trap_target, mode_at_return};
 ghost use Rattle.spec_processor.specs.declared.mode.Mode.TheVariants.{Kernel};
 ghost use Rattle.spec_reference.specs.Trapping.{may_enter};
-ghost use Rattle.spec_hardware.specs.HwHarts.{hw_at_trap, hw_at_return, hw_demoted, hw_outside, hw_passed, hw_with, hw_answered, hw_stayed, hw_stopped, hw_started};
+ghost use Rattle.spec_hardware.specs.HwHarts.{hw_at_trap, hw_at_return, hw_demoted, hw_outside, hw_passed, hw_with, hw_answered, hw_stayed};
+ghost use Rattle.spec_hardware.specs.HwHarts.{hw_stopped, hw_started};
 ghost use Rattle.page_guard.specs.Privileges.{mode_of, view_at_return};
 ghost use Rattle.monitor_exits.specs.HwOfSlots.{hw_of};
 ghost use Rattle.monitor_exits.specs.Trapped.{in_handler, back_from_handler};
@@ -37,9 +38,15 @@ pub(crate) fn take_trap(
     trap: Trap,
 ) -> Result<(), Forbidden>
     requires { hart.old.core.pc % instruction_size ≡ 0 }
-    ensures permitted { (rules : Rules) → rules.entries ≡ entries.now.entries → OnOk result (may_enter rules (mode_of privilege.old) (trap_target hart.old.core.csrs.vstvec (is_interrupt trap.cause) (guest_number trap.cause)) ≡ true) }
-    ensures forbidden { (rules : Rules) → rules.entries ≡ entries.now.entries → OnErr result (may_enter rules (mode_of privilege.old) (trap_target hart.old.core.csrs.vstvec (is_interrupt trap.cause) (guest_number trap.cause)) ≡ false) }
-    ensures hart { (rules : Rules) → rules.entries ≡ entries.now.entries → rules.bound ≡ entries.now.bound → OnOk result (hw_of hart.new privilege.new ≡ hw_at_trap rules (is_interrupt trap.cause) (guest_number trap.cause) trap.tval (hw_of hart.old privilege.old)) }
+    ensures permitted { (rules : Rules) → rules.entries ≡ entries.now.entries →
+        OnOk result
+        (may_enter rules (mode_of privilege.old) (trap_target hart.old.core.csrs.vstvec (is_interrupt trap.cause) (guest_number trap.cause)) ≡ true) }
+    ensures forbidden { (rules : Rules) → rules.entries ≡ entries.now.entries →
+        OnErr result
+        (may_enter rules (mode_of privilege.old) (trap_target hart.old.core.csrs.vstvec (is_interrupt trap.cause) (guest_number trap.cause)) ≡ false) }
+    ensures hart { (rules : Rules) → rules.entries ≡ entries.now.entries → rules.bound ≡ entries.now.bound →
+        OnOk result (hw_of hart.new privilege.new ≡
+        hw_at_trap rules (is_interrupt trap.cause) (guest_number trap.cause) trap.tval (hw_of hart.old privilege.old)) }
     ensures kept { OnErr result (hw_of hart.new privilege.new ≡ hw_of hart.old privilege.old) }
     ensures target { IfErr result (λ forbidden. forbidden.target ≡ trap_target hart.old.core.csrs.vstvec (is_interrupt trap.cause) (guest_number trap.cause)) }
 {

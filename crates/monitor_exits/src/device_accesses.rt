@@ -36,7 +36,10 @@ pub fn device_load(
     requires aligned { slot.old.hart.core.pc % instruction_size ≡ 0 }
     requires counts { MayCount journal.old.counts }
     requires register { load.rd < register_count }
-    ensures machine { (m : Machine) → m.rules.entries ≡ entries.now.entries → m.rules.bound ≡ entries.now.bound → with_devices m hart (hw_at slot.new) devices.new journal.new ≡ hw_device_load (with_devices m hart (hw_at slot.old) devices.old journal.old) hart (hw_at slot.old) (mode_of slot.old.privilege) load.rd load.address load.width load.signed (device_load devices.old load.gpa load.width) }
+    ensures machine { (m : Machine) → m.rules.entries ≡ entries.now.entries → m.rules.bound ≡ entries.now.bound →
+        with_devices m hart (hw_at slot.new) devices.new journal.new ≡
+        hw_device_load (with_devices m hart (hw_at slot.old) devices.old journal.old) hart (hw_at slot.old) (mode_of slot.old.privilege) load.rd
+        load.address load.width load.signed (device_load devices.old load.gpa load.width) }
 {
     match devices.load(load.gpa, load.width) {
         Some(value) => {
@@ -64,7 +67,10 @@ pub fn device_store(
     requires aligned { slot.old.hart.core.pc % instruction_size ≡ 0 }
     requires counts { MayCount journal.old.counts }
     requires room { length journal.old.printed < max_printed }
-    ensures machine { (m : Machine) → m.rules.entries ≡ entries.now.entries → m.rules.bound ≡ entries.now.bound → with_devices m hart (hw_at slot.new) devices.new journal.new ≡ hw_device_store (with_devices m hart (hw_at slot.old) devices.old journal.old) hart (hw_at slot.old) (mode_of slot.old.privilege) store.address (device_store devices.old journal.old store.gpa store.width store.value) }
+    ensures machine { (m : Machine) → m.rules.entries ≡ entries.now.entries → m.rules.bound ≡ entries.now.bound →
+        with_devices m hart (hw_at slot.new) devices.new journal.new ≡
+        hw_device_store (with_devices m hart (hw_at slot.old) devices.old journal.old) hart (hw_at slot.old) (mode_of slot.old.privilege)
+        store.address (device_store devices.old journal.old store.gpa store.width store.value) }
 {
     if devices.store(journal, store.gpa, store.width, store.value) {
         pass(&mut slot.hart);

@@ -26,7 +26,8 @@ use spec_processor::{Cause, Exit, ExitCause, Mode};
 /// and those exceptions that have no answer of their own.
 pub fn exit_answer(mem: &HostMem, slot: &HartSlot, entries: &Entries, exit: &Exit) -> ExitAnswer
     requires aligned { slot.now.hart.core.pc % instruction_size ≡ 0 }
-    ensures answer { (rules : Rules) → rules.entries ≡ entries.now.entries → rules.bound ≡ entries.now.bound → result ≡ exit_answer (hw_seen mem.now.ram rules (hw_at slot.now) (mode_of slot.now.privilege) exit.now) exit.now }
+    ensures answer { (rules : Rules) → rules.entries ≡ entries.now.entries → rules.bound ≡ entries.now.bound → result ≡
+        exit_answer (hw_seen mem.now.ram rules (hw_at slot.now) (mode_of slot.now.privilege) exit.now) exit.now }
     ensures possible { IsPossible (mode_of slot.now.privilege) result }
 {
     let address = entry_address(&slot.privilege, entries);
@@ -35,7 +36,8 @@ pub fn exit_answer(mem: &HostMem, slot: &HartSlot, entries: &Entries, exit: &Exi
 
 // The address of the entry that a hart on a side is in.
 fn entry_address(privilege: &PrivilegeView, entries: &Entries) -> Option<u64>
-    ensures { (rules : Rules) → rules.entries ≡ entries.now.entries → rules.bound ≡ entries.now.bound → result ≡ option_map (λ (entry : Binding). entry.va) (bound_entry rules (entry_of privilege.now)) }
+    ensures { (rules : Rules) → rules.entries ≡ entries.now.entries → rules.bound ≡ entries.now.bound → result ≡
+        option_map (λ (entry : Binding). entry.va) (bound_entry rules (entry_of privilege.now)) }
 {
     match privilege.entry() {
         Some(place) => entries.address(place),

@@ -3,7 +3,8 @@
 ghost use Rattle.std.specs.Prelude.{◌≡◌, ◌||◌, Option};
 ghost use Rattle.spec_processor.specs.declared.mode.Mode.{Mode as Privilege};
 ghost use Rattle.spec_reference.specs.States.{Binding};
-ghost use Rattle.spec_hardware.specs.Served.{raises, is_sret_word, is_fetch_fault, is_guest_fetch_fault, fetch_answer, entry_answer, exit_ram_gpa, virtual_answer};
+ghost use Rattle.spec_hardware.specs.Served.{raises, is_sret_word, is_fetch_fault, is_guest_fetch_fault, fetch_answer, entry_answer};
+ghost use Rattle.spec_hardware.specs.Served.{exit_ram_gpa, virtual_answer};
 ghost use Rattle.monitor_exits.specs.Possible.{IsPossible};
 ghost use Rattle.monitor_exits.specs.Seen.{seen_on};
 

@@ -29,7 +29,10 @@ pub fn guest_trap(
 )
     requires aligned { slot.old.hart.core.pc % instruction_size ≡ 0 }
     requires counts { MayCount journal.old.counts }
-    ensures machine { (m : Machine) → m.rules.entries ≡ entries.now.entries → m.rules.bound ≡ entries.now.bound → with_hart m hart (hw_at slot.new) journal.new ≡ hw_trap (with_hart m hart (hw_at slot.old) journal.old) hart (hw_at slot.old) (mode_of slot.old.privilege) (is_interrupt trap.cause) (guest_number trap.cause) trap.tval }
+    ensures machine { (m : Machine) → m.rules.entries ≡ entries.now.entries → m.rules.bound ≡ entries.now.bound →
+        with_hart m hart (hw_at slot.new) journal.new ≡
+        hw_trap (with_hart m hart (hw_at slot.old) journal.old) hart (hw_at slot.old) (mode_of slot.old.privilege) (is_interrupt trap.cause)
+        (guest_number trap.cause) trap.tval }
 {
     let from = slot.privilege.mode();
     match take_trap(&mut slot.hart, &mut slot.privilege, entries, trap) {
@@ -48,7 +51,8 @@ pub fn guest_trap(
 pub fn guest_return(slot: &mut HartSlot, journal: &mut Journal)
     requires kernel { mode_of slot.old.privilege ≡ Kernel }
     requires counts { MayCount journal.old.counts }
-    ensures machine { (m : Machine) (h : ℕ) → with_hart m h (hw_at slot.new) journal.new ≡ hw_return (with_hart m h (hw_at slot.old) journal.old) h (hw_at slot.old) }
+    ensures machine { (m : Machine) (h : ℕ) → with_hart m h (hw_at slot.new) journal.new ≡
+        hw_return (with_hart m h (hw_at slot.old) journal.old) h (hw_at slot.old) }
 {
     return_from_trap(&mut slot.hart, &mut slot.privilege);
     journal.count_return(slot.privilege.mode());
@@ -58,7 +62,8 @@ pub fn guest_return(slot: &mut HartSlot, journal: &mut Journal)
 #[tactic(auto, using(crate::proofs::Places::update_there))]
 pub fn guest_demotion(hart: u8, slot: &mut HartSlot, journal: &mut Journal, gpa: u64)
     requires counts { MayCount journal.old.counts }
-    ensures machine { (m : Machine) → with_hart m hart (hw_at slot.new) journal.new ≡ hw_demote (with_hart m hart (hw_at slot.old) journal.old) hart (hw_at slot.old) gpa }
+    ensures machine { (m : Machine) → with_hart m hart (hw_at slot.new) journal.new ≡
+        hw_demote (with_hart m hart (hw_at slot.old) journal.old) hart (hw_at slot.old) gpa }
 {
     journal.demote(hart, slot.hart.core.pc, gpa);
     demote(&mut slot.hart, &mut slot.privilege);
@@ -67,14 +72,16 @@ pub fn guest_demotion(hart: u8, slot: &mut HartSlot, journal: &mut Journal, gpa:
 /// The entry is left, and nothing else changes, so that the hart attempts the same turn again.
 #[tactic(auto, using(crate::proofs::Places::update_there))]
 pub fn leave_entry(slot: &mut HartSlot)
-    ensures machine { (m : Machine) (h : ℕ) (journal : Records) → with_hart m h (hw_at slot.new) journal ≡ with_hw (with_hart m h (hw_at slot.old) journal) h hw_outside }
+    ensures machine { (m : Machine) (h : ℕ) (journal : Records) → with_hart m h (hw_at slot.new) journal ≡
+        with_hw (with_hart m h (hw_at slot.old) journal) h hw_outside }
 {
     send_again(&mut slot.privilege);
 }
 
 /// The machine stops, since a hart was to write a protected page.
 pub fn stop_at_write(hart: u8, slot: &HartSlot, journal: &mut Journal, gpa: u64)
-    ensures machine { (m : Machine) → with_hart m hart (hw_at slot.now) journal.new ≡ hw_write_stopped (with_hart m hart (hw_at slot.now) journal.old) hart (hw_at slot.now) gpa }
+    ensures machine { (m : Machine) → with_hart m hart (hw_at slot.now) journal.new ≡
+        hw_write_stopped (with_hart m hart (hw_at slot.now) journal.old) hart (hw_at slot.now) gpa }
 {
     journal.stop(
         hart,

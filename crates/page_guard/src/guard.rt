@@ -36,7 +36,9 @@ impl Model for Guard {
 
     ghost view = { λ g. record { pages = g.protections.items; bound = g.trees.bound } };
 
-    ghost invariant = { λ g. (g.trees.ram_pages ≡ length g.protections.items) × (CountsTaken g.trees.counts (length g.protections.items) (protection_at g.protections.items) × ((g.dma ≡ map is_free g.protections.items) × (length g.protections.items ≤ max_ram_pages))) };
+    ghost invariant = { λ g. (g.trees.ram_pages ≡ length g.protections.items) ×
+        (CountsTaken g.trees.counts (length g.protections.items) (protection_at g.protections.items) ×
+        ((g.dma ≡ map is_free g.protections.items) × (length g.protections.items ≤ max_ram_pages))) };
 }
 
 /// Pages that are held, until they are approved or released. It can't be dropped. Contracts see the span.

@@ -105,7 +105,8 @@ impl PrivilegeView {
     pub fn enter(&mut self, entries: &Entries, target: u64) -> Result<(), Forbidden>
         ensures permitted { (rules : Rules) → rules.entries ≡ entries.now.entries → OnOk result (may_enter rules (mode_of self.old) target ≡ true) }
         ensures forbidden { (rules : Rules) → rules.entries ≡ entries.now.entries → OnErr result (may_enter rules (mode_of self.old) target ≡ false) }
-        ensures entered { (rules : Rules) → rules.entries ≡ entries.now.entries → rules.bound ≡ entries.now.bound → OnOk result (self.new ≡ view_at_trap rules self.old target) }
+        ensures entered { (rules : Rules) → rules.entries ≡ entries.now.entries → rules.bound ≡ entries.now.bound →
+            OnOk result (self.new ≡ view_at_trap rules self.old target) }
         ensures kept { OnErr result (self.new ≡ self.old) }
         ensures target { IfErr result (λ forbidden. forbidden.target ≡ target) }
     {

@@ -47,8 +47,18 @@ module _ (v : Visor) (w : Hardware) (j : Journal) where
       let same : next ≡ with_tables (hw_given whole h a) mem.tables =
       ap (λ (m : Machine). record m { harts = hw_harts_of slots; devices = devices; journal = journal }) made
       ∙ ap (λ (x : List HwHart). with_tables (record (hw_pages_side_effect a.side_effect h whole) { harts = x; devices = devices; journal = journal }) mem.tables) harts
-      ∙ ap (λ (x : Devices). with_tables (record (hw_pages_side_effect a.side_effect h whole) { harts = hw_harts_side_effect a.side_effect (update (hw_harts_of w.slots.items) h (hw_replied a.reply)); devices = x; journal = journal }) mem.tables) device
-      ∙ ap (λ (x : Journal). with_tables (record (hw_pages_side_effect a.side_effect h whole) { harts = hw_harts_side_effect a.side_effect (update (hw_harts_of w.slots.items) h (hw_replied a.reply)); devices = devices_side_effect a.side_effect h w.devices; journal = x }) mem.tables) noted in
+      ∙ ap (λ (x : Devices). with_tables
+      (record (hw_pages_side_effect a.side_effect h whole) {
+        harts = hw_harts_side_effect a.side_effect (update (hw_harts_of w.slots.items) h (hw_replied a.reply));
+        devices = x;
+        journal = journal;
+      }) mem.tables) device
+      ∙ ap (λ (x : Journal). with_tables
+      (record (hw_pages_side_effect a.side_effect h whole) {
+        harts = hw_harts_side_effect a.side_effect (update (hw_harts_of w.slots.items) h (hw_replied a.reply));
+        devices = devices_side_effect a.side_effect h w.devices;
+        journal = x;
+      }) mem.tables) noted in
       record {
         tables = mem.tables;
         are = record {

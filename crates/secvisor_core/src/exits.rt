@@ -68,7 +68,8 @@ impl Visor {
         requires hart { MayTrap (hw_harts_of hardware.old.slots.items) hart }
         requires counts { MayCount journal.old.counts }
         ensures joined { IsJoined self.now hardware.new }
-        ensures answer { Answered (machine_of self.now hardware.old journal.old) hart (Traps trap.cause trap.tval) (machine_of self.now hardware.new journal.new) }
+        ensures answer { Answered (machine_of self.now hardware.old journal.old) hart (Traps trap.cause trap.tval)
+            (machine_of self.now hardware.new journal.new) }
     {
         let slot = &mut hardware.slots[hart as usize];
         guest_trap(hart, slot, &self.entries, journal, trap);
@@ -165,7 +166,8 @@ impl Visor {
     fn call_answer(&self, hardware: &Hardware, hart: u8) -> Answer
         requires joined { IsJoined self.now hardware.now }
         requires there { hart < length (hw_harts_of hardware.now.slots.items) }
-        ensures answer { (journal : Records) → result ≡ answer_of (hw_facts (machine_of self.now hardware.now journal)) (asked_by (hart_in (hw_harts_of hardware.now.slots.items) hart).core.registers) }
+        ensures answer { (journal : Records) → result ≡
+            answer_of (hw_facts (machine_of self.now hardware.now journal)) (asked_by (hart_in (hw_harts_of hardware.now.slots.items) hart).core.registers) }
         ensures starts { StartsOneOf (length (hw_harts_of hardware.now.slots.items)) result.side_effect }
     {
         let asked = Asked::by(&hardware.slots[hart as usize].hart.core.regs);
@@ -202,7 +204,8 @@ impl Visor {
         requires given { IsGiven (hw_facts (machine_of self.old hardware.old journal.old)) (loading_of self.old.modules) answer.now.side_effect }
         requires starts { StartsOneOf (length (hw_harts_of hardware.old.slots.items)) answer.now.side_effect }
         ensures joined { IsJoined self.new hardware.new }
-        ensures answer { WithTables (machine_of self.old hardware.old journal.old) (hw_given (machine_of self.old hardware.old journal.old) hart answer.now) (machine_of self.new hardware.new journal.new) }
+        ensures answer { WithTables (machine_of self.old hardware.old journal.old) (hw_given (machine_of self.old hardware.old journal.old) hart
+            answer.now) (machine_of self.new hardware.new journal.new) }
     {
         monitor_calls::give(
             hart,
@@ -228,7 +231,8 @@ impl Visor {
         requires there { hart < length (hw_harts_of hardware.old.slots.items) }
         requires may { MayServe (machine_of self.old hardware.old journal.old) }
         ensures joined { IsJoined self.new hardware.new }
-        ensures answer { WithTables (machine_of self.old hardware.old journal.old) (served_call (machine_of self.old hardware.old journal.old) hart (hart_in (hw_harts_of hardware.old.slots.items) hart)) (machine_of self.new hardware.new journal.new) }
+        ensures answer { WithTables (machine_of self.old hardware.old journal.old) (served_call (machine_of self.old hardware.old journal.old) hart
+            (hart_in (hw_harts_of hardware.old.slots.items) hart)) (machine_of self.new hardware.new journal.new) }
     {
         let answer = self.call_answer(hardware, hart);
         self.give(hardware, journal, hart, &answer);
@@ -278,7 +282,9 @@ impl Visor {
         requires hart { MayTrap (hw_harts_of hardware.old.slots.items) hart }
         requires may { MayServe (machine_of self.old hardware.old journal.old) }
         ensures joined { IsJoined self.new hardware.new }
-        ensures answer { WithTables (machine_of self.old hardware.old journal.old) (hw_exit (machine_of self.old hardware.old journal.old) hart (hart_in (hw_harts_of hardware.old.slots.items) hart) (hart_in (hw_harts_of hardware.old.slots.items) hart).core.hregs.mode exit) (machine_of self.new hardware.new journal.new) }
+        ensures answer { WithTables (machine_of self.old hardware.old journal.old) (hw_exit (machine_of self.old hardware.old journal.old) hart
+            (hart_in (hw_harts_of hardware.old.slots.items) hart) (hart_in (hw_harts_of hardware.old.slots.items) hart).core.hregs.mode exit)
+            (machine_of self.new hardware.new journal.new) }
     {
         let answer = self.exit_answer(hardware, hart, &exit);
         self.carry_out(hardware, journal, hart, answer);

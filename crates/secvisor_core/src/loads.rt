@@ -33,7 +33,8 @@ impl Visor {
         requires there { hart < length (hw_harts_of hardware.old.slots.items) }
         requires may { MayServe (machine_of self.old hardware.old journal.old) }
         ensures joined { IsJoined self.new hardware.new }
-        ensures turn { WithTables (machine_of self.old hardware.old journal.old) (served_load_turn (machine_of self.old hardware.old journal.old) hart) (machine_of self.new hardware.new journal.new) }
+        ensures turn { WithTables (machine_of self.old hardware.old journal.old) (served_load_turn (machine_of self.old hardware.old journal.old)
+            hart) (machine_of self.new hardware.new journal.new) }
     {
         law_starts();
         if let Some(answer) = load_turn(&hardware.mem, &self.policy, &mut self.modules) {

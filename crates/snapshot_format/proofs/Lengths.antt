@@ -1,4 +1,4 @@
--- The spelling of a snapshot is no longer than a snapshot's file may be.
+-- The encoding of a snapshot is no longer than a snapshot's file may be.
 use Rattle.std.proofs.Common.{◌≡◌, ℕ, zero, suc, ◌+◌, ◌*◌, ◌^◌, ◌≤◌, Bool, true, false, cond, leb, List, [], ◌∷◌, ◌++◌, length, None, ap, arith}
 use Rattle.std.specs.Prelude.{◌&&◌, ◌||◌, not, nat_lt, nat_le, ◌==◌, ◌%◌, min, is_some}
 use Rattle.std.proofs.lemmas.Bool.{eqb-true, leb-true}

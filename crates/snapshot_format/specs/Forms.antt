@@ -1,4 +1,4 @@
--- How values are spelled as bytes and read again. A form of a type says which values have a spelling, what it is, and which
+-- How values are encoded as bytes and read again. A form of a type says which values have an encoding, what it is, and which
 -- value stands at the front of some bytes. Forms are put together from small ones. This project's own.
 use Rattle.std.specs.Int.{w64, to_le_bytes, from_le_bytes}
 use Rattle.std.specs.Prelude.{ℕ, zero, suc, ◌^◌, List, [], ◌∷◌, ◌++◌, length, take, drop, Bool, true, false, ◌&&◌, Result, Ok, Err, nat_lt, ◌==◌, if◌then◌else◌}
@@ -16,7 +16,7 @@ Taken A = Result (A × List ℕ) SnapRefusal
 
 pub record Form (A : Type 0) : Type 0 where
   pub encode : A → List ℕ
-  -- the value has a spelling
+  -- the value has an encoding
   pub has : A → Bool
   pub taken : List ℕ → Taken A
 
@@ -82,7 +82,7 @@ infixr 10 ◌⨾◌
 abbrev pub ◌⨾◌ : {A B : Type 0} → Form A → Form B → Form (A × B)
 f ⨾ g = and_then f (λ a. g)
 
--- the same spellings, read as other values. A proper value stands for one that was spelled, there and back
+-- the same encodings, read as other values. A proper value stands for one that was encoded, there and back
 abbrev pub map_value : {A B : Type 0} → (A → B) → A × List ℕ → Taken B
 map_value to x = Ok (to x.0, x.1)
 

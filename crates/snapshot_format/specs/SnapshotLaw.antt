@@ -4,7 +4,7 @@ use Rattle.snapshot_format.specs.FormLaw.{IsBytes}
 use Rattle.snapshot_format.specs.Snapshots.{Contents, snapshot, snapshot_read}
 
 pub record SnapshotLaw : Type 0 where
-  -- what has a spelling is read from it
+  -- what has an encoding is read from it
   pub again : (s : Contents) → snapshot.has s ≡ true → snapshot_read (snapshot.encode s) ≡ Ok s
-  -- what is read is spelled so, each byte of it
+  -- what is read is encoded so, each byte of it
   pub only : (bytes : List ℕ) (s : Contents) → IsBytes bytes → snapshot_read bytes ≡ Ok s → (bytes ≡ snapshot.encode s) × (snapshot.has s ≡ true)

@@ -13,7 +13,7 @@ mod whole;
 pub use refusal::SnapRefusal;
 pub use whole::{MAGIC, MAGIC_BYTES, Snapshot, TextPage};
 
-/// A snapshot that has a spelling is read from its spelling, and what is read is spelled by exactly the bytes that were read.
+/// A snapshot that has an encoding is read from its encoding, and what is read is encoded by exactly the bytes that were read.
 pub fn law_snapshot()
     ensures { SnapshotLaw }
 {}

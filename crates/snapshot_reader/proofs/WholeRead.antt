@@ -1,4 +1,4 @@
--- What is read is spelled so, and what is spelled is read.
+-- What is read is encoded so, and what is encoded is read.
 use Rattle.std.proofs.Common.{◌≡◌, ℕ, List, true, Ok, Err, ap, subst, ◌∙◌}
 use Rattle.std.specs.Prelude.{IfOk, Result}
 use Rattle.snapshot_format.specs.FormLaw.{IsBytes}

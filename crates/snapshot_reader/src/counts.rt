@@ -20,7 +20,7 @@ pub(crate) fn read_counts(bytes: &[u8], events: u64) -> Result<(Counts, &[u8]), 
     Ok((counts_of_row(row), rest))
 }
 
-// The counts, from their numbers in the order in which these are spelled.
+// The counts, from their numbers in the order in which these are encoded.
 fn counts_of_row(row: [u64; COUNTS]) -> Counts
     ensures { result ≡ counts_of_row row }
 {

@@ -1,4 +1,4 @@
-//! The snapshot that some bytes are: what is read is spelled so, as `snapshot_format` defines it.
+//! The snapshot that some bytes are: what is read is encoded so, as `snapshot_format` defines it.
 #![tactic(auto)]
 
 mod block;

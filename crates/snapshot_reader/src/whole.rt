@@ -24,7 +24,7 @@ use sv_types::{MAX_EVENTS, MAX_HARTS, PortState};
 /// The most bytes that a snapshot has.
 pub const MAX_SNAPSHOT_BYTES: usize = 1300 << 20;
 
-/// The snapshot that some bytes are. What is read is spelled so, and each snapshot is read from its spelling; else the first
+/// The snapshot that some bytes are. What is read is encoded so, and each snapshot is read from its encoding; else the first
 /// refusal from left to right is answered, or out of memory.
 pub fn read(alloc: Global, bytes: &[u8]) -> Result<Snapshot, ReadError>
     ensures read { Reads contents result (snapshot_read bytes.now) }

@@ -1,4 +1,4 @@
--- Spelling values one after another, as a loop does.
+-- Encoding values one after another, as a loop does.
 use Rattle.std.proofs.Common.{◌≡◌, ℕ, ◌+◌, suc, ◌^◌, ◌<◌, ◌≤◌, List, [], ◌∷◌, ◌++◌, length, get_or, take, refl, sym, ap, ◌∙◌, append_assoc, Bool, true}
 use Rattle.std.proofs.lemmas.Bool.{lt-ltb}
 use Rattle.std.proofs.lemmas.List.{append-nil, take_all, take_more}
@@ -8,7 +8,7 @@ use Rattle.snapshot_format.specs.Forms.{Form, is_word, encode_all}
 use Rattle.snapshot_format.specs.Typed.{are_words}
 use Rattle.snapshot_format.proofs.FormLaws.{both_true}
 
--- one value more is spelled
+-- one value more is encoded
 pub encoded_one : {A : Type 0} (f : List A → Form A) (before values : List A) (a : A) → encode_all f before (values ++ a ∷ []) ≡ encode_all f before values ++ (f (before ++ values)).encode a
 unfolding encode_all
 encoded_one f before [] a = rw (append-nil before, append-nil ((f before).encode a)) refl

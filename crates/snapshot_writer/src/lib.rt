@@ -1,4 +1,4 @@
-//! The bytes of a snapshot: what is written is its spelling, as `snapshot_format` defines it.
+//! The bytes of a snapshot: what is written is its encoding, as `snapshot_format` defines it.
 #![tactic(auto)]
 
 mod block;

@@ -1,4 +1,4 @@
-// Numbers, and what is spelled as one.
+// Numbers, and what is encoded as one.
 
 ghost use Rattle.std.specs.Prelude.{◌≡◌, ◌++◌, true, OnOk};
 ghost use Rattle.snapshot_format.specs.Forms.{counted_bytes, encode_number};

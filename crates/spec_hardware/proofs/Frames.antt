@@ -4,7 +4,8 @@ use Rattle.std.specs.Prelude.{Option, Some, if◌then◌else◌}
 use Rattle.std.proofs.lemmas.Bool.{eqb-true, eqb-false, cases_Bool, not-true}
 use Rattle.spec_reference.specs.Calls.{mask_names}
 use Rattle.spec_hardware.specs.Machine.{Machine, HwHart, update}
-use Rattle.spec_hardware.specs.HardwareEvent.{Answer, Others, Nobody, Starts, Interrupts, MayChange, is_stopped, hart_answered, software_set, interrupted_hw_harts, others_changed, machine_after_answer}
+use Rattle.spec_hardware.specs.HardwareEvent.{Answer, Others, Nobody, Starts, Interrupts, MayChange, is_stopped, hart_answered}
+use Rattle.spec_hardware.specs.HardwareEvent.{software_set, interrupted_hw_harts, others_changed, machine_after_answer}
 use Rattle.spec_hardware.specs.Frame.{FrameLaw, OtherStays, OwnStays}
 use Rattle.sv_types.proofs.SetElements.{set_other}
 

@@ -1,6 +1,7 @@
 -- What one event may change of the machine. This project's own: the hardware moves the harts, and SecVisor's answers stay
 -- within the parts that are theirs. Counts and notes are left aside: they are the reference machine's.
-use Rattle.std.specs.Prelude.{◌≡◌, ℕ, ◌+◌, ◌≤◌, Bool, true, false, not, List, [], ◌∷◌, ◌++◌, map, length, ◌==◌, if◌then◌else◌, Option, Some, None, slice_get, slice_set, ⊤, IsTrue}
+use Rattle.std.specs.Prelude.{◌≡◌, ℕ, ◌+◌, ◌≤◌, Bool, true, false, not, List, [], ◌∷◌, ◌++◌, map, length, ◌==◌, if◌then◌else◌, Option, Some}
+use Rattle.std.specs.Prelude.{None, slice_get, slice_set, ⊤, IsTrue}
 use Rattle.spec_processor.specs.Bytes.{page_size, place_in_page, overwrite, ram_offset, page_of, in_ram}
 use Rattle.spec_processor.specs.Hardware.{Attempted}
 use Rattle.spec_processor.specs.HardwareAttempt.{attempt}

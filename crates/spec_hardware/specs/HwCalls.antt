@@ -15,7 +15,8 @@ use Rattle.sv_types.specs.Protections.{is_approved, is_free}
 use Rattle.spec_reference.specs.Protections.{protection_at, with_pages, with_each}
 use Rattle.spec_reference.specs.declared.answers.Answer.{Answer}
 use Rattle.spec_reference.specs.declared.answers.SideEffect.{SideEffect}
-use Rattle.spec_reference.specs.declared.answers.SideEffect.TheVariants.{SendsInterrupts, StartsHart, BeginsLoad, ApprovesModule, ReleasesModule, UnloadsModule, RetiresInit}
+use Rattle.spec_reference.specs.declared.answers.SideEffect.TheVariants.{SendsInterrupts, StartsHart, BeginsLoad, ApprovesModule}
+use Rattle.spec_reference.specs.declared.answers.SideEffect.TheVariants.{ReleasesModule, UnloadsModule, RetiresInit}
 use Rattle.spec_reference.specs.declared.answers.Reply.{Reply}
 use Rattle.spec_reference.specs.declared.answers.Reply.TheVariants.{Gives, Replies, Stays, Stops}
 use Rattle.spec_hardware.specs.HardwareEvent.{interrupted_hw_harts}

@@ -1,6 +1,7 @@
 -- When a machine stands for a state of the reference machine: it is what the state makes of the parts that it leaves free.
 -- This project's own.
-use Rattle.std.specs.Prelude.{◌≡◌, ℕ, ◌+◌, ◌-◌, ◌*◌, ◌≤◌, Bool, true, List, [], ◌∷◌, map, filter, length, drop, nat_lt, Option, Some, None, option_map, slice_get}
+use Rattle.std.specs.Prelude.{◌≡◌, ℕ, ◌+◌, ◌-◌, ◌*◌, ◌≤◌, Bool, true, List, [], ◌∷◌, map, filter, length, drop, nat_lt, Option, Some, None}
+use Rattle.std.specs.Prelude.{option_map, slice_get}
 use Rattle.spec_processor.specs.Bytes.{page_size, page_of}
 use Rattle.spec_processor.specs.GuestView.{with_guest, hideleg_in}
 use Rattle.spec_processor.specs.Hardware.{Core}

@@ -30,4 +30,5 @@ returns-clause-kept c = record {
 }
 
 pub returns-clause-free : goal.returns-clause-free
-returns-clause-free c = free_there c.args.slots.now c.args.hart c.index-slots-hart.result c.batch_in_slot.new.slot c.requires.may.there c.batch_in_slot.ensures.hw c.batch_in_slot.ensures.free c.requires.free
+returns-clause-free c = free_there c.args.slots.now c.args.hart c.index-slots-hart.result c.batch_in_slot.new.slot c.requires.may.there c.batch_in_slot.ensures.hw
+    c.batch_in_slot.ensures.free c.requires.free

@@ -90,7 +90,13 @@ returns-in-ApprovesModule-clause-machine c = λ m.
     let may : IsCounted modules c.in-ApprovesModule.about =
     subst (MayDo law c.args.mem.now.ram c.args.guard.now.pages modules) c.in-ApprovesModule.is (may_do law c.args.mem.now.ram c.args.guard.now.pages modules c.args.side_effect.now c.requires.given) in
     let u = may.under_way in
-    rw (c.in-ApprovesModule.is, sym may.about_it, at_load _ modules.loading u may.there c.approve_load.ensures.guard, at_load _ modules.loading u may.there c.approve_load.ensures.modules, c.approve_load.ensures.tables_match.ram)
+    rw (
+      c.in-ApprovesModule.is,
+      sym may.about_it,
+      at_load _ modules.loading u may.there c.approve_load.ensures.guard,
+      at_load _ modules.loading u may.there c.approve_load.ensures.modules,
+      c.approve_load.ensures.tables_match.ram,
+    )
     (approves m law c.args.mem.now c.args.hart c.args.guard.now.pages modules c.approve_load.new.mem.tables u.load (takes_its_pages law modules u c.requires.joined may.there))
 
 pub returns-in-ApprovesModule-clause-joined : goal.returns-in-ApprovesModule-clause-joined

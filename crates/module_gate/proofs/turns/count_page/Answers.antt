@@ -10,4 +10,5 @@ returns-clause-counted c = λ hart left same.
     let load = c.args.load.now in
     let few : load.left ≤ load.pages = let tallied = c.requires.tallied in omega (arith, tallied) in
     c.page.ensures.counted hart
-    ∙ counted_is law c.args.mem.now.ram (hw_load hart (with_digests c.args.gate.now.digests load)) left load.pages (slice_get law.modules load.about.id) c.next_page.result.now c.requires.policy few same c.next_page.ensures.bytes
+    ∙ counted_is law c.args.mem.now.ram (hw_load hart (with_digests c.args.gate.now.digests load)) left load.pages (slice_get law.modules load.about.id) c.next_page.result.now
+    c.requires.policy few same c.next_page.ensures.bytes

@@ -18,6 +18,9 @@ returns c =
     ∙ beat_follows (machine_of s.visor s.hardware s.journal) (machine_of s.visor c.beat-told.new.self c.count_beat.new.self) c.dma.result.now c.beat-told.result
     c.dma.ensures c.beat-told.ensures.told
     (c.beat-told.ensures.machine (machine_of s.visor s.hardware c.count_beat.new.self)
-    ∙ ap (λ (j : Journal). told_cleared (record (machine_of s.visor s.hardware j) { region = after_move s.hardware.mem b.move; devices = record s.hardware.devices { disk = b.disk } }) c.beat-told.result)
+    ∙ ap (λ (j : Journal). told_cleared (record (machine_of s.visor s.hardware j) {
+      region = after_move s.hardware.mem b.move;
+      devices = record s.hardware.devices { disk = b.disk };
+    }) c.beat-told.result)
     c.count_beat.ensures)
     ∙ ap (λ (m : Machine). event_served m Beat) c.self.view_is

@@ -31,4 +31,5 @@ returns-in_default c =
     turn_attempts c.args.self.now c.count_quiet.new.self c.args.hart c.attempt-outcome.result c.requires.there
     c.requires.attempts.started c.requires.attempts.free c.requires.ready c.attempt-outcome.ensures.outcome
     (subst (λ (m : Machine). Concluded c.attempt-outcome.result m c.args.hart c.count_quiet.new.self) c.attempt-outcome.ensures.machine
-    (concluded_quiet c.attempt-outcome.result c.count_quiet.result c.attempt-outcome.new.self c.count_quiet.new.self c.args.hart c.count_quiet.ensures.exit (search rules) c.count_quiet.ensures.counted))
+    (concluded_quiet c.attempt-outcome.result c.count_quiet.result c.attempt-outcome.new.self c.count_quiet.new.self c.args.hart c.count_quiet.ensures.exit (search rules)
+    c.count_quiet.ensures.counted))
