@@ -36,7 +36,9 @@ fn judge_command<R: Threads + Sync, A: Reread>(
     };
     match command {
         CommandName::Flat => flat_words(alloc, rest, files, most),
-        CommandName::Run(_) | CommandName::Snap => run_words(alloc, rest, files, most),
+        CommandName::Run(_) | CommandName::Snap | CommandName::Shrink => {
+            run_words(alloc, rest, files, most)
+        }
         CommandName::Sweep => sweep_words(alloc, rest, files, most),
         CommandName::Live => live_words(alloc, rest, files, most),
         CommandName::Measure => measure_words(alloc, rest, files, most),

@@ -4,7 +4,7 @@ use Rattle.std.specs.Prelude.{◌≡◌, ◌<◌, ◌⊎◌, ℕ, List, Bool, tr
 use Rattle.std.specs.Result.{is_ok}
 use Rattle.sv_types.specs.declared.status.Status.{Status}
 use Rattle.host_io.specs.Outside.{FilesState, MaySaveUnder}
-use Rattle.cli_plans.specs.CommandLine.{judgement_of_words, live_judged, snap_judged, sweep_judged, resume_judged}
+use Rattle.cli_plans.specs.CommandLine.{judgement_of_words, live_judged, snap_judged, sweep_judged, shrink_judged, resume_judged}
 use Rattle.cli_plans.specs.Plans.{Plan, plan_of, live_plan, snap_plan}
 use Rattle.cli_plans.specs.Reading.{MayFollow, IsNamed, SavesUnder}
 use Rattle.secvisor_cli.specs.Answers.{Outside, outside, Headline}
@@ -15,10 +15,11 @@ use Rattle.cli_snap.specs.SnapReady.{out_of as snapshot_name}
 use Rattle.cli_snap.specs.SnapAnswers.{SnapHeadline}
 use Rattle.cli_resume.specs.ResumePlans.{resume_plan}
 use Rattle.cli_sweep.specs.SweepAnswers.{MayAsk as MaySweep, SweepHeadline}
+use Rattle.cli_shrink.specs.ShrinkAnswers.{MayAsk as MayShrink, ShrinkHeadline, out_of as small_script_name}
 use Rattle.cli_show.specs.Showing.{name_in, held_shown}
 use Rattle.cli_show.specs.Answers.{MayAsk, Headline as ShowHeadline, Answers as Shows}
 use Rattle.cli_dispatch.specs.declared.choice.TopCall.{TopCall}
-use Rattle.cli_dispatch.specs.declared.choice.TopCall.TheVariants.{Live, Snap, Sweep, Resume, Show, Others}
+use Rattle.cli_dispatch.specs.declared.choice.TopCall.TheVariants.{Live, Snap, Sweep, Shrink, Resume, Show, Others}
 
 -- ---- what may be asked of the files
 
@@ -26,6 +27,7 @@ abbrev pub MayAnswer : TopCall → List (List ℕ) → FilesState → Type 0
 MayAnswer Live words files = MayFollow (live_plan (live_judged words)) files × MaySaveUnder (script_name (live_judged words)) files
 MayAnswer Snap words files = MayFollow (snap_plan (snap_judged words)) files × MaySaveUnder (snapshot_name (snap_judged words)) files
 MayAnswer Sweep words files = MaySweep (sweep_judged words) files
+MayAnswer Shrink words files = MayShrink (shrink_judged words) files
 MayAnswer Resume words files = MayFollow (resume_plan (resume_judged words)) files
 MayAnswer Show words files = MayAsk (name_in words) files
 MayAnswer Others words files = MayFollow (plan_of (judgement_of_words words)) files
@@ -73,6 +75,15 @@ pub record SweepOwed (words : List (List ℕ)) (old new : LiveOutside) (answer :
   pub keys : new.keys ≡ old.keys
   pub bench : new.bench ≡ old.bench
 
+-- `shrink`
+pub record ShrinkOwed (words : List (List ℕ)) (old new : LiveOutside) (answer : Status) : Type 0 where
+  pub headline : ShrinkHeadline (shrink_judged words) old.files new.files old.sink new.sink answer
+  pub read_fault : answer ≡ Status.ReadFault → FailsToRead (snap_plan (shrink_judged words)) old.files new.files
+  pub unread : is_ok (shrink_judged words) ≡ false → new.files ≡ old.files
+  pub held : (name : List ℕ) → (name ≡ small_script_name (shrink_judged words) → ⊥) → new.files.held name ≡ old.files.held name
+  pub keys : new.keys ≡ old.keys
+  pub bench : new.bench ≡ old.bench
+
 -- a command of a plan, `resume` and those of the top call
 pub record PlanOwed (plan : Plan) (is_good : Bool) (old new : LiveOutside) (answer : Status) : Type 0 where
   pub headline : Headline plan (without_keys old) (without_keys new) answer
@@ -98,6 +109,7 @@ abbrev pub Owed : TopCall → List (List ℕ) → (old new : LiveOutside) → St
 Owed Live words old new answer = LiveOwed words old new answer
 Owed Snap words old new answer = SnapOwed words old new answer
 Owed Sweep words old new answer = SweepOwed words old new answer
+Owed Shrink words old new answer = ShrinkOwed words old new answer
 Owed Resume words old new answer = PlanOwed (resume_plan (resume_judged words)) (is_ok (resume_judged words)) old new answer
 Owed Show words old new answer = ShowOwed words old new answer
 Owed Others words old new answer =

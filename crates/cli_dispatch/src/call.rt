@@ -10,6 +10,7 @@ use crate::choice::{TopCall, top_call_of};
 use cli_live::secvisor_live;
 use cli_resume::secvisor_resume;
 use cli_show::secvisor_show;
+use cli_shrink::secvisor_shrink;
 use cli_snap::secvisor_snap;
 use cli_sweep::secvisor_sweep;
 use host_io::{Files, Sink};
@@ -53,6 +54,7 @@ pub fn answer<R: Threads + Wait + Sync, F: Files, K: Keys + Send, O: Sink, P: Pa
         TopCall::Live => secvisor_live(rt, alloc, words, files, keys, out, pace, bench),
         TopCall::Snap => secvisor_snap(rt, alloc, words, files, out, bench),
         TopCall::Sweep => secvisor_sweep(rt, alloc, words, files, out),
+        TopCall::Shrink => secvisor_shrink(rt, alloc, words, files, out),
         TopCall::Resume => secvisor_resume(rt, alloc, words, files, out, bench),
         TopCall::Show => secvisor_show(alloc, words, files, out),
         TopCall::Others => secvisor(rt, alloc, words, files, out, bench),

@@ -11,6 +11,7 @@ pub enum TopCall {
     Live,
     Snap,
     Sweep,
+    Shrink,
     Resume,
     Show,
     /// The call of all other commands, which also refuses what is of none.
@@ -34,6 +35,7 @@ fn call_of_name(name: &str) -> TopCall
         Some(CommandName::Live) => TopCall::Live,
         Some(CommandName::Snap) => TopCall::Snap,
         Some(CommandName::Sweep) => TopCall::Sweep,
+        Some(CommandName::Shrink) => TopCall::Shrink,
         Some(CommandName::Resume) => TopCall::Resume,
         Some(CommandName::Show) => TopCall::Show,
         Some(CommandName::Flat)

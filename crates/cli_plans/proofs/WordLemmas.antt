@@ -25,7 +25,7 @@ use Rattle.cli_plans.specs.declared.refusal.Refusal.TheVariants.{OutOfRange, NoC
 use Rattle.cli_plans.specs.declared.words.DrawnOrder.{DrawnOrder}
 use Rattle.cli_plans.specs.declared.refusal.Word.{Word}
 use Rattle.cli_plans.specs.Refusals.{refusal_status}
-use Rattle.cli_plans.specs.CommandLine.{Command, Convert, LiveWords, SnapWords, ResumeWords, Source, flat_words, gen_words, source_of, run_words, live_words, live_of, snap_words, snap_of, sweep_with, sweep_words, sweep_of, most_runs, drawn_order_of, resume_words, resume_of, entries_judged, init_of, terms_with, terms_words, terms_judged, making_words, making_judged, flat_judged, gen_judged, run_judged, split_judged, command_after, live_after, snap_after, sweep_after, resume_after, show_after, named_judged, judgement_of_words, live_judged, snap_judged, sweep_judged, resume_judged, show_judged}
+use Rattle.cli_plans.specs.CommandLine.{Command, Convert, LiveWords, SnapWords, ResumeWords, Source, flat_words, gen_words, source_of, run_words, live_words, live_of, snap_words, snap_of, sweep_with, sweep_words, sweep_of, most_runs, drawn_order_of, resume_words, resume_of, entries_judged, init_of, terms_with, terms_words, terms_judged, making_words, making_judged, flat_judged, gen_judged, run_judged, split_judged, command_after, live_after, snap_after, sweep_after, shrink_after, resume_after, show_after, named_judged, judgement_of_words, live_judged, snap_judged, sweep_judged, shrink_judged, resume_judged, show_judged}
 
 -- ---- so many words are of no command
 
@@ -291,6 +291,7 @@ command_no_fault command.Measure rest = split_no_fault making_judged (measure_sp
 command_no_fault command.Convert rest = split_no_fault (λ w. Ok (Convert w)) (convert_split rest) (λ w. tt)
 command_no_fault command.Live rest = λ e. cc e
 command_no_fault command.Sweep rest = λ e. cc e
+command_no_fault command.Shrink rest = λ e. cc e
 command_no_fault command.Snap rest = λ e. cc e
 command_no_fault command.Resume rest = λ e. cc e
 command_no_fault command.Show rest = λ e. cc e
@@ -305,6 +306,7 @@ live_after_no_fault command.Flat rest = λ e. cc e
 live_after_no_fault command.Generated rest = λ e. cc e
 live_after_no_fault (command.Run kind) rest = λ e. cc e
 live_after_no_fault command.Sweep rest = λ e. cc e
+live_after_no_fault command.Shrink rest = λ e. cc e
 live_after_no_fault command.Snap rest = λ e. cc e
 live_after_no_fault command.Resume rest = λ e. cc e
 live_after_no_fault command.Show rest = λ e. cc e
@@ -322,6 +324,7 @@ snap_after_no_fault command.Generated rest = λ e. cc e
 snap_after_no_fault (command.Run kind) rest = λ e. cc e
 snap_after_no_fault command.Live rest = λ e. cc e
 snap_after_no_fault command.Sweep rest = λ e. cc e
+snap_after_no_fault command.Shrink rest = λ e. cc e
 snap_after_no_fault command.Resume rest = λ e. cc e
 snap_after_no_fault command.Show rest = λ e. cc e
 snap_after_no_fault command.Measure rest = λ e. cc e
@@ -338,6 +341,7 @@ sweep_after_no_fault command.Generated rest = λ e. cc e
 sweep_after_no_fault (command.Run kind) rest = λ e. cc e
 sweep_after_no_fault command.Live rest = λ e. cc e
 sweep_after_no_fault command.Snap rest = λ e. cc e
+sweep_after_no_fault command.Shrink rest = λ e. cc e
 sweep_after_no_fault command.Resume rest = λ e. cc e
 sweep_after_no_fault command.Show rest = λ e. cc e
 sweep_after_no_fault command.Measure rest = λ e. cc e
@@ -347,6 +351,23 @@ pub sweep_no_read_fault : (words : List (List ℕ)) → NoReadFault (sweep_judge
 unfolding sweep_judged
 sweep_no_read_fault words = named_no_fault sweep_after (named_words words) sweep_after_no_fault
 
+shrink_after_no_fault : (name : CommandName) (rest : List (List ℕ)) → NoReadFault (shrink_after name rest)
+shrink_after_no_fault command.Shrink rest = split_no_fault snap_of (snap_split rest) (λ w. snap_no_fault w.image w.policy w.disk w.out (source_of w.script) (number_within 0 max_events w.events))
+shrink_after_no_fault command.Flat rest = λ e. cc e
+shrink_after_no_fault command.Generated rest = λ e. cc e
+shrink_after_no_fault (command.Run kind) rest = λ e. cc e
+shrink_after_no_fault command.Live rest = λ e. cc e
+shrink_after_no_fault command.Snap rest = λ e. cc e
+shrink_after_no_fault command.Sweep rest = λ e. cc e
+shrink_after_no_fault command.Resume rest = λ e. cc e
+shrink_after_no_fault command.Show rest = λ e. cc e
+shrink_after_no_fault command.Measure rest = λ e. cc e
+shrink_after_no_fault command.Convert rest = λ e. cc e
+
+pub shrink_no_read_fault : (words : List (List ℕ)) → NoReadFault (shrink_judged words)
+unfolding shrink_judged
+shrink_no_read_fault words = named_no_fault shrink_after (named_words words) shrink_after_no_fault
+
 resume_after_no_fault : (name : CommandName) (rest : List (List ℕ)) → NoReadFault (resume_after name rest)
 resume_after_no_fault command.Resume rest = split_no_fault resume_of (resume_split rest) (λ w. resume_no_fault w.saved w.policy w.save (source_of w.script) (number_within 0 max_events w.events))
 resume_after_no_fault command.Flat rest = λ e. cc e
@@ -354,6 +375,7 @@ resume_after_no_fault command.Generated rest = λ e. cc e
 resume_after_no_fault (command.Run kind) rest = λ e. cc e
 resume_after_no_fault command.Live rest = λ e. cc e
 resume_after_no_fault command.Sweep rest = λ e. cc e
+resume_after_no_fault command.Shrink rest = λ e. cc e
 resume_after_no_fault command.Snap rest = λ e. cc e
 resume_after_no_fault command.Show rest = λ e. cc e
 resume_after_no_fault command.Measure rest = λ e. cc e

@@ -59,7 +59,7 @@ pub record LiveWords : Type 0 where
   pub run : RunWords
   pub out : List ℕ
 
--- a run, and the name that its snapshot is saved under
+-- a run, and the name that its snapshot, or its small script, is saved under
 pub record SnapWords : Type 0 where
   pub run : RunWords
   pub out : List ℕ
@@ -87,7 +87,7 @@ pub record ResumeWords : Type 0 where
   -- where the disk is saved after the report, if it is
   pub save : Option (List ℕ)
 
--- a command of the top call. `live`, `snap`, `sweep`, `resume` and `show` have calls of their own
+-- a command of the top call. `live`, `snap`, `sweep`, `shrink`, `resume` and `show` have calls of their own
 pub data Command : Type 0 where
   Flat : (file wanted : List ℕ) → (events : ℕ) → Command
   -- the generated guest, which calls its kernel so many times
@@ -313,6 +313,11 @@ abbrev pub sweep_after : CommandName → List (List ℕ) → Result SweepWords R
 sweep_after command.Sweep rest = split_judged sweep_of (sweep_split rest)
 sweep_after _ rest = Err NoCommand
 
+-- the words of `snap`
+abbrev pub shrink_after : CommandName → List (List ℕ) → Result SnapWords Refusal
+shrink_after command.Shrink rest = split_judged snap_of (snap_split rest)
+shrink_after _ rest = Err NoCommand
+
 abbrev pub resume_after : CommandName → List (List ℕ) → Result ResumeWords Refusal
 resume_after command.Resume rest = split_judged resume_of (resume_split rest)
 resume_after _ rest = Err NoCommand
@@ -340,6 +345,9 @@ snap_judged words = named_judged snap_after (named_words words)
 
 unfoldable pub sweep_judged : List (List ℕ) → Result SweepWords Refusal
 sweep_judged words = named_judged sweep_after (named_words words)
+
+unfoldable pub shrink_judged : List (List ℕ) → Result SnapWords Refusal
+shrink_judged words = named_judged shrink_after (named_words words)
 
 unfoldable pub resume_judged : List (List ℕ) → Result ResumeWords Refusal
 resume_judged words = named_judged resume_after (named_words words)

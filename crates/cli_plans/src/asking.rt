@@ -3,7 +3,7 @@ ghost use Rattle.std.specs.Prelude.{◌≡◌, ◌≤◌, IfOk, Ok, false, map, 
 ghost use Rattle.std.specs.List.{list_any};
 ghost use Rattle.sv_types.specs.Limits.{max_events};
 ghost use Rattle.cli_words.specs.Commands.{has_dash, flat_split, gen_split, run_split, live_split, snap_split, sweep_split, resume_split, show_split, measure_split, convert_split};
-ghost use Rattle.cli_plans.specs.CommandLine.{Convert, split_judged, flat_judged, gen_judged, run_judged, live_of, snap_of, sweep_of, resume_of, making_judged, command_after, live_after, snap_after, sweep_after, resume_after, show_after, judgement_of_words, live_judged, snap_judged, sweep_judged, resume_judged, show_judged};
+ghost use Rattle.cli_plans.specs.CommandLine.{Convert, split_judged, flat_judged, gen_judged, run_judged, live_of, snap_of, sweep_of, resume_of, making_judged, command_after, live_after, snap_after, sweep_after, shrink_after, resume_after, show_after, judgement_of_words, live_judged, snap_judged, sweep_judged, shrink_judged, resume_judged, show_judged};
 ghost use Rattle.cli_plans.specs.Words.{IsAsked, IsInRange, IsDrawnRun, IsBlockRun, AreNumbers, command_of, live_value, snap_value, sweep_value, resume_value};
 ghost use Rattle.cli_plans.specs.declared.asking.Unread.TheVariants.{Refused, Memory};
 
@@ -76,6 +76,7 @@ fn ask_after<'a>(
         CommandName::Live
         | CommandName::Snap
         | CommandName::Sweep
+        | CommandName::Shrink
         | CommandName::Resume
         | CommandName::Show => Err(Unread::Refused(Refusal::NoCommand)),
     }
@@ -178,7 +179,6 @@ pub fn ask_snap<'a>(alloc: Global, words: &'a [String]) -> Result<Snap<'a>, Unre
     }
 }
 
-#[tactic(auto, using(crate::proofs::WordLemmas::split_is_some))]
 fn snap_after<'a>(
     alloc: Global,
     command: CommandName,
@@ -191,9 +191,46 @@ fn snap_after<'a>(
     let CommandName::Snap = command else {
         return Err(Unread::Refused(Refusal::NoCommand));
     };
+    ask_out(alloc, rest)
+}
+
+// A run, and the name that is saved under.
+#[tactic(auto, using(crate::proofs::WordLemmas::split_is_some))]
+fn ask_out<'a>(alloc: Global, rest: &'a [String]) -> Result<Snap<'a>, Unread>
+    requires plain { list_any has_dash (map string_bytes rest.now) ≡ false }
+    ensures asked { IsAsked snap_value (split_judged snap_of (snap_split (map string_bytes rest.now))) result }
+    ensures block { IfOk result IsBlockRun }
+{
     judge_snap(rest)?;
     let words = split_snap(alloc, rest)?;
     Ok(read_snap(&words)?)
+}
+
+/// What words ask `shrink` for: those of `snap`.
+#[tactic(auto, unfolding(crate::specs::CommandLine::shrink_judged))]
+pub fn ask_shrink<'a>(alloc: Global, words: &'a [String]) -> Result<Snap<'a>, Unread>
+    ensures asked { IsAsked snap_value (shrink_judged (map string_bytes words.now)) result }
+    ensures block { IfOk result IsBlockRun }
+{
+    match named(words) {
+        Some(naming) => shrink_after(alloc, naming.command, naming.rest),
+        None => Err(Unread::Refused(Refusal::NoCommand)),
+    }
+}
+
+fn shrink_after<'a>(
+    alloc: Global,
+    command: CommandName,
+    rest: &'a [String],
+) -> Result<Snap<'a>, Unread>
+    requires plain { list_any has_dash (map string_bytes rest.now) ≡ false }
+    ensures asked { IsAsked snap_value (shrink_after command (map string_bytes rest.now)) result }
+    ensures block { IfOk result IsBlockRun }
+{
+    let CommandName::Shrink = command else {
+        return Err(Unread::Refused(Refusal::NoCommand));
+    };
+    ask_out(alloc, rest)
 }
 
 /// What words ask `sweep` for.

@@ -24,7 +24,7 @@ pub fn judge(words: &[String]) -> Result<(), Refusal> {
         CommandName::Generated => judge_generated(naming.rest),
         CommandName::Run(kind) => judge_run(kind, naming.rest),
         CommandName::Live => judge_live(naming.rest),
-        CommandName::Snap => judge_snap(naming.rest),
+        CommandName::Snap | CommandName::Shrink => judge_snap(naming.rest),
         CommandName::Sweep => judge_sweep(naming.rest),
         CommandName::Resume => judge_resume(naming.rest),
         CommandName::Show => judge_show(naming.rest),

@@ -70,7 +70,8 @@ pub struct Live<'a> {
     pub out: &'a str,
 }
 
-/// `snap IMAGE POLICY DISK SCRIPT EVENTS OUT`: a run, and the name that the machine after it is saved under.
+/// `snap IMAGE POLICY DISK SCRIPT EVENTS OUT`, or `shrink` with the same words: a run, and the name that the machine after it, or a
+/// small script, is saved under.
 #[derive(Drop)]
 pub struct Snap<'a> {
     pub run: Run<'a>,

@@ -1,2 +1,3 @@
 pub mod Shrinking
 pub mod Lines
+pub mod ShrinkAnswers

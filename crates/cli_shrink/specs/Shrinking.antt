@@ -10,34 +10,39 @@ use Rattle.machine_trials.specs.declared.order.Order.{Order}
 use Rattle.machine_trials.specs.Trials.{outcome_in, text_outcome}
 use Rattle.cli_shrink.specs.declared.shrinking.Script.{Script}
 use Rattle.cli_shrink.specs.declared.shrinking.Shrunk.{Shrunk}
-use Rattle.cli_shrink.specs.declared.shrinking.Shrunk.TheVariants.{NothingStopped, NotWrittenOut, Made}
+use Rattle.cli_shrink.specs.declared.shrinking.Shrunk.TheVariants.{NothingStopped, Made}
 
 -- there is an outcome, and it is this one: by the same rule, at the same addresses
 abbrev pub is_outcome : (wanted : Outcome) → Option Outcome → Bool
 is_outcome wanted None = false
 is_outcome wanted (Some outcome) = same wanted outcome
 
--- the text reads as a script, and the reference machine's run over its events stops so
-abbrev pub stops_under : (wanted : Outcome) → RunFiles → (events : ℕ) → (text : List ℕ) → Bool
-stops_under wanted files events text = is_outcome wanted (text_outcome files events text)
+-- the most runs
+abbrev pub max_runs : ℕ
+max_runs = 10000
 
--- under the lines of the script it stops so; and where the runs sufficed, under no list that is one line shorter
-pub record IsSmall (wanted : Outcome) (files : RunFiles) (events : ℕ) (script : Script) : Type 0 where
+-- How runs end, by the text of their script, none where that isn't one: under the lines of the script a run stops as it is to; and where
+-- the runs sufficed, under no list that is one line shorter. They sufficed where any is left.
+pub record IsSmall (wanted : Outcome) (ends : (text : List ℕ) → Option Outcome) (script : Script) : Type 0 where
   pub text_is : string_bytes script.text ≡ text_of script.lines.items
-  pub stops : stops_under wanted files events (string_bytes script.text) ≡ true
-  pub minimal : script.minimal ≡ true → IsOneMinimal (λ lines. stops_under wanted files events (text_of lines)) script.lines.items
+  pub stops : is_outcome wanted (ends (string_bytes script.text)) ≡ true
+  pub minimal : script.minimal ≡ true → IsOneMinimal (λ lines. is_outcome wanted (ends (text_of lines))) script.lines.items
+  pub spent : script.minimal ≡ false → script.runs ≡ max_runs
 
-abbrev pub AreShrunk : (wanted : Outcome) → RunFiles → (events : ℕ) → Shrunk → Type 0
-AreShrunk wanted files events NothingStopped = ⊥
-AreShrunk wanted files events NotWrittenOut = Unit {0}
-AreShrunk wanted files events (Made script) = IsSmall wanted files events script
+-- small, where a script was made
+abbrev pub AreShrunk : (wanted : Outcome) → (ends : (text : List ℕ) → Option Outcome) → Shrunk → Type 0
+AreShrunk wanted ends NothingStopped = ⊥
+AreShrunk wanted ends (Made script) = IsSmall wanted ends script
 
 -- nothing stopped where the run ends in another way; and else the script stops as the run does
-abbrev pub IsShrunkFrom : Option Outcome → RunFiles → (events : ℕ) → Shrunk → Type 0
-IsShrunkFrom None files events shrunk = ⊥
-IsShrunkFrom (Some outcome) files events NothingStopped = is_stop outcome ≡ false
-IsShrunkFrom (Some outcome) files events NotWrittenOut = is_stop outcome ≡ true
-IsShrunkFrom (Some outcome) files events (Made script) = (is_stop outcome ≡ true) × IsSmall outcome files events script
+abbrev pub IsShrunkAs : Outcome → (ends : (text : List ℕ) → Option Outcome) → Shrunk → Type 0
+IsShrunkAs outcome ends NothingStopped = is_stop outcome ≡ false
+IsShrunkAs outcome ends (Made script) = (is_stop outcome ≡ true) × IsSmall outcome ends script
 
+abbrev pub IsShrunkFrom : Option Outcome → (ends : (text : List ℕ) → Option Outcome) → Shrunk → Type 0
+IsShrunkFrom None ends shrunk = ⊥
+IsShrunkFrom (Some outcome) ends shrunk = IsShrunkAs outcome ends shrunk
+
+-- the run of these files over the first events of an order, made small
 abbrev pub IsShrunk : RunFiles → (events : ℕ) → Order → Shrunk → Type 0
-IsShrunk files events order shrunk = IsShrunkFrom (outcome_in files events order) files events shrunk
+IsShrunk files events order shrunk = IsShrunkFrom (outcome_in files events order) (text_outcome files events) shrunk

@@ -13,7 +13,6 @@ pub fn shrunk_line(alloc: Global, shrunk: &Shrunk) -> Result<String, AllocError>
 {
     match shrunk {
         Shrunk::NothingStopped => format!(in alloc; "nothing stopped\n"),
-        Shrunk::NotWrittenOut => format!(in alloc; "nothing shrunk\n"),
         Shrunk::Made(script) => {
             let left = script.lines.len();
             let before = script.lines_before;
@@ -28,7 +27,7 @@ pub fn shrunk_status(shrunk: &Shrunk) -> Status
     ensures { result ≡ spec.shrunk_status shrunk.now }
 {
     match shrunk {
-        Shrunk::NothingStopped | Shrunk::NotWrittenOut => Status::Ended,
+        Shrunk::NothingStopped => Status::Ended,
         Shrunk::Made(_) => Status::Done,
     }
 }

@@ -2,6 +2,7 @@
 ghost use Rattle.std.specs.Prelude.{◌≡◌, ◌≤◌, ◌%◌, IfOk, length};
 ghost use Rattle.sv_types.specs.Limits.{max_events};
 ghost use Rattle.spec_reference.specs.BlockDisk.{sector_size};
+ghost use Rattle.machine_trials.specs.Trials.{text_outcome};
 ghost use Rattle.cli_shrink.specs.Shrinking.{IsShrunk, AreShrunk};
 
 use crate::trial::Trial;
@@ -26,7 +27,7 @@ pub struct Script {
     /// The lines up to the stop, before any was taken away.
     pub lines_before: usize,
     pub runs: u64,
-    /// The runs sufficed: without any one of its lines it doesn't stop so.
+    /// The runs sufficed: without any one of its lines it doesn't stop so. Else all were used up.
     pub minimal: bool,
 }
 
@@ -35,8 +36,6 @@ pub struct Script {
 pub enum Shrunk {
     /// The run doesn't stop.
     NothingStopped,
-    /// Its events, written out as lines, don't stop so.
-    NotWrittenOut,
     Made(Script),
 }
 
@@ -77,14 +76,14 @@ fn shrink_by<R: Threads + Sync>(
     trial: &Trial<'_>,
     lines: Vec<EventRun>,
 ) -> Result<Shrunk, NoOutcome>
-    ensures { IfOk result (AreShrunk trial.now.wanted trial.now.files trial.now.events) }
+    ensures { IfOk result (AreShrunk trial.now.wanted (text_outcome trial.now.files trial.now.events)) }
 {
     let mut lines = lines;
     let lines_before = lines.len();
     match trial.stops_so(rt, &lines) {
         Ok(true) => {}
-        Ok(false) => return Ok(Shrunk::NotWrittenOut),
-        Err(_) => return Err(NoOutcome::Memory),
+        // The lines are the events of the run, so that they stop as it does.
+        Ok(false) | Err(_) => return Err(NoOutcome::Memory),
     }
     let mut runs = MAX_RUNS - FIRST_RUNS;
     let Ok(minimal) = shrink_lines(rt, alloc, trial, &mut lines, &mut runs) else {

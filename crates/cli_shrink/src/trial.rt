@@ -3,7 +3,8 @@ ghost use Rattle.std.specs.Prelude.{◌≡◌, ◌≤◌, ◌%◌, length};
 ghost use Rattle.sv_types.specs.Limits.{max_events};
 ghost use Rattle.spec_reference.specs.BlockDisk.{sector_size};
 ghost use Rattle.script_lines.specs.Lines.{text_of};
-ghost use Rattle.cli_shrink.specs.Shrinking.{stops_under};
+ghost use Rattle.machine_trials.specs.Trials.{text_outcome};
+ghost use Rattle.cli_shrink.specs.Shrinking.{is_outcome};
 
 use delta_debugging::Stops;
 use machine_trials::{NoOutcome, Order, RunFiles, try_order};
@@ -26,7 +27,7 @@ pub(crate) struct Trial<'a> {
 }
 
 impl Stops<EventRun> for Trial<'_> {
-    ghost stops = { λ trial lines. stops_under trial.wanted trial.files trial.events (text_of lines) };
+    ghost stops = { λ trial lines. is_outcome trial.wanted (text_outcome trial.files trial.events (text_of lines)) };
 
     // The lines are written as a text, and read. A machine that isn't booted counts as out of memory: others were booted before.
     fn stops_so<R: Threads + Sync>(&self, rt: &R, lines: &[EventRun]) -> Result<bool, AllocError> {

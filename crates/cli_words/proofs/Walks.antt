@@ -255,6 +255,8 @@ words_read command.Snap words known plain =
     let it = snap_read words known plain in record { taken = it.taken; has = it.has; finds = λ rows e. it.is rows _ e refl }
 words_read command.Sweep words known plain =
     let it = sweep_read words known plain in record { taken = it.taken; has = it.has; finds = λ rows e. it.is rows _ e refl }
+words_read command.Shrink words known plain =
+    let it = snap_read words known plain in record { taken = it.taken; has = it.has; finds = λ rows e. it.is rows _ e refl }
 words_read command.Resume words known plain =
     let it = resume_read words known plain in record { taken = it.taken; has = it.has; finds = λ rows e. it.is rows _ e refl }
 words_read command.Show words known plain =

@@ -31,7 +31,7 @@ pub record LiveSplit : Type 0 where
   pub events : List ℕ
   pub out : List ℕ
 
--- snap IMAGE POLICY DISK SCRIPT EVENTS OUT
+-- snap IMAGE POLICY DISK SCRIPT EVENTS OUT, or shrink with the same words
 pub record SnapSplit : Type 0 where
   pub image : List ℕ
   pub policy : List ℕ
@@ -87,6 +87,7 @@ name_of name =
     else if bytes_eq name (codes "snap") then Some command.Snap
     else if bytes_eq name (codes "resume") then Some command.Resume
     else if bytes_eq name (codes "sweep") then Some command.Sweep
+    else if bytes_eq name (codes "shrink") then Some command.Shrink
     else if bytes_eq name (codes "show") then Some command.Show
     else if bytes_eq name (codes "measure") then Some command.Measure
     else if bytes_eq name (codes "convert") then Some command.Convert

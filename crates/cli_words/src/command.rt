@@ -39,7 +39,7 @@ pub struct LiveWords<'a> {
     pub out: &'a str,
 }
 
-/// `snap IMAGE POLICY DISK SCRIPT EVENTS OUT`
+/// `snap IMAGE POLICY DISK SCRIPT EVENTS OUT`, or `shrink` with the same words
 #[derive(Drop)]
 pub struct SnapWords<'a> {
     pub image: &'a str,

@@ -76,7 +76,7 @@ pub fn split_live<'a>(alloc: Global, words: &'a [String]) -> Result<LiveWords<'a
     Ok(found::live(&matches))
 }
 
-/// `snap IMAGE POLICY DISK SCRIPT EVENTS OUT`
+/// `snap IMAGE POLICY DISK SCRIPT EVENTS OUT`, or `shrink` with the same words.
 pub fn split_snap<'a>(alloc: Global, words: &'a [String]) -> Result<SnapWords<'a>, AllocError>
     requires known { IsTrue (is_some (snap_split (map string_bytes words.now))) }
     requires plain { list_any has_dash (map string_bytes words.now) ≡ false }

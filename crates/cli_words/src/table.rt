@@ -15,6 +15,7 @@ pub enum CommandName {
     Live,
     Snap,
     Sweep,
+    Shrink,
     Resume,
     Show,
     Measure,
@@ -53,6 +54,8 @@ const SNAP_NAME: &str = "snap";
 
 const SWEEP_NAME: &str = "sweep";
 
+const SHRINK_NAME: &str = "shrink";
+
 const RESUME_NAME: &str = "resume";
 
 const SHOW_NAME: &str = "show";
@@ -62,7 +65,7 @@ const MEASURE_NAME: &str = "measure";
 const CONVERT_NAME: &str = "convert";
 
 /// All commands, in the order in which they are explained.
-pub static COMMANDS: [CommandRow; 11] = [
+pub static COMMANDS: [CommandRow; 12] = [
     CommandRow {
         name: MEASURE_NAME,
         command: CommandName::Measure,
@@ -102,6 +105,11 @@ pub static COMMANDS: [CommandRow; 11] = [
         name: SWEEP_NAME,
         command: CommandName::Sweep,
         about: "runs a kernel once for each of COUNT drawn orders, from FIRST on, and counts how the runs\n      end",
+    },
+    CommandRow {
+        name: SHRINK_NAME,
+        command: CommandName::Shrink,
+        about: "makes the events of a run that stops few, and saves them as OUT, a script under which it\n      stops so too",
     },
     CommandRow {
         name: FLAT_NAME,
@@ -296,6 +304,7 @@ pub fn arguments_of(command: CommandName) -> &'static [Argument<'static>]
         CommandName::Live => &LIVE,
         CommandName::Snap => &SNAP,
         CommandName::Sweep => &SWEEP,
+        CommandName::Shrink => &SNAP,
         CommandName::Resume => &RESUME,
         CommandName::Show => &SHOW,
         CommandName::Measure => &MEASURE,
@@ -316,6 +325,7 @@ pub fn command_of_name(name: &str) -> Option<CommandName>
         SNAP_NAME => Some(CommandName::Snap),
         RESUME_NAME => Some(CommandName::Resume),
         SWEEP_NAME => Some(CommandName::Sweep),
+        SHRINK_NAME => Some(CommandName::Shrink),
         SHOW_NAME => Some(CommandName::Show),
         MEASURE_NAME => Some(CommandName::Measure),
         CONVERT_NAME => Some(CommandName::Convert),

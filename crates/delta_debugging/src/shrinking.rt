@@ -1,7 +1,7 @@
 // Items taken away, in ever smaller pieces.
-ghost use Rattle.std.specs.Prelude.{◌≡◌, ◌≤◌, ◌<◌, true, IfOk};
+ghost use Rattle.std.specs.Prelude.{◌≡◌, ◌≤◌, ◌<◌, true, false, IfOk};
 ghost use Rattle.delta_debugging.specs.Minimal.{IsReduced, IsOneMinimal};
-ghost use Rattle.delta_debugging.specs.declared.shrinking.Round.TheVariants.{Same, Fewer};
+ghost use Rattle.delta_debugging.specs.declared.shrinking.Round.TheVariants.{Same, Fewer, NoRunsLeft};
 
 use crate::removal::try_without;
 use crate::stops::Stops;
@@ -57,6 +57,7 @@ fn take_single_items<R: Threads + Sync, T: Copy + Drop, S: Stops<T>>(
     ensures minimal { IfOk result (λ round. round ≡ Same → IsOneMinimal (S.stops test.now) items.new.items) }
     ensures runs { runs.new ≤ runs.old }
     ensures used { IfOk result (λ round. round ≡ Fewer → runs.new < runs.old) }
+    ensures spent { IfOk result (λ round. round ≡ NoRunsLeft → runs.new ≡ 0) }
 {
     let mut round = Round::Same;
     let mut at = 0;
@@ -76,7 +77,7 @@ fn take_single_items<R: Threads + Sync, T: Copy + Drop, S: Stops<T>>(
 
 /// Takes items away while it still stops so: halves of the list first, then ever smaller pieces, at last single items. Each trial
 /// uses up a run of those that are left. True where the runs sufficed: then it stops so no more without any one of the items that
-/// are left. Out of memory it keeps what was reached.
+/// are left. False where they are used up. Out of memory it keeps what was reached.
 pub fn minimize<R: Threads + Sync, T: Copy + Drop, S: Stops<T>>(
     rt: &R,
     alloc: Global,
@@ -87,6 +88,7 @@ pub fn minimize<R: Threads + Sync, T: Copy + Drop, S: Stops<T>>(
     requires stops { S.stops test.now items.old.items ≡ true }
     ensures reduced { IsReduced (S.stops test.now) items.old.items items.new.items }
     ensures minimal { IfOk result (λ minimal. minimal ≡ true → IsOneMinimal (S.stops test.now) items.new.items) }
+    ensures spent { IfOk result (λ minimal. minimal ≡ false → runs.new ≡ 0) }
     ensures runs { runs.new ≤ runs.old }
 {
     let mut size = items.len() / 2;

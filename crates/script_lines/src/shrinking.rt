@@ -89,8 +89,9 @@ fn spare_halves<R: Threads + Sync, S: Stops<EventRun>>(
     Ok(true)
 }
 
-/// Takes all ticks away, all beats, lines, and halves of their counts, while a run stops so under those that are left, by at most so many runs. True
-/// where the runs sufficed: then it stops so no more without any one of the lines. Out of memory it keeps what was reached.
+/// Takes all ticks away, all beats, lines, and halves of their counts, while a run stops so under those that are left, by at most so many
+/// runs. True where the runs sufficed: then it stops so no more without any one of the lines. False where they are used up. Out of
+/// memory it keeps what was reached.
 pub fn shrink_lines<R: Threads + Sync, S: Stops<EventRun>>(
     rt: &R,
     alloc: Global,
@@ -101,6 +102,7 @@ pub fn shrink_lines<R: Threads + Sync, S: Stops<EventRun>>(
     requires stops { S.stops test.now lines.old.items ≡ true }
     ensures stops { S.stops test.now lines.new.items ≡ true }
     ensures minimal { IfOk result (λ minimal. minimal ≡ true → IsOneMinimal (S.stops test.now) lines.new.items) }
+    ensures spent { IfOk result (λ minimal. minimal ≡ false → runs.new ≡ 0) }
     ensures runs { runs.new ≤ runs.old }
 {
     spare_kind(rt, alloc, test, lines, Kind::Ticks, runs)?;

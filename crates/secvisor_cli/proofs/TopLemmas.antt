@@ -350,7 +350,7 @@ effect_out name old read new k out =
       held = λ other never. c.others other (λ under. never (sym under)) ∙ ap (λ (held : List ℕ → Option (List ℕ)). held other) k.held;
     }
 
-made_changes : (saving : Saving) (line : List ℕ) (f0 f1 : FilesState) (old new : SinkState) (result : Result Status Trouble) → SavesAndWrites saving line f0 f1 old new result →
+pub made_changes : (saving : Saving) (line : List ℕ) (f0 f1 : FilesState) (old new : SinkState) (result : Result Status Trouble) → SavesAndWrites saving line f0 f1 old new result →
     Changes (Some saving) f0 f1
 made_changes saving line f0 f1 old new (Ok status) a = changes_saved saving f0 f1 a.1
 made_changes saving line f0 f1 old new (Err Write) (inl a) = changes_broke saving f0 f1 a.0
@@ -398,7 +398,7 @@ reached_fault : (plan : Plan) (reached : Option Due) (f0 f1 : FilesState) (old n
 reached_fault plan None f0 f1 old new never follows m = absurd (cc m.0)
 reached_fault plan (Some due) f0 f1 old new never follows m = read_fault plan f0 f1 due never follows (sym (m.status refl))
 
-fault_at : (plan : Plan) (old read new : FilesState) → new.read_faults ≡ read.read_faults → HasFault plan old read → HasFault plan old new
+pub fault_at : (plan : Plan) (old read new : FilesState) → new.read_faults ≡ read.read_faults → HasFault plan old read → HasFault plan old new
 fault_at plan old read new same (inl missing) = inl missing
 fault_at plan old read new same (inr rose) = inr (omega arith)
 

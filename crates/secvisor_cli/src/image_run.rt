@@ -219,7 +219,8 @@ fn read_text<F: Files>(alloc: Global, name: &str, harts: u8, files: &mut F) -> R
     judge_script(alloc, &text, harts)
 }
 
-fn judge_script(alloc: Global, text: &[u8], harts: u8) -> Result<Script, Stop>
+/// The events of a text.
+pub fn judge_script(alloc: Global, text: &[u8], harts: u8) -> Result<Script, Stop>
     requires harts { IsHartCount harts }
     ensures { IsScript harts text.now result }
 {

@@ -1,5 +1,5 @@
 use Rattle.std.proofs.Common.{refl, sym, ◌∙◌}
-use Rattle.cli_dispatch.specs.declared.choice.TopCall.TheVariants.{Live, Sweep, Resume, Others}
+use Rattle.cli_dispatch.specs.declared.choice.TopCall.TheVariants.{Live, Sweep, Shrink, Resume, Others}
 use Rattle.cli_dispatch.proofs.Owing.{owed_of}
 use Rattle.cli_dispatch.proofs.call.answer.Goals as goal
 
@@ -21,6 +21,17 @@ returns-in-Sweep-clause-owed g c = owed_of Sweep _ _ _ _ _ (sym c.in-Sweep.is �
       headline = c.secvisor_sweep.ensures.headline;
       unread = c.secvisor_sweep.ensures.unread;
       unsaved = c.secvisor_sweep.ensures.same;
+      keys = refl;
+      bench = refl;
+    })
+
+pub returns-in-Shrink-clause-owed : goal.returns-in-Shrink-clause-owed
+returns-in-Shrink-clause-owed g c = owed_of Shrink _ _ _ _ _ (sym c.in-Shrink.is ∙ c.top_call_of.ensures)
+    (record {
+      headline = c.secvisor_shrink.ensures.headline;
+      read_fault = c.secvisor_shrink.ensures.read_fault;
+      unread = c.secvisor_shrink.ensures.unread;
+      held = c.secvisor_shrink.ensures.held;
       keys = refl;
       bench = refl;
     })

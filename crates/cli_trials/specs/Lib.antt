@@ -1,0 +1,3 @@
+pub mod Orders
+pub mod Reading
+pub mod Writing
