@@ -1,7 +1,6 @@
-use Rattle.std.proofs.Common.{List, ℕ, [], ◌∷◌, IsTrue, refl, sym, subst, inl, inr}
+use Rattle.std.proofs.Common.{[], refl, sym, subst, inl}
 use Rattle.sv_types.specs.Schedule.{first_events}
 use Rattle.host_io.specs.Outside.{FilesState, MaySaveUnder}
-use Rattle.host_io.specs.declared.trouble.Trouble.TheVariants.{Write}
 use Rattle.secvisor_cli.specs.Answers.{outside}
 use Rattle.secvisor_cli.proofs.ReadyLemmas.{err_by}
 use Rattle.cli_snap.specs.SnapAnswers.{SnapsTo, TriesAndSnaps}

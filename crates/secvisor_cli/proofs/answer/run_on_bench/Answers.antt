@@ -1,4 +1,4 @@
-use Rattle.std.proofs.Common.{refl, sym, subst, inl, ap}
+use Rattle.std.proofs.Common.{refl, sym, subst, inl}
 use Rattle.std.specs.Option.{option_copied}
 use Rattle.spec_reference.specs.Disk.{disk_bytes}
 use Rattle.spec_reference.specs.Run.{run}
