@@ -12,10 +12,12 @@ mod making;
 mod manual;
 mod resuming;
 mod running;
+mod saved_script;
 mod words;
 
 pub use command::remark;
 pub use ending::{Ending, stop_remark};
 pub use files::{MostBytes, Reread};
 pub use manual::help;
+pub use saved_script::script_remark;
 pub use words::{WordRemark, word_remark};

@@ -1,5 +1,5 @@
 -- From what is ready of `live` to what is answered.
-use Rattle.std.proofs.Common.{◌≡◌, ℕ, List, ◌∷◌, [], IsTrue, refl, sym, subst, Option, Some, None, Result, Ok, Err, IsErrOf}
+use Rattle.std.proofs.Common.{◌≡◌, ℕ, List, ◌∷◌, [], IsTrue, refl, sym, subst, Option, Some, None, Result, Ok, Err, IsErrOf, inl, inr}
 use Rattle.sv_types.specs.Schedule.{first_events}
 use Rattle.sv_types.specs.declared.event.Event.{Event}
 use Rattle.sv_types.specs.declared.status.Status.{Status}
@@ -12,16 +12,16 @@ use Rattle.cli_plans.specs.declared.refusal.Refusal.{Refusal}
 use Rattle.secvisor_cli.specs.declared.ready.Stop.TheVariants.{Refused}
 use Rattle.secvisor_cli.specs.declared.ready.Stop.TheVariants as stop
 use Rattle.host_io.specs.declared.trouble.Trouble.{Trouble}
-use Rattle.host_io.specs.declared.trouble.Trouble.TheVariants.{Memory}
+use Rattle.host_io.specs.declared.trouble.Trouble.TheVariants.{Write, Memory}
 use Rattle.cli_plans.specs.Refusals.{refusal_line, refusal_status, takes_memory}
 use Rattle.cli_plans.specs.Plans.{Due, Refuse, RunFrom, Make, live_plan}
-use Rattle.secvisor_cli.specs.Answers.{Writes}
+use Rattle.secvisor_cli.specs.Answers.{AfterTry, Writes}
 use Rattle.secvisor_cli.proofs.TopLemmas.{refused_answers}
 use Rattle.cli_plans.specs.Reading.{MayFollow}
 use Rattle.cli_plans.proofs.PlanLemmas.{may_follow}
 use Rattle.cli_plans.specs.CommandLine.{LiveWords, live_judged}
 use Rattle.cli_live.specs.LiveReady.{IsLiveFresh, IsLiveReadyWhere, PreparesLive, out_of}
-use Rattle.cli_live.specs.LiveAnswers.{LiveOutside, live_outside, AnswersLiveReached, RunsLive, PerformsLive}
+use Rattle.cli_live.specs.LiveAnswers.{LiveOutside, live_outside, AnswersLiveReached, TriesAndRuns, PerformsLive}
 use Rattle.cli_live.specs.declared.ready.LiveReady.{LiveReady}
 
 -- ---- what is ready
@@ -43,19 +43,25 @@ may_under name other f0 f1 same is may text =
     (subst (λ (n : List ℕ). IsTrue (f0.permits_save ((n, text) ∷ []))) (sym is) (may text))
 
 ready_answers : (reached : Option Due) (ready : LiveReady) (name : List ℕ) (old new : LiveOutside) (result : Result Status Trouble) → IsLiveReadyWhere reached (Ok ready) → ready.out.now ≡ name →
-    ((start : State) → IsNew ready.live.machine start → RunsLive start (first_events ready.live.events ready.live.script) ready.out.now old new result) → AnswersLiveReached name reached old new result
+    ((start : State) → IsNew ready.live.machine start → TriesAndRuns start (first_events ready.live.events ready.live.script) ready.out.now old new result) → AnswersLiveReached name reached old new result
 ready_answers None ready name old new result it is a = absurd (cc it)
 ready_answers (Some (Refuse refusal)) ready name old new result it is a = absurd it
 ready_answers (Some (Make out rules line)) ready name old new result it is a = absurd it
 ready_answers (Some (RunFrom start asked save)) ready name old new result it is a =
-    subst (λ (n : List ℕ). RunsLive start asked n old new result) is (subst (λ (es : List Event). RunsLive start es ready.out.now old new result) it.1 (a start it.0))
+    subst (λ (n : List ℕ). TriesAndRuns start asked n old new result) is (subst (λ (es : List Event). TriesAndRuns start es ready.out.now old new result) it.1 (a start it.0))
 
 pub ready_performs : (words : Result LiveWords Refusal) (f0 f1 f2 : FilesState) (s0 s1 : SinkState) (k0 k1 : KeysState) (b0 b1 : Option Machine) (ready : LiveReady) (result : Result Status Trouble) →
     PreparesLive (live_plan words) f0 f1 (Ok ready) → ready.out.now ≡ out_of words →
-    ((start : State) → IsNew ready.live.machine start → RunsLive start (first_events ready.live.events ready.live.script) ready.out.now (live_outside f1 s0 k0 b0) (live_outside f2 s1 k1 b1) result) →
+    ((start : State) → IsNew ready.live.machine start → TriesAndRuns start (first_events ready.live.events ready.live.script) ready.out.now (live_outside f1 s0 k0 b0) (live_outside f2 s1 k1 b1) result) →
     PerformsLive words (live_outside f0 s0 k0 b0) (live_outside f2 s1 k1 b1) result
 ready_performs words f0 f1 f2 s0 s1 k0 k1 b0 b1 ready result p is a =
     record { reached = p.reached; read = f1; follows = p.follows; answers = ready_answers p.reached ready (out_of words) _ _ result p.ready is a }
+
+-- a try in vain ends the answer
+pub vain_lives : (start : State) (asked : List Event) (name : List ℕ) (f0 f1 : FilesState) (sink : SinkState) (keys : KeysState) (bench : Option Machine) (trouble : Trouble) →
+    AfterTry (Some name) f0 f1 (Err trouble) → TriesAndRuns start asked name (live_outside f0 sink keys bench) (live_outside f1 sink keys bench) (Err trouble)
+vain_lives start asked name f0 f1 sink keys bench Write it = inr (record { files = it; sink = refl; bench = refl }, refl, refl)
+vain_lives start asked name f0 f1 sink keys bench Memory it = absurd it
 
 -- ---- refusals, and out of memory
 

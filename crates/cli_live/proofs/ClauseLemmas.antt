@@ -10,7 +10,7 @@ use Rattle.sv_types.specs.Schedule.{Schedule}
 use Rattle.spec_reference.specs.Report.{output}
 use Rattle.spec_reference.specs.Run.{run}
 use Rattle.spec_reference.specs.States.{State}
-use Rattle.host_io.specs.Outside.{FilesState, after_taking}
+use Rattle.host_io.specs.Outside.{FilesState, after_taking, SinkState}
 use Rattle.machine.proofs.Standing.{stands_disk}
 use Rattle.live_keys.specs.Keys.{KeysState}
 use Rattle.live_keys.specs.Placed.{keys_among}
@@ -28,7 +28,7 @@ use Rattle.host_io.specs.Endings.{status_of_end}
 use Rattle.cli_plans.proofs.PlanLemmas.{Keeps, HasFault, HasFoundFaults, follows_keeps}
 use Rattle.secvisor_cli.proofs.SaveLemmas.{changes, exact_saving, ChangesOut, changes_none, writes_faults}
 use Rattle.cli_plans.proofs.FoundFaults.{run_found_faults, run_no_read_fault}
-use Rattle.secvisor_cli.proofs.TopLemmas.{EffectOut, effect_out, refused_status, refused_fault}
+use Rattle.secvisor_cli.proofs.TopLemmas.{EffectOut, changes_vain, effect_out, refused_status, refused_fault}
 use Rattle.cli_plans.proofs.WordLemmas.{NoReadFault, live_no_read_fault}
 use Rattle.cli_live.specs.LiveAnswers.{LiveOutside, live_outside, IsScriptOf, SavesScript, read_status, after_reading, is_refusal, RunsLive, AnswersLive, AnswersLiveReached, PerformsLive}
 use Rattle.cli_live.specs.LiveReady.{out_of}
@@ -154,8 +154,9 @@ reached_replays line words None old new read answer is follows a ended = absurd 
 reached_replays line words (Some (Refuse refusal)) old new read answer is follows a ended = absurd (refused_unended refusal (live_outside read old.sink old.keys old.bench) new answer a ended)
 reached_replays line words (Some (Make out rules printed)) old new read answer is follows a ended = absurd a
 reached_replays line (Err refusal) (Some (RunFrom start asked save)) old new read answer is follows a ended = absurd (cc follows.0)
-reached_replays line (Ok words) (Some (RunFrom start asked save)) old new read answer is follows a ended =
-    run_replays line words old new read start asked save answer (line_good line words is) follows a
+reached_replays line (Ok words) (Some (RunFrom start asked save)) old new read answer is follows (inl a) ended =
+    run_replays line words old new read start asked save answer (line_good line words is) follows a.1
+reached_replays line (Ok words) (Some (RunFrom start asked save)) old new read answer is follows (inr a) ended = absurd (cc a.2)
 
 pub replays : (line : LiveLine) (words : Result LiveWords Refusal) (old new : LiveOutside) (result : Result Status Trouble) → live_judged (live_line line) ≡ words → PerformsLive words old new result →
     HasEnded (status_of_end result) old.keys new.keys → Replays line old new (status_of_end result)
@@ -192,7 +193,9 @@ run_unrefused start asked name old new (Err Memory) r refused = cc refused
 reached_writes : (name : List ℕ) (reached : Option Due) (old new : LiveOutside) (result : Result Status Trouble) → AnswersLiveReached name reached old new result → old.sink.faults ≤ new.sink.faults
 reached_writes name None old new result a = let same : new.sink.faults ≡ old.sink.faults = ap (λ (o : LiveOutside). o.sink.faults) a.1 in omega arith
 reached_writes name (Some (Refuse refusal)) old new result a = writes_faults _ _ old.sink new.sink a.0.written a.0.writes
-reached_writes name (Some (RunFrom start asked save)) old new result a = writes_faults _ _ old.sink new.sink a.written a.writes
+reached_writes name (Some (RunFrom start asked save)) old new result (inl a) = writes_faults _ _ old.sink new.sink a.1.written a.1.writes
+reached_writes name (Some (RunFrom start asked save)) old new result (inr a) =
+    let same : new.sink.faults ≡ old.sink.faults = ap (λ (k : SinkState). k.faults) a.0.sink in omega arith
 reached_writes name (Some (Make out rules line)) old new result a = absurd a
 
 pub live_writes : (words : Result LiveWords Refusal) (old new : LiveOutside) (result : Result Status Trouble) → PerformsLive words old new result → old.sink.faults ≤ new.sink.faults
@@ -208,7 +211,8 @@ same_keys old new is = let same : new.faults ≡ old.faults = ap (λ (k : KeysSt
 reached_keys : (name : List ℕ) (reached : Option Due) (old new : LiveOutside) (result : Result Status Trouble) → AnswersLiveReached name reached old new result → old.keys.faults ≤ new.keys.faults
 reached_keys name None old new result a = same_keys old.keys new.keys (ap (λ (o : LiveOutside). o.keys) a.1)
 reached_keys name (Some (Refuse refusal)) old new result a = same_keys old.keys new.keys a.1
-reached_keys name (Some (RunFrom start asked save)) old new result a = read_faults old.keys new.keys a.keys.bytes a.ended.read_failed a.keys.read
+reached_keys name (Some (RunFrom start asked save)) old new result (inl a) = read_faults old.keys new.keys a.1.keys.bytes a.1.ended.read_failed a.1.keys.read
+reached_keys name (Some (RunFrom start asked save)) old new result (inr a) = same_keys old.keys new.keys a.1
 reached_keys name (Some (Make out rules line)) old new result a = absurd a
 
 pub live_keys : (words : Result LiveWords Refusal) (old new : LiveOutside) (result : Result Status Trouble) → PerformsLive words old new result → old.keys.faults ≤ new.keys.faults
@@ -219,7 +223,8 @@ live_keys words old new result p = reached_keys (out_of words) p.reached (live_o
 reached_keyless : (name : List ℕ) (reached : Option Due) (old new : LiveOutside) (result : Result Status Trouble) → AnswersLiveReached name reached old new result → is_refusal (status_of_end result) ≡ true → new.keys ≡ old.keys
 reached_keyless name None old new result a refused = ap (λ (o : LiveOutside). o.keys) a.1
 reached_keyless name (Some (Refuse refusal)) old new result a refused = a.1
-reached_keyless name (Some (RunFrom start asked save)) old new result a refused = absurd (run_unrefused start asked name old new result a refused)
+reached_keyless name (Some (RunFrom start asked save)) old new result (inl a) refused = absurd (run_unrefused start asked name old new result a.1 refused)
+reached_keyless name (Some (RunFrom start asked save)) old new result (inr a) refused = a.1
 reached_keyless name (Some (Make out rules line)) old new result a refused = absurd a
 
 pub live_keyless : (words : Result LiveWords Refusal) (old new : LiveOutside) (result : Result Status Trouble) → PerformsLive words old new result → is_refusal (status_of_end result) ≡ true → new.keys ≡ old.keys
@@ -234,7 +239,9 @@ script_changes harts journal name old new (Ok status) saved it = record { bytes 
 reached_changes : (name : List ℕ) (reached : Option Due) (old new : LiveOutside) (result : Result Status Trouble) → AnswersLiveReached name reached old new result → ChangesOut name old.files new.files
 reached_changes name None old new result a = changes_none name old.files new.files (ap (λ (o : LiveOutside). o.files) a.1)
 reached_changes name (Some (Refuse refusal)) old new result a = changes_none name old.files new.files a.0.saves.0
-reached_changes name (Some (RunFrom start asked save)) old new result a = script_changes start.rules.harts a.journal name old.files new.files a.written a.saved a.saves
+reached_changes name (Some (RunFrom start asked save)) old new result (inl a) = script_changes start.rules.harts a.1.journal name old.files new.files a.1.written a.1.saved a.1.saves
+reached_changes name (Some (RunFrom start asked save)) old new result (inr a) =
+    record { bytes = []; changes = changes_vain (exact_saving name []) old.files new.files a.0.files }
 reached_changes name (Some (Make out rules line)) old new result a = absurd a
 
 pub live_effect : (words : Result LiveWords Refusal) (old new : LiveOutside) (result : Result Status Trouble) → PerformsLive words old new result → EffectOut (out_of words) old.files new.files
@@ -271,8 +278,10 @@ reached_unsaved : (name : List ℕ) (reached : Option Due) (old new : LiveOutsid
     (is_refusal (status_of_end result) ≡ true) ⊎ (status_of_end result ≡ Status.Memory) → new.files ≡ old.files
 reached_unsaved name None old new result a is = ap (λ (o : LiveOutside). o.files) a.1
 reached_unsaved name (Some (Refuse refusal)) old new result a is = a.0.saves.0
-reached_unsaved name (Some (RunFrom start asked save)) old new result a (inl refused) = absurd (run_unrefused start asked name old new result a refused)
-reached_unsaved name (Some (RunFrom start asked save)) old new result a (inr memory) = run_unsaved start asked name old new result a memory
+reached_unsaved name (Some (RunFrom start asked save)) old new result (inl a) (inl refused) = absurd (run_unrefused start asked name old new result a.1 refused)
+reached_unsaved name (Some (RunFrom start asked save)) old new result (inl a) (inr memory) = run_unsaved start asked name old new result a.1 memory
+reached_unsaved name (Some (RunFrom start asked save)) old new result (inr a) (inl refused) = absurd (cc (sym (ap (λ (r : Result Status Trouble). is_refusal (status_of_end r)) a.2) ∙ refused))
+reached_unsaved name (Some (RunFrom start asked save)) old new result (inr a) (inr memory) = absurd (cc (sym (ap status_of_end a.2) ∙ memory))
 reached_unsaved name (Some (Make out rules line)) old new result a is = absurd a
 
 pub live_unsaved : (words : Result LiveWords Refusal) (old new : LiveOutside) (result : Result Status Trouble) → PerformsLive words old new result →
@@ -323,8 +332,9 @@ reached_fault plan name None old new read (Ok answer) never follows a is = absur
 reached_fault plan name None old new read (Err Write) never follows a is = absurd (cc is)
 reached_fault plan name None old new read (Err Memory) never follows a is = absurd (cc is)
 reached_fault plan name (Some (Refuse refusal)) old new read result never follows a is = inl (refused_fault plan refusal (outside old.files old.sink old.bench) (outside new.files new.sink new.bench) read result never follows a.0 is)
-reached_fault plan name (Some (RunFrom start asked save)) old new read result never follows a is =
-    inr (run_fault start asked name (live_outside read old.sink old.keys old.bench) new result a is)
+reached_fault plan name (Some (RunFrom start asked save)) old new read result never follows (inl a) is =
+    inr (run_fault start asked name (live_outside read old.sink old.keys old.bench) new result a.1 is)
+reached_fault plan name (Some (RunFrom start asked save)) old new read result never follows (inr a) is = absurd (cc (sym (ap status_of_end a.2) ∙ is))
 reached_fault plan name (Some (Make out rules line)) old new read result never follows a is = absurd a
 
 pub live_fault : (words : List (List ℕ)) (old new : LiveOutside) (result : Result Status Trouble) → PerformsLive (live_judged words) old new result → status_of_end result ≡ Status.ReadFault →

@@ -18,7 +18,7 @@ use Rattle.cli_plans.specs.CommandLine.{LiveWords}
 use Rattle.cli_plans.specs.Plans.{Due, Refuse, RunFrom, Make, Exactly, live_plan}
 use Rattle.cli_plans.specs.Reading.{Follows}
 use Rattle.cli_plans.specs.declared.refusal.Refusal.{Refusal}
-use Rattle.cli_live.specs.LiveAnswers.{LiveOutside, live_outside, SavesScript, after_reading, RunsLive, AnswersLive, AnswersLiveReached, LiveHeadline}
+use Rattle.cli_live.specs.LiveAnswers.{LiveOutside, live_outside, SavesScript, after_reading, RunsLive, TriesAndRuns, AnswersLive, AnswersLiveReached, LiveHeadline}
 use Rattle.cli_live.specs.LiveReady.{out_of}
 use Rattle.cli_live.specs.LiveEnds.{EndsLive, LiveEnds, LiveEndsLaw}
 use Rattle.cli_live.proofs.ClauseLemmas.{is_done}
@@ -51,6 +51,11 @@ run_ends start asked name old new (Err Write) r =
     )))
 run_ends start asked name old new (Err Memory) r = inl (inr (inr refl))
 
+tried_ends : (start : State) (asked : List Event) (name : List ℕ) (old new : LiveOutside) (result : Result Status Trouble) → TriesAndRuns start asked name old new result →
+    LiveEnds start old new (status_of_end result)
+tried_ends start asked name old new result (inl r) = record { journal = r.1.journal; ends = run_ends start asked name old new result r.1 }
+tried_ends start asked name old new result (inr vain) = record { journal = []; ends = inl (inr (inl (ap status_of_end vain.2, inr vain.0.files.faults))) }
+
 -- ---- reading and saving
 
 script_unread : (harts : ℕ) (journal : List Event) (name : List ℕ) (f0 f1 : FilesState) (written saved : Result Status Trouble) → SavesScript harts journal name f0 f1 written saved →
@@ -63,7 +68,8 @@ script_unread harts journal name f0 f1 (Ok status) saved it = elim it.2 [
 
 due_unread : (name : List ℕ) (due : Due) (old new : LiveOutside) (result : Result Status Trouble) → AnswersLive name due old new result → new.files.read_faults ≡ old.files.read_faults
 due_unread name (Refuse refusal) old new result a = same_unread old.files new.files a.0.saves.0
-due_unread name (RunFrom start asked save) old new result a = script_unread start.rules.harts a.journal name old.files new.files a.written a.saved a.saves
+due_unread name (RunFrom start asked save) old new result (inl a) = script_unread start.rules.harts a.1.journal name old.files new.files a.1.written a.1.saved a.1.saves
+due_unread name (RunFrom start asked save) old new result (inr a) = ap (λ (f : FilesState). f.read_faults) a.0.files.leaves
 due_unread name (Make out rules line) old new result a = absurd a
 
 -- reading counts no save
@@ -87,12 +93,12 @@ reached_ends words start events save old new read None result whole is follows a
 reached_ends words start events save old new read (Some due) result whole is follows a =
     let count = due_unread (out_of words) due (live_outside read old.sink old.keys old.bench) new result a in
     let same : due ≡ RunFrom start events save = sym (comes_to_due (live_plan words) old.files read due whole.tells (sym count ∙ whole.unfailed) follows) ∙ is in
-    let r : RunsLive start events (out_of words) (live_outside read old.sink old.keys old.bench) new result =
-    subst (λ (d : Due). AnswersLive (out_of words) d (live_outside read old.sink old.keys old.bench) new result) same a in
+    let before : LiveOutside = live_outside read old.sink old.keys old.bench in
+    let r : TriesAndRuns start events (out_of words) before new result = subst (λ (d : Due). AnswersLive (out_of words) d before new result) same a in
+    let ended : LiveEnds start before new (status_of_end result) = tried_ends start events (out_of words) before new result r in
     record {
-      journal = r.journal;
-      ends = ends_before (run_status (run start r.journal).journal.verdict) old read new (status_of_end result) (follows_keeps (live_plan words) old.files read (Some due) follows).saves
-          (run_ends start events (out_of words) (live_outside read old.sink old.keys old.bench) new result r);
+      journal = ended.journal;
+      ends = ends_before (run_status (run start ended.journal).journal.verdict) old read new (status_of_end result) (follows_keeps (live_plan words) old.files read (Some due) follows).saves ended.ends;
     }
 
 pub live_ends : LiveEndsLaw

@@ -1,5 +1,5 @@
 -- A live run, from what it made to what it owes.
-use Rattle.std.proofs.Common.{◌≡◌, ◌≢◌, ◌≤◌, ◌+◌, ◌-◌, ◌*◌, ℕ, List, [], ◌++◌, length, map, true, false, refl, sym, ◌∙◌, ap, subst, arith, inl, inr, ◌⊎◌, Option, Some, None, Result, Err}
+use Rattle.std.proofs.Common.{◌≡◌, ◌≢◌, ◌≤◌, ◌+◌, ◌-◌, ◌*◌, ℕ, List, [], ◌++◌, length, map, Bool, true, false, refl, sym, ◌∙◌, ap, subst, arith, inl, inr, ◌⊎◌, Option, Some, None, Result, Err}
 use Rattle.std.proofs.lemmas.List.{map-append, length-map}
 use Rattle.std.proofs.lemmas.Bool.{cases_Bool}
 use Rattle.sv_types.specs.ApprovedPages.{numbers_from}
@@ -29,7 +29,7 @@ use Rattle.live_keys.specs.Placed.{autos_between, events_between, keys_among, ot
 use Rattle.live_keys.specs.declared.live_key.LiveKey.{LiveKey}
 use Rattle.live_keys.proofs.Events.{numbers_join}
 use Rattle.cli_live.specs.Coming.{CameRunning}
-use Rattle.cli_live.specs.Drives.{GoesOn, Breaks, HasBroken, HasDriven}
+use Rattle.cli_live.specs.Drives.{BrokeOff, GoesOn, HasBroken, HasDriven, is_shown_early}
 use Rattle.cli_live.specs.Inputs.{HasKeys}
 use Rattle.cli_live.specs.LiveRuns.{harts_of, events_made, IsUnderWay}
 use Rattle.cli_live.specs.declared.live_run.LiveRun.{LiveRun}
@@ -54,9 +54,9 @@ ran_stands first start events m old mid new is_new ran prefix = record {
   rest = subst (λ (k : SinkState). TookPrefix k new (machine_output m)) ran.taken prefix;
 }
 
-pub broken_stands : (first : Machine) (start : State) (events : List Event) (m : Machine) (old new : SinkState) → IsNew first start → HasBroken first start events m old new →
+pub broken_stands : (early : Bool) (first : Machine) (start : State) (events : List Event) (m : Machine) (old new : SinkState) → IsNew first start → HasBroken early first start events m old new →
     StandsBehind start events m old new
-broken_stands first start events m old new is_new b = record {
+broken_stands early first start events m old new is_new b = record {
   cleared = b.cleared;
   stands = b.stands;
   first = first;
@@ -65,9 +65,9 @@ broken_stands first start events m old new is_new b = record {
 }
 
 -- what the sink took before a write failed stands at the front of the output
-pub broken_prefix : (first : Machine) (start : State) (events : List Event) (m : Machine) (old new : SinkState) → HasBroken first start events m old new →
+pub broken_prefix : (early : Bool) (first : Machine) (start : State) (events : List Event) (m : Machine) (old new : SinkState) → HasBroken early first start events m old new →
     TookPrefix old new (output (run start events))
-broken_prefix first start events m old new b =
+broken_prefix early first start events m old new b =
     let last : State = run start events in
     prefix_of_front old new last.journal.printed (report last.journal)
     (prefix_same old new _ _ (stands_printed m last b.cleared b.stands) (prefix_after old (after_taking old b.cleared) new b.cleared m.journal.printed refl b.broke.prefix))
@@ -140,19 +140,19 @@ ran_ends first start events m old mid new written is_new ran writes = record {
   bench = ran_stands first start events m old mid new is_new ran.run writes.prefix;
 }
 
-broken_ends : (first : Machine) (start : State) (events : List Event) (m : Machine) (old new : SinkState) → IsNew first start → HasBroken first start events m old new →
+broken_ends : (early : Bool) (first : Machine) (start : State) (events : List Event) (m : Machine) (old new : SinkState) → IsNew first start → HasBroken early first start events m old new →
     EndsLive start events m old new (Err Write)
-broken_ends first start events m old new is_new b = record {
-  writes = broken_writes _ _ old new (broken_prefix first start events m old new b) b.broke.faults;
+broken_ends early first start events m old new is_new b = record {
+  writes = broken_writes _ _ old new (broken_prefix early first start events m old new b) b.broke.faults;
   verdict = stands_verdict m (run start events) b.cleared b.stands;
   came = b.came;
-  bench = broken_stands first start events m old new is_new b;
+  bench = broken_stands early first start events m old new is_new b;
 }
 
 -- what a live run was, from what it was to the machine before it
 pub record DroveLive (live last : LiveRun) (ended : LiveEnd) (old mid : SinkState) : Type 0 where
   pub on : ended.write_failed ≡ false → GoesOn (events_made live) (events_made last) live.machine last.machine old mid
-  pub broke : ended.write_failed ≡ true → Breaks (events_made live) (events_made last) live.machine last.machine old mid
+  pub broke : ended.write_failed ≡ true → BrokeOff live last old mid
 
 ends_live : (live last : LiveRun) (ended : LiveEnd) (start : State) (name : List ℕ) (f0 f1 : FilesState) (old mid new : SinkState) (result : Result Status Trouble) →
     events_made live ≡ [] → IsNew live.machine start → live.machine.journal.printed ≡ [] → DroveLive live last ended old mid → (r : Reports last ended name f0 f1 mid new result) →
@@ -163,7 +163,7 @@ ends_live live last ended start name f0 f1 old mid new result none is_new printe
 ends_live live last ended start name f0 f1 old mid new result none is_new printed drove r (inl broke) =
     subst (λ (s : SinkState). EndsLive start (events_made last) last.machine old s r.written) (sym (r.broke broke).1)
     (subst (λ (w : Result Status Trouble). EndsLive start (events_made last) last.machine old mid w) (sym (r.broke broke).0)
-    (broken_ends live.machine start (events_made last) last.machine old mid is_new
+    (broken_ends (is_shown_early last) live.machine start (events_made last) last.machine old mid is_new
     ((drove.broke broke).broke live.machine start old (ran_none live.machine start old (events_made live) none is_new printed))))
 
 pub runs_live : (ready : LiveReady) (last : LiveRun) (ended : LiveEnd) (start : State) (f0 f1 : FilesState) (old mid new : SinkState) (k0 k1 : KeysState) (b0 : Option Machine)

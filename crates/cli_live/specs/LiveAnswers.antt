@@ -24,7 +24,7 @@ use Rattle.host_io.specs.declared.trouble.Trouble.{Trouble}
 use Rattle.host_io.specs.declared.trouble.Trouble.TheVariants.{Write, Memory}
 use Rattle.cli_plans.specs.Plans.{Due, Refuse, RunFrom, Make, Exactly, max_script_bytes, live_plan}
 use Rattle.cli_plans.specs.Reading.{Follows}
-use Rattle.secvisor_cli.specs.Answers.{outside, Writes, SavedAfter, WritesAndSaves}
+use Rattle.secvisor_cli.specs.Answers.{outside, IsFree, TriedInVain, Writes, SavedAfter, WritesAndSaves}
 use Rattle.host_io.specs.Endings.{status_of_end}
 use Rattle.cli_plans.specs.CommandLine.{LiveWords}
 use Rattle.cli_live.specs.LiveReady.{out_of}
@@ -108,6 +108,12 @@ pub record RunsLive (start : State) (asked : List Event) (name : List ℕ) (old 
   pub status : result ≡ after_reading ended.read_failed saved
   pub bench : (machine : Machine) × (new.bench ≡ Some machine) × StandsBehind start journal machine old.sink new.sink
 
+-- The name for the script is tried first: where no file can be made there, nothing is written, nothing runs and no key is read.
+abbrev pub TriesAndRuns : State → List Event → (name : List ℕ) → LiveOutside → LiveOutside → Result Status Trouble → Type 0
+TriesAndRuns start asked name old new result =
+    (IsFree (Some name) old.files × RunsLive start asked name old new result)
+    ⊎ (TriedInVain (outside old.files old.sink old.bench) (outside new.files new.sink new.bench) × (new.keys ≡ old.keys) × (result ≡ Err Write))
+
 -- the status of a refusal, but for a file that isn't read
 abbrev pub is_refusal : Status → Bool
 is_refusal Status.Usage = true
@@ -123,7 +129,7 @@ is_refusal Status.Ended = false
 abbrev pub AnswersLive : (name : List ℕ) → Due → LiveOutside → LiveOutside → Result Status Trouble → Type 0
 AnswersLive name (Refuse refusal) old new result =
     WritesAndSaves (Refuse refusal) (outside old.files old.sink old.bench) (outside new.files new.sink new.bench) result × (new.keys ≡ old.keys)
-AnswersLive name (RunFrom start asked save) old new result = RunsLive start asked name old new result
+AnswersLive name (RunFrom start asked save) old new result = TriesAndRuns start asked name old new result
 AnswersLive name (Make out rules line) old new result = ⊥
 
 -- the same where memory ran out before what is due was ready: nothing happened

@@ -15,7 +15,7 @@ ghost use Rattle.host_io.specs.declared.trouble.Trouble.{Trouble as Ending};
 ghost use Rattle.sv_types.specs.declared.status.Status.{Status as Answer};
 ghost use Rattle.cli_plans.specs.CommandLine.{live_judged};
 ghost use Rattle.cli_live.specs.LiveReady.{IsLiveFresh, out_of};
-ghost use Rattle.cli_live.specs.LiveAnswers.{live_outside, SavesScript, after_reading, is_refusal, Reports, RunsLive, PerformsLive, LiveHeadline};
+ghost use Rattle.cli_live.specs.LiveAnswers.{live_outside, SavesScript, after_reading, is_refusal, Reports, TriesAndRuns, PerformsLive, LiveHeadline};
 ghost use Rattle.cli_live.specs.Replays.{LiveLine, live_line, HasEnded, Replays};
 ghost use Rattle.host_io.specs.Outside.{MayWrite, MaySaveUnder};
 ghost use Rattle.spec_processor.specs.Counters.{CanCount};
@@ -25,7 +25,7 @@ use crate::ready::{LiveReady, prepare_live};
 use crate::threads::LiveEnd;
 use host_io::{Files, Sink};
 use live_keys::{Keys, Pace, journal_text};
-use secvisor_cli::{Bench, Status, Stop, Trouble, finish, refuse, status_of_end};
+use secvisor_cli::{Bench, Status, Stop, Trouble, finish, refuse, status_of_end, try_place};
 use std::alloc::Global;
 use std::sync::Wait;
 use std::thread::Threads;
@@ -93,7 +93,7 @@ fn report<F: Files, O: Sink>(
     after_reading(end.read_failed, saved)
 }
 
-// What is ready is run, with its keys, and the machine stands on the bench from then on. Each parameter is a thing of its own
+// The name for the script is tried; what is ready is run, with its keys, and the machine stands on the bench from then on. Each parameter is a thing of its own
 // outside of the program.
 fn carry_out<R: Threads + Wait + Sync, F: Files, K: Keys + Send, O: Sink, P: Pace + Sync>(
     rt: &R,
@@ -111,10 +111,11 @@ fn carry_out<R: Threads + Wait + Sync, F: Files, K: Keys + Send, O: Sink, P: Pac
     requires reads { CanCount (K.state keys.old).faults }
     requires saves { CanCount (F.state files.old).save_faults }
     requires permitted { MaySaveUnder ready.out.now (F.state files.old) }
-    ensures { (start : State) → IsNew ready.entry.live.machine start → RunsLive start (first_events ready.entry.live.events ready.entry.live.script) ready.entry.out.now
+    ensures { (start : State) → IsNew ready.entry.live.machine start → TriesAndRuns start (first_events ready.entry.live.events ready.entry.live.script) ready.entry.out.now
         (live_outside (F.state files.old) (O.state out.old) (K.state keys.old) bench.old.machine)
         (live_outside (F.state files.new) (O.state out.new) (K.state keys.new) bench.new.machine) result }
 {
+    try_place(Some(ready.out), files)?;
     let LiveReady {
         mut live,
         source,

@@ -99,6 +99,7 @@ impl LiveRun {
         ensures whole { OnOk result (TookAllOf self.new.taker.all self.new.taker.bytes) }
     {
         make_autos(rt, self, out, line, pace)?;
+        pace.note_end();
         make_keys(rt, self, out, line)?;
         show_console(&mut self.machine, out)
     }

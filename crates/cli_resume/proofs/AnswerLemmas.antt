@@ -60,8 +60,8 @@ ready_answers None booted old new result it a = absurd (cc it)
 ready_answers (Some (Refuse refusal)) booted old new result it a = absurd it
 ready_answers (Some (Make name rules line)) booted old new result it a = absurd it
 ready_answers (Some (RunFrom start events save)) booted old new result it a =
-    subst (λ (name : Option (List ℕ)). WritesAndSaves (RunFrom start events name) old new result) it.2
-    (subst (λ (es : List Event). WritesAndSaves (RunFrom start es (option_copied booted.save)) old new result) it.1 (a start it.0))
+    subst (λ (name : Option (List ℕ)). Answers (RunFrom start events name) old new result) it.2
+    (subst (λ (es : List Event). Answers (RunFrom start es (option_copied booted.save)) old new result) it.1 (a start it.0))
 
 pub ready_performs : (plan : Plan) (f0 f1 f2 : FilesState) (s0 s1 : SinkState) (b0 b1 : Option Machine) (booted : PreparedRun) (result : Result Status Trouble) → Resumes plan f0 f1 (Ok booted) →
     ((start : State) → IsNew booted.machine start → Answers (RunFrom start (first_events booted.events booted.script) (option_copied booted.save)) (outside f1 s0 b0) (outside f2 s1 b1) result) →

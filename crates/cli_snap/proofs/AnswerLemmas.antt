@@ -8,7 +8,7 @@ use Rattle.spec_reference.specs.States.{State}
 use Rattle.spec_hardware.specs.Machine.{Machine}
 use Rattle.spec_hardware.specs.Reaches.{IsNew}
 use Rattle.host_io.specs.Outside.{FilesState, SinkState, MaySaveUnder}
-use Rattle.secvisor_cli.specs.Answers.{Outside, outside, Writes, WritesAndSaves}
+use Rattle.secvisor_cli.specs.Answers.{Outside, outside, AfterTry, Writes, WritesAndSaves}
 use Rattle.cli_plans.specs.Plans.{Due, Refuse, RunFrom, Make, Plan, run_plan, snap_plan}
 use Rattle.cli_plans.specs.Reading.{MayFollow}
 use Rattle.secvisor_cli.specs.Ready.{IsFresh}
@@ -18,10 +18,10 @@ use Rattle.secvisor_cli.specs.declared.ready.Stop.TheVariants.{Refused}
 use Rattle.secvisor_cli.specs.declared.ready.Stop.TheVariants as stop
 use Rattle.cli_plans.specs.declared.refusal.Refusal.{Refusal}
 use Rattle.host_io.specs.declared.trouble.Trouble.{Trouble}
-use Rattle.host_io.specs.declared.trouble.Trouble.TheVariants.{Memory}
+use Rattle.host_io.specs.declared.trouble.Trouble.TheVariants.{Write, Memory}
 use Rattle.secvisor_cli.proofs.TopLemmas.{refused_writes}
 use Rattle.cli_plans.proofs.PlanLemmas.{may_follow}
-use Rattle.cli_snap.specs.SnapAnswers.{RunsSnap, AnswersSnapReached, PerformsRun, PerformsSnap}
+use Rattle.cli_snap.specs.SnapAnswers.{TriesAndSnaps, AnswersSnapReached, PerformsRun, PerformsSnap}
 use Rattle.cli_snap.specs.SnapReady.{StartsBlock, IsPreparedRunWhere, Boots, out_of}
 use Rattle.cli_plans.specs.CommandLine.{SnapWords, snap_judged}
 
@@ -41,18 +41,24 @@ pub may_under : (name : List ℕ) (f0 f1 : FilesState) → f1.permits_save ≡ f
 may_under name f0 f1 same may bytes = subst (λ (permits : List (List ℕ × List ℕ) → _). IsTrue (permits ((name, bytes) ∷ []))) (sym same) (may bytes)
 
 ready_answers : (reached : Option Due) (booted : PreparedRun) (name : List ℕ) (old new : Outside) (result : Result Status Trouble) → IsPreparedRunWhere reached (Ok booted) →
-    ((start : State) → IsNew booted.machine start → RunsSnap start (first_events booted.events booted.script) name old new result) → AnswersSnapReached name reached old new result
+    ((start : State) → IsNew booted.machine start → TriesAndSnaps start (first_events booted.events booted.script) name old new result) → AnswersSnapReached name reached old new result
 ready_answers None booted name old new result it a = absurd (cc it)
 ready_answers (Some (Refuse refusal)) booted name old new result it a = absurd it
 ready_answers (Some (Make out rules line)) booted name old new result it a = absurd it
 ready_answers (Some (RunFrom start events save)) booted name old new result it a =
-    subst (λ (es : List Event). RunsSnap start es name old new result) it.1 (a start it.0)
+    subst (λ (es : List Event). TriesAndSnaps start es name old new result) it.1 (a start it.0)
 
 pub ready_performs : (plan : Plan) (name : List ℕ) (f0 f1 f2 : FilesState) (s0 s1 : SinkState) (b0 b1 : Option Machine) (booted : PreparedRun) (result : Result Status Trouble) → Boots plan f0 f1 (Ok booted) →
-    ((start : State) → IsNew booted.machine start → RunsSnap start (first_events booted.events booted.script) name (outside f1 s0 b0) (outside f2 s1 b1) result) →
+    ((start : State) → IsNew booted.machine start → TriesAndSnaps start (first_events booted.events booted.script) name (outside f1 s0 b0) (outside f2 s1 b1) result) →
     PerformsRun plan name (outside f0 s0 b0) (outside f2 s1 b1) result
 ready_performs plan name f0 f1 f2 s0 s1 b0 b1 booted result p a =
     record { reached = p.reached; read = f1; follows = p.follows; answers = ready_answers p.reached booted name _ _ result p.ready a }
+
+-- a try in vain ends the answer
+pub vain_snaps : (start : State) (events : List Event) (name : List ℕ) (f0 f1 : FilesState) (sink : SinkState) (bench : Option Machine) (trouble : Trouble) →
+    AfterTry (Some name) f0 f1 (Err trouble) → TriesAndSnaps start events name (outside f0 sink bench) (outside f1 sink bench) (Err trouble)
+vain_snaps start events name f0 f1 sink bench Write it = inr (record { files = it; sink = refl; bench = refl }, refl)
+vain_snaps start events name f0 f1 sink bench Memory it = absurd it
 
 -- ---- refusals, and out of memory
 

@@ -1,5 +1,5 @@
 -- From what `snap` performed to each of its clauses.
-use Rattle.std.proofs.Common.{◌≡◌, ◌≢◌, ◌≤◌, ℕ, List, [], false, ◌∙◌, ap, subst, arith, inl, inr, Option, Some, None, Result, Ok, Err}
+use Rattle.std.proofs.Common.{◌≡◌, ◌≢◌, ◌≤◌, ℕ, List, [], false, ◌∙◌, sym, ap, subst, arith, inl, inr, Option, Some, None, Result, Ok, Err}
 use Rattle.std.specs.Result.{is_ok}
 use Rattle.sv_types.specs.declared.event.Event.{Event}
 use Rattle.sv_types.specs.declared.status.Status.{Status}
@@ -14,9 +14,9 @@ use Rattle.cli_plans.specs.declared.refusal.Refusal.{Refusal}
 use Rattle.host_io.specs.declared.trouble.Trouble.{Trouble}
 use Rattle.host_io.specs.declared.trouble.Trouble.TheVariants.{Write, Memory}
 use Rattle.cli_plans.proofs.PlanLemmas.{HasFault, HasFoundFaults, follows_keeps}
-use Rattle.secvisor_cli.proofs.SaveLemmas.{changes, ChangesOut, changes_none, writes_faults}
+use Rattle.secvisor_cli.proofs.SaveLemmas.{changes, ChangesOut, changes_none, exact_saving, writes_faults}
 use Rattle.cli_plans.proofs.FoundFaults.{run_found_faults}
-use Rattle.secvisor_cli.proofs.TopLemmas.{EffectOut, effect_out, refused_fault}
+use Rattle.secvisor_cli.proofs.TopLemmas.{EffectOut, changes_vain, effect_out, refused_fault}
 use Rattle.cli_plans.proofs.WordLemmas.{NoReadFault, snap_no_read_fault}
 use Rattle.cli_snap.specs.SnapAnswers.{saving_of, SavesMade, SavesSnapshot, RunsSnap, AnswersSnapReached, PerformsSnap}
 use Rattle.cli_plans.specs.CommandLine.{SnapWords, snap_judged}
@@ -27,7 +27,9 @@ use Rattle.cli_snap.specs.SnapReady.{out_of}
 reached_writes : (name : List ℕ) (reached : Option Due) (old new : Outside) (result : Result Status Trouble) → AnswersSnapReached name reached old new result → old.sink.faults ≤ new.sink.faults
 reached_writes name None old new result a = let same : new.sink.faults ≡ old.sink.faults = ap (λ (o : Outside). o.sink.faults) a.1 in omega arith
 reached_writes name (Some (Refuse refusal)) old new result a = writes_faults _ _ old.sink new.sink a.written a.writes
-reached_writes name (Some (RunFrom start events save)) old new result a = writes_faults _ _ old.sink new.sink a.2.written a.2.writes
+reached_writes name (Some (RunFrom start events save)) old new result (inl a) = writes_faults _ _ old.sink new.sink a.1.2.written a.1.2.writes
+reached_writes name (Some (RunFrom start events save)) old new result (inr a) =
+    let same : new.sink.faults ≡ old.sink.faults = ap (λ (k : SinkState). k.faults) a.0.sink in omega arith
 reached_writes name (Some (Make out rules line)) old new result a = absurd a
 
 pub snap_writes : (words : Result SnapWords Refusal) (old new : Outside) (result : Result Status Trouble) → PerformsSnap words old new result → old.sink.faults ≤ new.sink.faults
@@ -46,7 +48,9 @@ saves_changes start events name old new (Ok status) saved it = made_changes star
 pub reached_changes : (name : List ℕ) (reached : Option Due) (old new : Outside) (result : Result Status Trouble) → AnswersSnapReached name reached old new result → ChangesOut name old.files new.files
 reached_changes name None old new result a = changes_none name old.files new.files (ap (λ (o : Outside). o.files) a.1)
 reached_changes name (Some (Refuse refusal)) old new result a = changes_none name old.files new.files a.saves.0
-reached_changes name (Some (RunFrom start events save)) old new result a = saves_changes start events name old.files new.files a.2.written result a.2.saves
+reached_changes name (Some (RunFrom start events save)) old new result (inl a) = saves_changes start events name old.files new.files a.1.2.written result a.1.2.saves
+reached_changes name (Some (RunFrom start events save)) old new result (inr a) =
+    record { bytes = []; changes = changes_vain (exact_saving name []) old.files new.files a.0.files }
 reached_changes name (Some (Make out rules line)) old new result a = absurd a
 
 pub snap_effect : (words : Result SnapWords Refusal) (old new : Outside) (result : Result Status Trouble) → PerformsSnap words old new result → EffectOut (out_of words) old.files new.files
@@ -96,8 +100,9 @@ reached_fault plan name None old new read (Ok answer) never follows a is = absur
 reached_fault plan name None old new read (Err Write) never follows a is = absurd (cc is)
 reached_fault plan name None old new read (Err Memory) never follows a is = absurd (cc is)
 reached_fault plan name (Some (Refuse refusal)) old new read result never follows a is = refused_fault plan refusal old new read result never follows a is
-reached_fault plan name (Some (RunFrom start events save)) old new read result never follows a is =
-    absurd (run_no_fault start events name (outside read old.sink old.bench) new result a is)
+reached_fault plan name (Some (RunFrom start events save)) old new read result never follows (inl a) is =
+    absurd (run_no_fault start events name (outside read old.sink old.bench) new result a.1 is)
+reached_fault plan name (Some (RunFrom start events save)) old new read result never follows (inr a) is = absurd (cc (sym (ap status_of_end a.1) ∙ is))
 reached_fault plan name (Some (Make out rules line)) old new read result never follows a is = absurd a
 
 pub snap_fault : (words : List (List ℕ)) (old new : Outside) (result : Result Status Trouble) → PerformsSnap (snap_judged words) old new result → status_of_end result ≡ Status.ReadFault →

@@ -15,7 +15,7 @@ use Rattle.host_io.specs.declared.trouble.Trouble.{Trouble}
 use Rattle.host_io.specs.declared.trouble.Trouble.TheVariants.{Write, Memory}
 use Rattle.secvisor_cli.proofs.DueLemmas.{comes_to_due, ends_after}
 use Rattle.cli_plans.proofs.PlanLemmas.{Keeps, follows_keeps}
-use Rattle.cli_snap.specs.SnapAnswers.{AnswersSnapReached, PerformsSnap, RunsSnap, SavesMade, SavesSnapshot, SnapHeadline}
+use Rattle.cli_snap.specs.SnapAnswers.{AnswersSnapReached, PerformsSnap, TriesAndSnaps, SavesMade, SavesSnapshot, SnapHeadline}
 use Rattle.cli_snap.specs.SnapEnds.{SnapEnds, SnapEndsLaw}
 use Rattle.cli_plans.specs.CommandLine.{SnapWords}
 use Rattle.cli_snap.proofs.AcceptedLemmas.{SnapAccepted, snap_accepted}
@@ -47,6 +47,10 @@ module _ (start : State) (events : List Event) (name : List ℕ) (old new : Outs
   written_ends (Err Write) result tells w it = fault_ends result it.0 (inl (w.write refl))
   written_ends (Err Memory) result tells w it = wanting_ends result it.0
 
+  tried_ends : (result : Result Status Trouble) → IsTrue old.files.tells → TriesAndSnaps start events name old new result → SnapEnds start events name old new (status_of_end result)
+  tried_ends result tells (inl ran) = written_ends ran.1.2.written result tells ran.1.2.writes ran.1.2.saves
+  tried_ends result tells (inr vain) = fault_ends result vain.1 (inr vain.0.files.faults)
+
 snap_behind : (start : State) (events : List Event) (name : List ℕ) (old : Outside) (read : FilesState) (new : Outside) (answer : Status) → read.save_faults ≡ old.files.save_faults →
     SnapEnds start events name (outside read old.sink old.bench) new answer → SnapEnds start events name old new answer
 snap_behind start events name old read new answer same it = record {
@@ -63,10 +67,10 @@ reached_ends plan start events name old new read (Some due) result whole is foll
     let k : Keeps old.files read = follows_keeps plan old.files read (Some due) follows in
     let count = (reached_changes name (Some due) behind new result a).changes.reads in
     let same : due ≡ RunFrom start events None = sym (comes_to_due plan old.files read due whole.tells (sym count ∙ whole.unfailed) follows) ∙ is in
-    let ran : RunsSnap start events name behind new result = subst (λ (d : Due). AnswersSnapReached name (Some d) behind new result) same a in
+    let ran : TriesAndSnaps start events name behind new result = subst (λ (d : Due). AnswersSnapReached name (Some d) behind new result) same a in
     let tells = subst (λ (b : Bool). IsTrue b) (sym k.tells) whole.tells in
     snap_behind start events name old read new (status_of_end result) k.saves
-    (written_ends start events name behind new ran.2.written result tells ran.2.writes ran.2.saves)
+    (tried_ends start events name behind new result tells ran)
 
 headline_ends : (words : SnapWords) (start : State) (events : List Event) (old new : Outside) (answer : Status) → due_in old.files.held (snap_plan (Ok words)) ≡ RunFrom start events None →
     AreReadWhole old.files new.files → SnapHeadline (Ok words) old new answer → SnapEnds start events words.out old new answer

@@ -14,13 +14,13 @@ use Rattle.host_io.specs.Outside.{FilesState, SinkState, after_taking, BreaksOff
 use Rattle.machine.specs.Standing.{Stands}
 use Rattle.machine.specs.Console.{flush_is_due}
 use Rattle.sv_types.specs.Limits.{max_printed}
-use Rattle.secvisor_cli.specs.Answers.{Outside, outside, Writes, SavedAfter, WritesAndSaves}
+use Rattle.secvisor_cli.specs.Answers.{Outside, outside, IsFree, TriedInVain, Writes, SavedAfter, WritesAndSaves}
 use Rattle.host_io.specs.Endings.{status_of_end}
 use Rattle.cli_plans.specs.Plans.{Due, Refuse, RunFrom, Make, Saving, Exactly, Plan, snap_plan}
 use Rattle.cli_plans.specs.Reading.{Follows}
 use Rattle.cli_plans.specs.declared.refusal.Refusal.{Refusal}
 use Rattle.host_io.specs.declared.trouble.Trouble.{Trouble}
-use Rattle.host_io.specs.declared.trouble.Trouble.TheVariants.{Memory}
+use Rattle.host_io.specs.declared.trouble.Trouble.TheVariants.{Write, Memory}
 use Rattle.cli_plans.specs.CommandLine.{SnapWords}
 use Rattle.cli_snap.specs.SnapReady.{out_of}
 
@@ -81,9 +81,15 @@ abbrev pub RunsSnap : State → List Event → (name : List ℕ) → Outside →
 RunsSnap start events name old new result =
     (machine : Machine) × (new.bench ≡ Some machine) × SnapsTo start events name machine old.files new.files old.sink new.sink result
 
+-- The name is tried first: where no file can be made there, nothing is written and nothing runs.
+abbrev pub TriesAndSnaps : State → List Event → (name : List ℕ) → Outside → Outside → Result Status Trouble → Type 0
+TriesAndSnaps start events name old new result =
+    (IsFree (Some name) old.files × RunsSnap start events name old new result)
+    ⊎ (TriedInVain old new × (result ≡ Err Write))
+
 abbrev pub AnswersSnap : (name : List ℕ) → Due → Outside → Outside → Result Status Trouble → Type 0
 AnswersSnap name (Refuse refusal) old new result = WritesAndSaves (Refuse refusal) old new result
-AnswersSnap name (RunFrom start events save) old new result = RunsSnap start events name old new result
+AnswersSnap name (RunFrom start events save) old new result = TriesAndSnaps start events name old new result
 AnswersSnap name (Make out rules line) old new result = ⊥
 
 -- the same where memory ran out before what is due was ready: nothing happened

@@ -17,7 +17,7 @@ ghost use Rattle.cli_plans.specs.Plans.{run_plan, snap_plan};
 ghost use Rattle.cli_plans.specs.Reading.{MayFollow, IsNamed};
 ghost use Rattle.secvisor_cli.specs.Ready.{IsFresh};
 ghost use Rattle.cli_plans.specs.Words.{run_value};
-ghost use Rattle.cli_snap.specs.SnapAnswers.{StandsAfter, SnapsTo, RunsSnap, PerformsSnap, PerformsRun, SnapHeadline};
+ghost use Rattle.cli_snap.specs.SnapAnswers.{StandsAfter, SnapsTo, TriesAndSnaps, PerformsSnap, PerformsRun, SnapHeadline};
 ghost use Rattle.cli_snap.specs.SnapReady.{StartsBlock, out_of};
 ghost use Rattle.cli_plans.specs.CommandLine.{snap_judged};
 
@@ -27,7 +27,7 @@ use cli_plans::{Snap, Unread, ask_snap};
 use host_io::{Files, Sink, write_all};
 use machine::{Machine, run};
 use script::Script;
-use secvisor_cli::{Bench, PreparedRun, Status, Stop, Trouble, refuse, status_of_end};
+use secvisor_cli::{Bench, PreparedRun, Status, Stop, Trouble, refuse, status_of_end, try_place};
 use std::alloc::Global;
 use std::thread::Threads;
 
@@ -124,7 +124,7 @@ fn answer_snap<R: Threads + Sync, F: Files, O: Sink>(
     }
 }
 
-// The machine is run and saved, and stands on the bench from then on.
+// The name is tried, and then the machine is run and saved, and stands on the bench from then on.
 fn run_on_bench<F: Files, O: Sink>(
     alloc: Global,
     ready: PreparedRun<'_>,
@@ -138,10 +138,11 @@ fn run_on_bench<F: Files, O: Sink>(
     requires fresh { IsFresh ready }
     requires starts { StartsBlock ready.machine }
     requires snapshot { MaySaveUnder name.now (F.state files.old) }
-    ensures { (start : State) → IsNew ready.entry.machine start → RunsSnap start (first_events ready.entry.events ready.entry.script) name.now
+    ensures { (start : State) → IsNew ready.entry.machine start → TriesAndSnaps start (first_events ready.entry.events ready.entry.script) name.now
         (outside (F.state files.old) (O.state out.old) bench.old.machine)
         (outside (F.state files.new) (O.state out.new) bench.new.machine) result }
 {
+    try_place(Some(name), files)?;
     let PreparedRun {
         mut machine,
         script,

@@ -3,7 +3,7 @@ ghost use Rattle.std.specs.Prelude.{◌≡◌};
 ghost use Rattle.host_io.specs.Held.{real_state};
 
 use crate::escaped::Escaped;
-use crate::saving::save_whole;
+use crate::saving::{save_whole, try_place};
 use host_io::{FileRefusal, Files, SaveFailed};
 use std::alloc::Global;
 use std::fs::File;
@@ -77,6 +77,17 @@ impl<R: std::rt::Files + AllocGlobal + Eprint + Drop> Files for RealFiles<R> {
     fn save(&mut self, name: &str, bytes: &[u8]) -> Result<(), SaveFailed> {
         self.remark("saves", name);
         match save_whole(&self.rt, name, bytes) {
+            Ok(()) => Ok(()),
+            Err(error) => {
+                self.remark_fault(name, &error);
+                self.save_faults += 1;
+                Err(SaveFailed)
+            }
+        }
+    }
+
+    fn try_save(&mut self, name: &str) -> Result<(), SaveFailed> {
+        match try_place(&self.rt, name) {
             Ok(()) => Ok(()),
             Err(error) => {
                 self.remark_fault(name, &error);

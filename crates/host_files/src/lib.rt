@@ -4,6 +4,7 @@
 mod escaped;
 mod files;
 mod output;
+mod progress;
 mod saving;
 
 pub use escaped::Escaped;

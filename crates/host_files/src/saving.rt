@@ -44,6 +44,70 @@ pub(crate) fn save_whole<R: Files + AllocGlobal>(
     }
 }
 
+/// Whether bytes can be put under a name: a new file is made where a save would make it, and removed. Nothing else changes,
+/// and what is no plain file is left alone.
+pub(crate) fn try_place<R: Files + AllocGlobal>(rt: &R, name: &str) -> io::Result<()> {
+    match old_file(rt, name)? {
+        Old::Nothing => match try_new_file(rt, name) {
+            Ok(()) => Ok(()),
+            Err(error) => {
+                if is_no_place(error.kind()) {
+                    try_name(rt, name)
+                } else {
+                    Err(error)
+                }
+            }
+        },
+        Old::Plain(_) => match try_new_file(rt, name) {
+            Ok(()) => Ok(()),
+            Err(error) => {
+                if is_no_place(error.kind()) {
+                    Ok(())
+                } else {
+                    Err(error)
+                }
+            }
+        },
+        Old::Other => try_other(rt, name),
+    }
+}
+
+// The file that a save would rename is made, and removed.
+fn try_new_file<R: Files + AllocGlobal>(rt: &R, name: &str) -> io::Result<()> {
+    let (_file, new_name) = new_file(rt, rt.alloc(), name)?;
+    fs::remove_file(rt, new_name.as_str())
+}
+
+// A file is made under the name itself, under which nothing stands, and removed.
+fn try_name<R: Files>(rt: &R, name: &str) -> io::Result<()> {
+    let _file = OpenOptions::new()
+        .write(true)
+        .create_new(true)
+        .open(rt, name)?;
+    fs::remove_file(rt, name)
+}
+
+// A device or a pipe is taken for one that can be written. A link is followed: a plain file at its end has to be one that may
+// be written, and none is made where there is none.
+fn try_other<R: Files>(rt: &R, name: &str) -> io::Result<()> {
+    let found = match fs::metadata(rt, name) {
+        Ok(found) => found,
+        Err(error) => {
+            if error.kind() == ErrorKind::NotFound {
+                return Ok(());
+            }
+            return Err(error);
+        }
+    };
+    if found.is_dir() {
+        return Err(io::Error::from(ErrorKind::IsADirectory));
+    }
+    if found.is_file() {
+        let _file = OpenOptions::new().write(true).open(rt, name)?;
+    }
+    Ok(())
+}
+
 // A plain file that may not be written is a fault.
 fn old_file<R: Files>(rt: &R, name: &str) -> io::Result<Old> {
     match fs::symlink_metadata(rt, name) {

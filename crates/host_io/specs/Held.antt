@@ -27,12 +27,18 @@ contents files = map (λ file. (file.0, file_bytes file)) files
 abbrev pub held_in : List File → List ℕ → Option (List ℕ)
 held_in files name = option_map file_bytes (find (has_name name) files)
 
-abbrev pub memory_state : List File → ℕ → ℕ → FilesState
-memory_state files read_faults save_faults = record {
+-- a name is one of these
+abbrev pub is_barred : List (List ℕ) → List ℕ → Bool
+is_barred barred name = list_any (λ one. bytes_eq one name) barred
+
+-- with the names under which no file can be made
+abbrev pub memory_state : List File → (barred : List (List ℕ)) → (read_faults save_faults : ℕ) → FilesState
+memory_state files barred read_faults save_faults = record {
   tells = true;
   held = held_in files;
   permits = λ asked. true;
   permits_save = λ saves. true;
+  bars = is_barred barred;
   read_faults = read_faults;
   save_faults = save_faults;
 }
@@ -74,6 +80,7 @@ real_state read_faults save_faults = record {
   held = λ name. None;
   permits = λ asked. true;
   permits_save = λ saves. true;
+  bars = λ name. false;
   read_faults = read_faults;
   save_faults = save_faults;
 }

@@ -17,7 +17,9 @@ pub record FilesState : Type 0 where
   pub permits : List (List ℕ × ℕ) → Bool
   -- the names that may be saved under from now on, one after another, each with its bytes
   pub permits_save : List (List ℕ × List ℕ) → Bool
-  -- how often a read failed, and how often a save
+  -- the names under which, as the files know, no file can be made
+  pub bars : List ℕ → Bool
+  -- how often a read failed, and how often a save or the try of one
   pub read_faults : ℕ
   pub save_faults : ℕ
 
@@ -32,6 +34,15 @@ after_saving name bytes files = record files { permits_save = λ saves. files.pe
 -- any bytes may be saved under the name, once
 abbrev pub MaySaveUnder : (name : List ℕ) → FilesState → Type 0
 MaySaveUnder name files = (bytes : List ℕ) → IsTrue (files.permits_save ((name, bytes) ∷ []))
+
+-- some bytes may be saved under the name
+abbrev pub MayTry : (name : List ℕ) → FilesState → Type 0
+MayTry name files = (bytes : List ℕ) × IsTrue (files.permits_save ((name, bytes) ∷ []))
+
+-- no file can be made under a name that was tried: that is counted, and all else stays
+pub record TryFails (old new : FilesState) : Type 0 where
+  pub faults : old.save_faults < new.save_faults
+  pub leaves : new ≡ record old { save_faults = new.save_faults }
 
 -- the files after an answer to a read: a failure raises the count of reads alone
 abbrev pub ReadLeaves : FilesState → FilesState → List ℕ → ℕ → Result (Vec ℕ Global) FileRefusal → Type 0

@@ -1,8 +1,8 @@
 //! The outside of the program: files by name, and a sink for what is printed.
 #![tactic(auto)]
 
-ghost use Rattle.std.specs.Prelude.{◌≡◌, ◌≢◌, ◌<◌, ◌≤◌, ◌-◌, ℕ, List, [], ◌∷◌, Some, length, take, OnOk, OnErr, IfOk, IsTrue};
-ghost use Rattle.host_io.specs.Outside.{FilesState, SinkState, ReadLeaves, ReadTells, after_saving, after_taking, WriteFails};
+ghost use Rattle.std.specs.Prelude.{◌≡◌, ◌≢◌, ◌<◌, ◌≤◌, ◌-◌, ℕ, List, [], ◌∷◌, false, Some, length, take, OnOk, OnErr, IfOk, IsTrue};
+ghost use Rattle.host_io.specs.Outside.{FilesState, SinkState, MayTry, ReadLeaves, ReadTells, TryFails, after_saving, after_taking, WriteFails};
 ghost use Rattle.spec_processor.specs.Counters.{CanCount};
 
 mod calls;
@@ -59,6 +59,15 @@ pub trait Files {
         ensures fault { OnErr result ((state self.old).save_faults < (state self.new).save_faults) }
         ensures no_fault { OnOk result ((state self.new).save_faults ≡ (state self.old).save_faults) }
         ensures leaves { state self.new ≡ record (after_saving name.now bytes.now (state self.old)) { held = (state self.new).held; save_faults = (state self.new).save_faults } };
+
+    /// Whether a file can be made under a name, where one may be saved there next: nothing is saved, and the permission isn't
+    /// used up. A save may fail all the same.
+    fn try_save(&mut self, name: &str) -> Result<(), SaveFailed>
+        requires permitted { MayTry name.now (state self.old) }
+        requires count { CanCount (state self.old).save_faults }
+        ensures free { OnOk result ((state self.old).bars name.now ≡ false) }
+        ensures same { OnOk result (state self.new ≡ state self.old) }
+        ensures failed { OnErr result (TryFails (state self.old) (state self.new)) };
 }
 
 /// Where lines and console bytes go.
@@ -74,4 +83,10 @@ pub trait Sink {
         ensures within { IfOk result (λ n. n ≤ length piece.now) }
         ensures progress { IfOk result (λ n. 0 < length piece.now → 0 < n) }
         ensures failed { OnErr result (WriteFails (state self.old) (state self.new)) };
+
+    /// Is told now and then how many events were made so far, and how many of them are turns. The sink may tell a person; it
+    /// stays as it is.
+    fn note_progress(&mut self, _events: u64, _turns: u64)
+        ensures { state self.new ≡ state self.old }
+    {}
 }

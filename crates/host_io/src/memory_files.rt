@@ -1,10 +1,10 @@
 // Files in memory.
-ghost use Rattle.std.specs.Prelude.{◌≡◌, ◌≢◌, ◌<◌, ◌-◌, ℕ, List, Option, ◌+◌, ◌↔◌, IfOk, OnOk, OnErr, IsErrOf, IfErr, AllPairs, IsTrue, ◌≤◌, Some, length, vec_len, vec_capacity, ◌&&◌, not, ◌==◌, false};
+ghost use Rattle.std.specs.Prelude.{◌≡◌, ◌≢◌, ◌<◌, ◌-◌, ℕ, List, Option, ◌+◌, ◌↔◌, IfOk, OnOk, OnErr, IsErrOf, IfErr, AllPairs, IsTrue, ◌≤◌, Some, length, vec_len, vec_capacity, ◌&&◌, not, ◌==◌, [], false};
 ghost use Rattle.std.specs.Option.{option_copied};
 ghost use Rattle.std.specs.Result.{is_err};
-ghost use Rattle.host_io.specs.Outside.{ReadTells, ReadLeaves, after_saving};
+ghost use Rattle.host_io.specs.Outside.{ReadTells, ReadLeaves, TryFails, after_saving};
 ghost use Rattle.spec_processor.specs.Counters.{CanCount, next_count};
-ghost use Rattle.host_io.specs.Held.{contents, held_in, memory_state, is_to_fail, is_name_text, save_fails, HaveRoom, IsTooLongOrMemory};
+ghost use Rattle.host_io.specs.Held.{contents, held_in, is_barred, memory_state, is_to_fail, is_name_text, save_fails, HaveRoom, IsTooLongOrMemory};
 
 use crate::calls::{call_number, is_to_fail};
 use crate::{FileRefusal, Files, SaveFailed};
@@ -19,6 +19,8 @@ pub struct MemFiles {
     room: usize,
     failing_reads: Vec<u64>,
     failing_saves: Vec<u64>,
+    // No file can be made under these names.
+    barred: Vec<Name>,
     reads: u64,
     saves: u64,
     read_faults: u64,
@@ -44,6 +46,7 @@ impl MemFiles {
         ensures saves { IfOk result (λ f. f.save_faults ≡ 0) }
         ensures failing_reads { IfOk result (λ f. (f.failing_reads.items ≡ failing_reads.now) × (f.reads ≡ 0)) }
         ensures failing_saves { IfOk result (λ f. (f.failing_saves.items ≡ failing_saves.now) × (f.saves ≡ 0)) }
+        ensures barred { IfOk result (λ f. f.barred.items ≡ []) }
         ensures room { IfOk result (λ f. (f.room ≡ room) × (vec_len f.spare ≡ saves)) }
     {
         Ok(MemFiles {
@@ -52,11 +55,19 @@ impl MemFiles {
             room,
             failing_reads: failing_reads.to_vec(alloc)?,
             failing_saves: failing_saves.to_vec(alloc)?,
+            barred: Vec::new(alloc),
             reads: 0,
             saves: 0,
             read_faults: 0,
             save_faults: 0,
         })
+    }
+
+    /// From now on no file can be made under these names, in place of those before, and their tries fail. It takes no memory.
+    pub fn bar(&mut self, barred: Vec<Name>)
+        ensures { self.new ≡ record self.old { barred = barred } }
+    {
+        self.barred = barred;
     }
 
     /// The bytes that a name holds. None exactly where it isn't held.
@@ -68,6 +79,12 @@ impl MemFiles {
             .find(|file| file.0.text() == name)
             .map(|file| file.1.as_slice())
     }
+}
+
+fn is_barred(barred: &[Name], name: &str) -> bool
+    ensures { result ≡ is_barred barred.now name.now }
+{
+    barred.iter().any(|one| one.text() == name)
 }
 
 fn copied_files(
@@ -101,17 +118,18 @@ fn spare_rooms(alloc: Global, saves: usize, room: usize) -> Result<Vec<Vec<u8>>,
 }
 
 impl Files for MemFiles {
-    ghost state = { λ f. memory_state f.files.items f.read_faults f.save_faults };
+    ghost state = { λ f. memory_state f.files.items f.barred.items f.read_faults f.save_faults };
 
     fn read(&mut self, alloc: Global, name: &str, limit: usize) -> Result<Vec<u8>, FileRefusal>
         requires count { CanCount self.old.read_faults }
-        ensures tells { ReadTells (memory_state self.old.files.items self.old.read_faults self.old.save_faults) name.now limit result }
-        ensures leaves { ReadLeaves (memory_state self.old.files.items self.old.read_faults self.old.save_faults) (memory_state self.new.files.items self.new.read_faults self.new.save_faults) name.now limit result }
+        ensures tells { ReadTells (memory_state self.old.files.items self.old.barred.items self.old.read_faults self.old.save_faults) name.now limit result }
+        ensures leaves { ReadLeaves (memory_state self.old.files.items self.old.barred.items self.old.read_faults self.old.save_faults) (memory_state self.new.files.items self.new.barred.items self.new.read_faults self.new.save_faults) name.now limit result }
         // A read fails exactly where its number is listed.
         ensures fails { IsErrOf result FileRefusal.Failed ↔ IsTrue (is_to_fail self.old.failing_reads.items self.old.reads) }
         ensures counted { self.new.reads ≡ next_count self.old.reads }
         ensures faults { self.new.read_faults ≤ self.old.read_faults + 1 }
         ensures failing { (self.new.failing_reads ≡ self.old.failing_reads) × (self.new.failing_saves ≡ self.old.failing_saves) }
+        ensures barred { self.new.barred ≡ self.old.barred }
         ensures room { (self.new.room ≡ self.old.room) × (self.new.saves ≡ self.old.saves) }
     {
         let is_to_fail = is_to_fail(&self.failing_reads, self.reads);
@@ -133,13 +151,14 @@ impl Files for MemFiles {
         ensures others { (other : List ℕ) → other ≢ name.now → held_in self.new.files.items other ≡ held_in self.old.files.items other }
         ensures fault { OnErr result (self.new.save_faults ≡ self.old.save_faults + 1) }
         ensures no_fault { OnOk result (self.new.save_faults ≡ self.old.save_faults) }
-        ensures leaves { memory_state self.new.files.items self.new.read_faults self.new.save_faults ≡ record (after_saving name.now bytes.now (memory_state self.old.files.items self.old.read_faults self.old.save_faults)) { held = held_in self.new.files.items; save_faults = self.new.save_faults } }
+        ensures leaves { memory_state self.new.files.items self.new.barred.items self.new.read_faults self.new.save_faults ≡ record (after_saving name.now bytes.now (memory_state self.old.files.items self.old.barred.items self.old.read_faults self.old.save_faults)) { held = held_in self.new.files.items; save_faults = self.new.save_faults } }
         // A save fails exactly where its number is listed, the room that is left is exceeded, no file more has a place, or the
         // text is no name. Then every name holds what it held.
         ensures fails { is_err result ≡ save_fails self.old.failing_saves.items self.old.saves self.old.room (vec_len self.old.spare) name.now bytes.now }
         ensures kept { OnErr result (self.new.files.items ≡ self.old.files.items) }
         ensures counted { self.new.saves ≡ next_count self.old.saves }
         ensures failing { (self.new.failing_reads ≡ self.old.failing_reads) × (self.new.failing_saves ≡ self.old.failing_saves) }
+        ensures barred { self.new.barred ≡ self.old.barred }
         // The room is that of all saves together, and each takes the place of a file.
         ensures room { OnOk result (self.new.room + length bytes.now ≡ self.old.room) }
         ensures place { OnOk result (vec_len self.new.spare + 1 ≡ vec_len self.old.spare) }
@@ -156,6 +175,22 @@ impl Files for MemFiles {
             return Err(SaveFailed);
         }
         self.room -= bytes.len();
+        Ok(())
+    }
+
+    fn try_save(&mut self, name: &str) -> Result<(), SaveFailed>
+        requires count { CanCount self.old.save_faults }
+        // A try fails exactly under a name that is barred. It is no save.
+        ensures fails { is_err result ≡ is_barred self.old.barred.items name.now }
+        ensures free { OnOk result (is_barred self.old.barred.items name.now ≡ false) }
+        ensures same { OnOk result (self.new ≡ self.old) }
+        ensures counted { OnErr result (self.new ≡ record self.old { save_faults = self.old.save_faults + 1 }) }
+        ensures failed { OnErr result (TryFails (memory_state self.old.files.items self.old.barred.items self.old.read_faults self.old.save_faults) (memory_state self.new.files.items self.new.barred.items self.new.read_faults self.new.save_faults)) }
+    {
+        if is_barred(&self.barred, name) {
+            self.save_faults += 1;
+            return Err(SaveFailed);
+        }
         Ok(())
     }
 }

@@ -96,9 +96,10 @@ by_due : (begins : State → Type 0) (plan : Plan) (old new : Outside) (read : F
     → IsRunStatus answer → Follows plan old.files read reached → MeetsReached reached (outside read old.sink old.bench) new answer
     → GuardedRun begins plan old new answer
 by_due begins plan old new read answer None walk guard good f meets = absurd (subst IsRunStatus meets.0 good)
-by_due begins plan old new read answer (Some (Refuse refusal)) walk guard good f meets =
+by_due begins plan old new read answer (Some due) walk guard good f (inr vain) = absurd (subst IsRunStatus vain.1 good)
+by_due begins plan old new read answer (Some (Refuse refusal)) walk guard good f (inl (free, meets)) =
     absurd (no_refusal refusal (subst IsRunStatus (meets.status (answered answer good)) good))
-by_due begins plan old new read answer (Some (RunFrom start events save)) walk guard good f meets =
+by_due begins plan old new read answer (Some (RunFrom start events save)) walk guard good f (inl (free, meets)) =
     let begun = walk (RunFrom start events save) f in
     record {
       start = start;
@@ -108,7 +109,7 @@ by_due begins plan old new read answer (Some (RunFrom start events save)) walk g
       status = meets.status (answered answer good);
       saved = saved_by _ (output (run start events)) (outside read old.sink old.bench) new answer (answered answer good) meets.saves;
     }
-by_due begins plan old new read answer (Some (Make name rules line)) walk guard good f meets = absurd (walk (Make name rules line) f)
+by_due begins plan old new read answer (Some (Make name rules line)) walk guard good f (inl meets) = absurd (walk (Make name rules line) f)
 
 -- ---- what was written, and saved after it
 
@@ -158,7 +159,8 @@ unfolding measured_for
 live_by words old new read answer result None good well f k = absurd (no_error answer result well k.0)
 live_by words old new read answer result (Some (Refuse refusal)) good well f k =
     absurd (refused_writes answer refusal (outside read old.sink old.bench) (outside new.files new.sink new.bench) result good well k.0)
-live_by words old new read answer result (Some (RunFrom start events save)) good well f k =
+live_by words old new read answer result (Some (RunFrom start events save)) good well f (inr vain) = absurd (cc (well, vain.2))
+live_by words old new read answer result (Some (RunFrom start events save)) good well f (inl (free, k)) =
     live_by_written words old new read answer start events k.journal k.written k.saved
     (measured_for (live_plan words) old.files read start events save (live_runs words) f) refl
     (read_well k.ended.read_failed k.saved answer good (sym well ∙ k.status)) k.writes k.saves
@@ -190,7 +192,8 @@ unfolding measured_for
 snap_by words old new read result None well f k = absurd (no_error Status.Done result well k.0)
 snap_by words old new read result (Some (Refuse refusal)) well f k =
     absurd (refused_writes Status.Done refusal (outside read old.sink old.bench) new result tt well k)
-snap_by words old new read result (Some (RunFrom start events save)) well f k =
+snap_by words old new read result (Some (RunFrom start events save)) well f (inr vain) = absurd (cc (well, vain.1))
+snap_by words old new read result (Some (RunFrom start events save)) well f (inl (free, k)) =
     snap_by_written words old new read start events k.2.written result
     (measured_for (snap_plan words) old.files read start events save (snap_runs words) f) refl well k.2.writes k.2.saves
 snap_by words old new read result (Some (Make name rules line)) well f k = absurd k

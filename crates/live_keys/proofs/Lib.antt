@@ -1,4 +1,5 @@
 pub mod Steps
 pub mod Events
 pub mod Taking
+pub mod Readers
 pub mod JournalLines

@@ -1,4 +1,5 @@
 pub mod Keys
+pub mod Reader
 pub mod Line
 pub mod Placed
 pub mod Journal

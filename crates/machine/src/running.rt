@@ -44,6 +44,59 @@ pub fn flush_due<O: Sink>(machine: &mut Machine, out: &mut O) -> Result<(), Fail
     Ok(())
 }
 
+// The sink is told how far a run has come after about so many events.
+const NOTED_EVERY: u64 = 1 << 20;
+
+// The sink is told.
+#[inline(never)]
+fn note<O: Sink>(machine: &Machine, out: &mut O)
+    ensures { O.state out.new ≡ O.state out.old }
+{
+    let counts = machine.counts();
+    let others = counts
+        .beats
+        .saturating_add(counts.keys)
+        .saturating_add(counts.ticks);
+    out.note_progress(counts.turns.saturating_add(others), counts.turns);
+}
+
+// Writes the console's bytes where they are due, and tells the sink now and then how far the run has come: after `made` events
+// more, where it was told `since` events before them.
+#[inline(always)]
+fn flush_and_note<O: Sink>(
+    machine: &mut Machine,
+    out: &mut O,
+    made: u64,
+    since: &mut u64,
+) -> Result<(), Failed>
+    requires sink { MayWrite (O.state out.old) }
+    requires room { length machine.old.journal.printed ≤ max_printed }
+    ensures flushed { OnOk result (Flushed machine.old machine.new (O.state out.old) (O.state out.new)) }
+    ensures cleared { Cleared machine.old machine.new }
+    ensures room { OnOk result (length machine.new.journal.printed < max_printed) }
+    ensures rest { OnOk result (IsFalse (flush_is_due machine.new.journal.printed)) }
+    ensures machine { OnErr result (machine.new ≡ machine.old) }
+    ensures due { OnErr result (IsTrue (flush_is_due machine.old.journal.printed)) }
+    ensures failed { OnErr result (BreaksOff (O.state out.old) (O.state out.new) machine.old.journal.printed) }
+{
+    flush_due(machine, out)?;
+    *since = since.saturating_add(made);
+    if *since >= NOTED_EVERY {
+        *since = 0;
+        note(machine, out);
+    }
+    Ok(())
+}
+
+// As many of equal events as are made at once, so that the sink is told in between.
+#[inline(always)]
+fn at_once(count: u64) -> u64
+    ensures some { 0 < count → 0 < result }
+    ensures most { result ≤ count }
+{
+    count.min(NOTED_EVERY)
+}
+
 // Runs a machine over the first events of a source, of which equal ones come in rows.
 #[inline(never)]
 fn run_in_batches<S: EventSource + Drop, O: Sink>(
@@ -57,13 +110,14 @@ fn run_in_batches<S: EventSource + Drop, O: Sink>(
     ensures some { OnErr result (RunBrokeFromStart machine.old (first_events events (S.schedule source)) machine.new (O.state out.old) (O.state out.new)) }
 {
     let mut drawing = Drawing::new(source, events);
+    let mut since = 0;
     'events: while let Some(batch) = drawing.draw() {
         if machine.verdict() != Verdict::Running {
             return Ok(());
         }
-        let made = machine.repeat(batch.event, batch.count);
+        let made = machine.repeat(batch.event, at_once(batch.count));
         drawing.count_down(made);
-        flush_due(machine, out)?;
+        flush_and_note(machine, out, made, &mut since)?;
     }
     Ok(())
 }
@@ -82,6 +136,7 @@ fn run_one_by_one<S: EventSource + Drop, O: Sink>(
 {
     let mut source = source;
     let mut left = events;
+    let mut since = 0;
     'events: while left > 0 {
         if machine.verdict() != Verdict::Running {
             return Ok(());
@@ -91,7 +146,7 @@ fn run_one_by_one<S: EventSource + Drop, O: Sink>(
         };
         machine.repeat(one.event, 1);
         left -= 1;
-        flush_due(machine, out)?;
+        flush_and_note(machine, out, 1, &mut since)?;
     }
     Ok(())
 }

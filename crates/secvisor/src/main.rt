@@ -2,13 +2,16 @@
 #![tactic(auto)]
 
 mod again;
+mod telling;
 mod version;
 
 use again::PlainFiles;
-use cli_diagnostics::{Ending, MostBytes, WordRemark, help, remark, stop_remark, word_remark};
+use cli_diagnostics::{
+    Ending, MostBytes, WordRemark, help, remark, script_remark, stop_remark, word_remark,
+};
 use cli_dispatch::answer;
 use host_files::{Escaped, RealFiles, StdSink};
-use live_keys::{ReaderKeys, Still};
+use live_keys::ReaderKeys;
 use secvisor_cli::{
     Bench, MAX_DISK_BYTES, MAX_FLAT_BYTES, MAX_IMAGE_BYTES, MAX_OBJECT_BYTES, MAX_POLICY_BYTES,
     MAX_SCRIPT_BYTES, Status,
@@ -19,6 +22,7 @@ use std::env;
 use std::io::{ErrorKind, IsTerminal};
 use std::process::ExitCode;
 use std::thread::Threads;
+use telling::Telling;
 use version::VERSION;
 
 // Every end has its status, out of memory before the program is called too.
@@ -32,9 +36,13 @@ fn main(rt: HostRuntime) -> ExitCode {
     let Ok(printing) = rt.clone() else {
         return ExitCode::from(Status::Memory.number());
     };
-    let mut files = RealFiles::new(reading, rt.stderr().is_terminal());
+    let is_watched = rt.stderr().is_terminal();
+    if is_watched {
+        explain_script(&rt, &words);
+    }
+    let mut files = RealFiles::new(reading, is_watched);
     let mut keys = ReaderKeys::new(rt.reader());
-    let mut out = StdSink::new(printing);
+    let mut out = StdSink::new(printing, is_watched);
     let mut bench = Bench { machine: None };
     let status = answer(
         &rt,
@@ -43,11 +51,11 @@ fn main(rt: HostRuntime) -> ExitCode {
         &mut files,
         &mut keys,
         &mut out,
-        &Still,
+        &Telling::new(&rt, is_watched),
         &mut bench,
     );
     explain(&rt, &rt, &words, status);
-    if rt.stderr().is_terminal() {
+    if is_watched {
         explain_ending(&rt, &words, &bench);
     }
     ExitCode::from(status.number())
@@ -77,6 +85,13 @@ fn explain<R: Threads + Sync>(rt: &HostRuntime, threads: &R, words: &[String], s
         }
         Status::Memory => say(rt, "out of memory"),
         _ => {}
+    }
+}
+
+// Of a name under which `live` saves its script that `run` takes for no file.
+fn explain_script(rt: &HostRuntime, words: &[String]) {
+    if let Some(said) = script_remark(words) {
+        say(rt, said);
     }
 }
 

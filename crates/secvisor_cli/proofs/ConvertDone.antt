@@ -138,9 +138,10 @@ converted_by words due old new files bound meets =
 reached_by : (words : ConvertSplit) (reached : Option Due) (old new : Outside) (files : FilesState) → Follows (plan_of (Ok (Convert words))) old.files files reached
     → MeetsReached reached (outside files old.sink old.bench) new Status.Done → IsConverted words old new
 reached_by words None old new files follows meets = absurd (cc meets.0)
-reached_by words (Some due) old new files follows meets =
+reached_by words (Some due) old new files follows (inr meets) = absurd (cc meets.1)
+reached_by words (Some due) old new files follows (inl meets) =
     converted_by words due old new files
-    (done_at_end (IsBoundDue words old.files) (plan_of (Ok (Convert words))) old.files files due (words_done words old.files) follows (sym (meets.status refl))) meets
+    (done_at_end (IsBoundDue words old.files) (plan_of (Ok (Convert words))) old.files files due (words_done words old.files) follows (sym (meets.1.status refl))) meets.1
 
 pub converted_done : (words : ConvertSplit) (old new : Outside) → Headline (plan_of (Ok (Convert words))) old new Status.Done → IsConverted words old new
 converted_done words old new headline = reached_by words headline.reached old new headline.read headline.follows headline.meets

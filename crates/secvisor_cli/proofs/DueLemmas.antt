@@ -12,7 +12,8 @@ use Rattle.spec_reference.specs.States.{State}
 use Rattle.sv_types.specs.Policies.{Rules}
 use Rattle.host_io.specs.Outside.{FilesState}
 use Rattle.cli_plans.specs.declared.file_fault.Part.{Part}
-use Rattle.secvisor_cli.specs.Answers.{Outside, outside, is_answer, MeetsSavesAfter, Meets, MeetsReached}
+use Rattle.secvisor_cli.specs.Answers.{Outside, outside, is_answer, tries_due, MeetsSavesAfter, Meets, MeetsReached}
+use Rattle.secvisor_cli.proofs.TopLemmas.{gave_up}
 use Rattle.secvisor_cli.specs.DueIn.{found_in, due_in, ComesToDue, AreReadWhole, EndsAs, RunEnds, MakeEnds}
 use Rattle.cli_plans.specs.Plans.{Due, Refuse, RunFrom, Make, Plan, End, Read, Judge, Found, Faulty, Missing, Longer, Held, found_plan, read_part, Saving, policy_saving, saves_due}
 use Rattle.cli_plans.specs.Reading.{FoundAs, Follows, Saved, SaveBroke}
@@ -148,11 +149,14 @@ reached_ends : (plan : Plan) (asked : Due) (status : Status) (old new : Outside)
     ((before : Outside) → Meets asked before new answer → EndsAs status before new answer) → AreReadWhole old.files new.files → due_in old.files.held plan ≡ asked →
     Follows plan old.files read reached → MeetsReached reached (outside read old.sink old.bench) new answer → EndsAs status old new answer
 reached_ends plan asked status old new read None answer ends whole is follows m = inr (inr m.0)
-reached_ends plan asked status old new read (Some due) answer ends whole is follows m =
-    let count = meets_unread due (outside read old.sink old.bench) new answer (kind_of answer) m in
+reached_ends plan asked status old new read (Some due) answer ends whole is follows (inr m) =
+    let vain = gave_up (tries_due due) (outside read old.sink old.bench) new m.0 in
+    ends_after status old read new answer (follows_keeps plan old.files read (Some due) follows).saves (inr (inl (m.1, inr vain.files.faults)))
+reached_ends plan asked status old new read (Some due) answer ends whole is follows (inl m) =
+    let count = meets_unread due (outside read old.sink old.bench) new answer (kind_of answer) m.1 in
     let same : due ≡ asked = sym (comes_to_due plan old.files read due whole.tells (sym count ∙ whole.unfailed) follows) ∙ is in
     ends_after status old read new answer (follows_keeps plan old.files read (Some due) follows).saves
-    (ends (outside read old.sink old.bench) (subst (λ (d : Due). Meets d (outside read old.sink old.bench) new answer) same m))
+    (ends (outside read old.sink old.bench) (subst (λ (d : Due). Meets d (outside read old.sink old.bench) new answer) same m.1))
 
 pub run_ends : RunEnds
 run_ends plan start events save old new answer whole is h =

@@ -12,7 +12,9 @@ use Rattle.machine.proofs.Repeated.{counts_within}
 use Rattle.spec_hardware.specs.Reaches.{IsNew}
 use Rattle.sv_types.specs.Schedule.{first_events}
 use Rattle.sv_types.specs.Limits.{max_events}
-use Rattle.host_io.specs.Outside.{FilesState, SinkState, after_taking, TookPrefix, BreaksOff}
+use Rattle.spec_reference.specs.Disk.{disk_bytes}
+use Rattle.spec_reference.specs.Run.{run}
+use Rattle.host_io.specs.Outside.{FilesState, SinkState, TryFails, after_taking, TookPrefix, BreaksOff}
 use Rattle.host_io.proofs.SinkLemmas.{prefix_none, prefix_whole}
 use Rattle.cli_plans.specs.declared.refusal.Refusal.{Refusal}
 use Rattle.secvisor_cli.specs.declared.ready.PreparedRun.{PreparedRun}
@@ -26,10 +28,10 @@ use Rattle.host_io.specs.declared.trouble.Trouble.{Trouble}
 use Rattle.host_io.specs.declared.trouble.Trouble.TheVariants.{Write, Memory}
 use Rattle.cli_plans.specs.Refusals.{refusal_line, refusal_status, takes_memory}
 use Rattle.cli_plans.specs.CommandLine.{Command, judgement_of_words}
-use Rattle.cli_plans.specs.Plans.{Due, Refuse, RunFrom, Make, Exactly, Saving, policy_saving, saves_due, Plan, bytes_due, status_due, plan_of}
+use Rattle.cli_plans.specs.Plans.{Due, Refuse, RunFrom, Make, Exactly, Saving, policy_saving, saving_of_bytes, saves_due, Plan, bytes_due, status_due, plan_of}
 use Rattle.cli_plans.specs.Reading.{Follows, MayFollow, MaySave, Saved, SaveBroke, SavesUnder}
 use Rattle.secvisor_cli.specs.Ready.{IsMade, IsReady, IsReadyWhere, IsFresh, IsRunnable, MayCarryOut, MaySaveRun, Prepares}
-use Rattle.secvisor_cli.specs.Answers.{Outside, outside, Writes, SavesAndWrites, WritesAndSaves, Answers, AnswersReached, Performs, MeetsSaves, MeetsSavesAfter, Meets, MeetsReached, Headline, BenchAfter}
+use Rattle.secvisor_cli.specs.Answers.{Outside, outside, tries_due, MayTryWhere, IsFree, AfterTry, TriedInVain, GaveUp, MeetsDue, Writes, SavesAndWrites, WritesAndSaves, Answers, AnswersReached, Performs, MeetsSaves, MeetsSavesAfter, Meets, MeetsReached, Headline, BenchAfter}
 use Rattle.host_io.specs.Endings.{status_of_end}
 use Rattle.secvisor_cli.proofs.EndLemmas.{runs_under}
 use Rattle.cli_plans.proofs.PlanLemmas.{HasFoundFaults, HasFault, Keeps, follows_keeps, may_save, read_fault, saves_under, may_follow}
@@ -71,6 +73,18 @@ may_save_run (RunFrom start events save) ready files it may = record {
 }
 may_save_run (Make name rules line) ready files it may = absurd it
 
+-- the name of what may be saved may be tried
+pub may_try_run : (bytes : List ℕ) (save : Option (List ℕ)) (files : FilesState) → MaySave (saving_of_bytes bytes save) files → MayTryWhere save files
+may_try_run bytes None files may = tt
+may_try_run bytes (Some name) files may = (bytes, may)
+
+-- a try in vain ends the answer
+pub vain_answers : (start : State) (events : List Event) (save : Option (List ℕ)) (f0 f1 : FilesState) (sink : SinkState) (bench : Option Machine) (trouble : Trouble) →
+    AfterTry save f0 f1 (Err trouble) → Answers (RunFrom start events save) (outside f0 sink bench) (outside f1 sink bench) (Err trouble)
+vain_answers start events None f0 f1 sink bench trouble it = absurd it
+vain_answers start events (Some name) f0 f1 sink bench Write it = inr (record { files = it; sink = refl; bench = refl }, refl)
+vain_answers start events (Some name) f0 f1 sink bench Memory it = absurd it
+
 pub may_save_made : (due : Due) (made : Made) (files : FilesState) → IsReady due (Ok (Save made)) → MaySave (saves_due due) files →
     IsTrue (files.permits_save ((made.name.now, made.text.items) ∷ []))
 may_save_made (Refuse refusal) made files it may = absurd it
@@ -93,12 +107,12 @@ ready_answers None ready old new result it a = absurd (cc it)
 ready_answers (Some due) ready old new result it a = a due it
 
 pub booted_answers : (due : Due) (ready : PreparedRun) (old new : Outside) (result : Result Status Trouble) → IsReady due (Ok (Boots ready)) →
-    ((start : State) → IsNew ready.machine start → WritesAndSaves (RunFrom start (first_events ready.events ready.script) (option_copied ready.save)) old new result) →
+    ((start : State) → IsNew ready.machine start → Answers (RunFrom start (first_events ready.events ready.script) (option_copied ready.save)) old new result) →
     Answers due old new result
 booted_answers (Refuse refusal) ready old new result it a = absurd it
 booted_answers (RunFrom start events save) ready old new result it a =
-    subst (λ (name : Option (List ℕ)). WritesAndSaves (RunFrom start events name) old new result) it.2
-    (subst (λ (es : List Event). WritesAndSaves (RunFrom start es (option_copied ready.save)) old new result) it.1 (a start it.0))
+    subst (λ (name : Option (List ℕ)). Answers (RunFrom start events name) old new result) it.2
+    (subst (λ (es : List Event). Answers (RunFrom start es (option_copied ready.save)) old new result) it.1 (a start it.0))
 booted_answers (Make name rules line) ready old new result it a = absurd it
 
 -- the text of a policy that was made, as the policy
@@ -246,10 +260,12 @@ meets_made name rules line old new (Err Write) (inr a) bench = record {
 }
 meets_made name rules line old new (Err Memory) a bench = absurd a
 
-meets : (due : Due) (old new : Outside) (result : Result Status Trouble) → Answers due old new result → Meets due old new (status_of_end result)
-meets (Refuse refusal) old new result a = meets_written (Refuse refusal) old new result a (meets_first (Refuse refusal) old new result a)
-meets (RunFrom start events save) old new result a = meets_written (RunFrom start events save) old new result a (meets_first (RunFrom start events save) old new result a)
-meets (Make name rules line) old new result a = meets_made name rules line old new result a.0 a.1
+meets : (due : Due) (old new : Outside) (result : Result Status Trouble) → Answers due old new result → MeetsDue due old new (status_of_end result)
+meets (Refuse refusal) old new result a = inl (tt, meets_written (Refuse refusal) old new result a (meets_first (Refuse refusal) old new result a))
+meets (RunFrom start events save) old new result (inl a) =
+    inl (a.0, meets_written (RunFrom start events save) old new result a.1 (meets_first (RunFrom start events save) old new result a.1))
+meets (RunFrom start events save) old new result (inr a) = inr (a.0, ap status_of_end a.1)
+meets (Make name rules line) old new result a = inl (tt, meets_made name rules line old new result a.0 a.1)
 
 reached_settled : (reached : Option Due) (old new : Outside) (result : Result Status Trouble) → AnswersReached reached old new result → MeetsReached reached old new (status_of_end result)
 reached_settled None old new (Ok s) a = absurd (cc a.0)
@@ -288,9 +304,16 @@ write_fault_or_not Status.ReadFault = inr (λ e. cc e)
 write_fault_or_not Status.Memory = inr (λ e. cc e)
 write_fault_or_not Status.Ended = inr (λ e. cc e)
 
+-- a try in vain, where one was made
+pub gave_up : (name : Option (List ℕ)) (old new : Outside) → GaveUp name old new → TriedInVain old new
+gave_up None old new it = absurd it
+gave_up (Some name) old new it = it
+
 reached_writes : (reached : Option Due) (old new : Outside) (s : Status) → MeetsReached reached old new s → old.sink.faults ≤ new.sink.faults
 reached_writes None old new s m = let same : new.sink.faults ≡ old.sink.faults = ap (λ (o : Outside). o.sink.faults) m.1 in omega arith
-reached_writes (Some due) old new s m = meets_writes due old new s m (write_fault_or_not s)
+reached_writes (Some due) old new s (inl m) = meets_writes due old new s m.1 (write_fault_or_not s)
+reached_writes (Some due) old new s (inr m) =
+    let same : new.sink.faults ≡ old.sink.faults = ap (λ (k : SinkState). k.faults) (gave_up (tries_due due) old new m.0).sink in omega arith
 
 -- the count of writes no falls
 pub headline_writes : (plan : Plan) (old new : Outside) (s : Status) → Headline plan old new s → old.sink.faults ≤ new.sink.faults
@@ -357,9 +380,25 @@ made_changes saving line f0 f1 old new (Err Write) (inl a) = changes_broke savin
 made_changes saving line f0 f1 old new (Err Write) (inr a) = changes_saved saving f0 f1 a.0
 made_changes saving line f0 f1 old new (Err Memory) a = absurd a
 
+-- a try changes the count of saves alone
+pub changes_vain : (saving : Saving) (old new : FilesState) → TryFails old new → Changes (Some saving) old new
+changes_vain saving old new it =
+    let rose = it.faults in
+    record {
+      reads = ap (λ (f : FilesState). f.read_faults) it.leaves;
+      saves = omega arith;
+      others = λ name never. ap (λ (f : FilesState). f.held name) it.leaves;
+      none = λ e. absurd (cc e);
+    }
+
+changes_tried : (bytes : List ℕ) (save : Option (List ℕ)) (old new : Outside) → GaveUp save old new → Changes (saving_of_bytes bytes save) old.files new.files
+changes_tried bytes None old new it = absurd it
+changes_tried bytes (Some name) old new it = changes_vain (record { name = name; content = Exactly bytes }) old.files new.files it.files
+
 answer_changes : (due : Due) (old new : Outside) (result : Result Status Trouble) → Answers due old new result → Changes (saves_due due) old.files new.files
 answer_changes (Refuse refusal) old new result a = changes None old.files new.files a.written result a.saves
-answer_changes (RunFrom start events save) old new result a = changes (saves_due (RunFrom start events save)) old.files new.files a.written result a.saves
+answer_changes (RunFrom start events save) old new result (inl a) = changes (saves_due (RunFrom start events save)) old.files new.files a.1.written result a.1.saves
+answer_changes (RunFrom start events save) old new result (inr a) = changes_tried (disk_bytes (run start events).devices.disk) save old new a.0
 answer_changes (Make name rules line) old new result a = made_changes (policy_saving name rules) line old.files new.files old.sink new.sink result a.0
 
 effect_reached : (plan : Plan) (reached : Option Due) (old read : FilesState) (sink : SinkState) (bench : Option Machine) (new : Outside) (result : Result Status Trouble) →
@@ -396,7 +435,8 @@ unread (Ok command) old new result is p = absurd (cc is)
 reached_fault : (plan : Plan) (reached : Option Due) (f0 f1 : FilesState) (old new : Outside) → HasFoundFaults plan → Follows plan f0 f1 reached →
     MeetsReached reached old new Status.ReadFault → HasFault plan f0 f1
 reached_fault plan None f0 f1 old new never follows m = absurd (cc m.0)
-reached_fault plan (Some due) f0 f1 old new never follows m = read_fault plan f0 f1 due never follows (sym (m.status refl))
+reached_fault plan (Some due) f0 f1 old new never follows (inl m) = read_fault plan f0 f1 due never follows (sym (m.1.status refl))
+reached_fault plan (Some due) f0 f1 old new never follows (inr m) = absurd (cc m.1)
 
 pub fault_at : (plan : Plan) (old read new : FilesState) → new.read_faults ≡ read.read_faults → HasFault plan old read → HasFault plan old new
 fault_at plan old read new same (inl missing) = inl missing

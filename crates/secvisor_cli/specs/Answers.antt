@@ -10,7 +10,7 @@ use Rattle.spec_reference.specs.Report.{output}
 use Rattle.spec_reference.specs.Run.{run}
 use Rattle.spec_hardware.specs.Machine.{Machine}
 use Rattle.spec_hardware.specs.Reaches.{Reaches}
-use Rattle.host_io.specs.Outside.{FilesState, SinkState, after_taking, TookPrefix, BreaksOff}
+use Rattle.host_io.specs.Outside.{FilesState, SinkState, MayTry, TryFails, after_taking, TookPrefix, BreaksOff}
 use Rattle.host_io.specs.declared.trouble.Trouble.{Trouble}
 use Rattle.host_io.specs.declared.trouble.Trouble.TheVariants.{Write, Memory}
 use Rattle.cli_plans.specs.Refusals.{refusal_line, takes_memory}
@@ -27,6 +27,40 @@ pub record Outside : Type 0 where
 
 abbrev pub outside : FilesState → SinkState → Option Machine → Outside
 outside files sink bench = record { files = files; sink = sink; bench = bench }
+
+-- ---- the try of a save
+
+-- the name that is tried before a run, where its end is to be saved. A policy that is made is saved at once
+abbrev pub tries_due : Due → Option (List ℕ)
+tries_due (Refuse refusal) = None
+tries_due (RunFrom start events save) = save
+tries_due (Make name rules line) = None
+
+abbrev pub MayTryWhere : Option (List ℕ) → FilesState → Type 0
+MayTryWhere None files = Unit {0}
+MayTryWhere (Some name) files = MayTry name files
+
+-- as far as the files know, a file can be made under the name
+abbrev pub IsFree : Option (List ℕ) → FilesState → Type 0
+IsFree None files = Unit {0}
+IsFree (Some name) files = files.bars name ≡ false
+
+-- a name was tried, where one is given: that changes nothing, or no file can be made there
+abbrev pub AfterTry : Option (List ℕ) → FilesState → FilesState → Result (Unit {0}) Trouble → Type 0
+AfterTry name old new (Ok _) = IsFree name old × (new ≡ old)
+AfterTry None old new (Err trouble) = ⊥
+AfterTry (Some name) old new (Err Write) = TryFails old new
+AfterTry (Some name) old new (Err Memory) = ⊥
+
+-- no file can be made where one is to be saved, so that nothing is written and nothing runs
+pub record TriedInVain (old new : Outside) : Type 0 where
+  pub files : TryFails old.files new.files
+  pub sink : new.sink ≡ old.sink
+  pub bench : new.bench ≡ old.bench
+
+abbrev pub GaveUp : Option (List ℕ) → Outside → Outside → Type 0
+GaveUp None old new = ⊥
+GaveUp (Some name) old new = TriedInVain old new
 
 -- ---- the run
 
@@ -133,10 +167,12 @@ pub record WritesAndSaves (due : Due) (old new : Outside) (result : Result Statu
   pub quiet : IsErrOf result Memory → StaysQuiet due old.sink new.sink
   pub bench : BenchAfter (IsErrOf result Memory) due old.sink new.sink old.bench new.bench
 
--- a policy is saved before its line is written, and a disk after the report
+-- A policy is saved before its line is written. A disk is saved after the report, and its name tried before the run.
 abbrev pub Answers : Due → Outside → Outside → Result Status Trouble → Type 0
 Answers (Refuse refusal) old new result = WritesAndSaves (Refuse refusal) old new result
-Answers (RunFrom start events save) old new result = WritesAndSaves (RunFrom start events save) old new result
+Answers (RunFrom start events save) old new result =
+    (IsFree save old.files × WritesAndSaves (RunFrom start events save) old new result)
+    ⊎ (GaveUp save old new × (result ≡ Err Write))
 Answers (Make name rules line) old new result =
     SavesAndWrites (policy_saving name rules) line old.files new.files old.sink new.sink result
     × (new.bench ≡ old.bench)
@@ -197,9 +233,15 @@ pub record Meets (due : Due) (old new : Outside) (answer : Status) : Type 0 wher
   pub quiet : answer ≡ Status.Memory → StaysQuiet due old.sink new.sink
   pub bench : BenchAfter (answer ≡ Status.Memory) due old.sink new.sink old.bench new.bench
 
+-- or the name that is tried before a run takes no file: a write fault, and nothing else happened
+abbrev pub MeetsDue : Due → Outside → Outside → Status → Type 0
+MeetsDue due old new answer =
+    (IsFree (tries_due due) old.files × Meets due old new answer)
+    ⊎ (GaveUp (tries_due due) old new × (answer ≡ Status.WriteFault))
+
 abbrev pub MeetsReached : Option Due → Outside → Outside → Status → Type 0
 MeetsReached None old new answer = (answer ≡ Status.Memory) × (new ≡ old)
-MeetsReached (Some due) old new answer = Meets due old new answer
+MeetsReached (Some due) old new answer = MeetsDue due old new answer
 
 -- The report, the status, the machine and the saved disk are those of the reference machine: of its run from the start
 -- that the words and the files ask for; or else the first refusal is answered.

@@ -27,7 +27,7 @@ use crate::generated::prepare_gen;
 use crate::image_run::prepare_run;
 use crate::making::prepare_policy;
 use crate::ready::{Made, PreparedRun, Ready, Stop, run_ready};
-use crate::save::save_disk;
+use crate::save::{save_disk, try_place};
 use cli_plans::{Command, Refusal, ask};
 use host_io::{Files, Sink, Trouble, status_of_end, write_all};
 use machine::{Machine, run};
@@ -196,7 +196,8 @@ fn save_policy<F: Files, O: Sink>(
     Ok(Status::Done)
 }
 
-/// Runs a machine, writes its report and saves its disk. It stands on the bench from then on.
+/// Runs a machine, writes its report and saves its disk. It stands on the bench from then on. The name for the disk is tried
+/// first: where it takes no file, nothing is written and nothing runs.
 pub fn run_on_bench<F: Files, O: Sink>(
     alloc: Global,
     ready: PreparedRun<'_>,
@@ -212,6 +213,7 @@ pub fn run_on_bench<F: Files, O: Sink>(
         (outside (F.state files.old) (O.state out.old) bench.old.machine)
         (outside (F.state files.new) (O.state out.new) bench.new.machine) result }
 {
+    try_place(ready.save, files)?;
     let PreparedRun {
         mut machine,
         script,

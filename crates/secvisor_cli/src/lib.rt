@@ -24,4 +24,5 @@ pub use laws::{law_converted, law_due, law_make_ends, law_run_ends};
 pub use making::MAX_OBJECT_BYTES;
 pub use parts::read_part;
 pub use ready::{Made, PreparedRun, Ready, Stop};
+pub use save::try_place;
 pub use sv_types::Status;

@@ -4,6 +4,7 @@ ghost use Rattle.std.specs.Prelude.{◌≡◌, IfOk};
 use host_io::{Files, MemFiles, MemSink};
 use secvisor_cli::Status;
 use std::alloc::{AllocError, Global};
+use sv_types::Name;
 
 // So many files are put there before a call.
 const HANDED: u64 = 4;
@@ -33,13 +34,14 @@ pub struct Left {
     pub is_booted: bool,
 }
 
-/// What the outside does: the read, the write and the save that fail, counted from 1, and the most bytes that a write
-/// takes.
+/// What the outside does: the read, the write and the save that fail, counted from 1, whether no file can be made under the
+/// name `saved`, and the most bytes that a write takes.
 #[derive(Clone, Copy)]
 pub struct Outside {
     pub failing_read: u64,
     pub failing_write: u64,
     pub failing_save: u64,
+    pub is_barred: bool,
     pub piece: usize,
 }
 
@@ -47,6 +49,7 @@ pub const GOOD: Outside = Outside {
     failing_read: 0,
     failing_write: 0,
     failing_save: 0,
+    is_barred: false,
     piece: PRINTED_ROOM,
 };
 
@@ -87,7 +90,19 @@ pub fn hold(alloc: Global, handed: &Handed, outside: Outside) -> Result<MemFiles
     if files.save("script", &handed.script).is_err() {
         return Err(AllocError);
     }
+    if outside.is_barred {
+        files.bar(barred_names(alloc)?);
+    }
     Ok(files)
+}
+
+// The name that calls save under.
+fn barred_names(alloc: Global) -> Result<Vec<Name>, AllocError> {
+    let mut names = Vec::new(alloc);
+    if let Some(name) = Name::new("saved") {
+        names.push(name)?;
+    }
+    Ok(names)
 }
 
 /// What is left of a call in its files and its sink.

@@ -100,7 +100,7 @@ fn make_or_tell<R: AllocGlobal + Print>(
     }
 }
 
-// The number of the read, the write or the save that fails, or how many bytes a write takes.
+// The number of the read, the write or the save that fails, that nothing can be saved, or how many bytes a write takes.
 fn set_outside(outside: &mut Outside, words: &str) {
     let (what, value) = first_word(words);
     let value = number(value);
@@ -108,6 +108,7 @@ fn set_outside(outside: &mut Outside, words: &str) {
         "read" => outside.failing_read = value,
         "write" => outside.failing_write = value,
         "save" => outside.failing_save = value,
+        "bar" => outside.is_barred = true,
         _ => outside.piece = value as usize,
     }
 }

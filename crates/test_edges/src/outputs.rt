@@ -7,8 +7,10 @@ use std::fmt::Display;
 use std::io;
 use std::io::ErrorKind;
 use std::sync::atomic::{AtomicU64, Ordering};
+use std::time::{Clock, Duration};
 
-// A writer that takes at most `most` bytes a write, after so many writes have failed in this way.
+// A writer that takes at most `most` bytes a write, after so many writes have failed in this way. Its clock goes on by 600
+// milliseconds whenever it is read.
 #[derive(Drop)]
 struct Writer {
     most: usize,
@@ -16,6 +18,8 @@ struct Writer {
     fault: ErrorKind,
     writes: AtomicU64,
     taken: AtomicU64,
+    ticks: AtomicU64,
+    told: AtomicU64,
 }
 
 impl Writer {
@@ -26,11 +30,18 @@ impl Writer {
             fault,
             writes: AtomicU64::new(0),
             taken: AtomicU64::new(0),
+            ticks: AtomicU64::new(0),
+            told: AtomicU64::new(0),
         }
     }
 
     fn taken(&self) -> u64 {
         self.taken.load(Ordering::SeqCst)
+    }
+
+    // How many lines a person was told.
+    fn told(&self) -> u64 {
+        self.told.load(Ordering::SeqCst)
     }
 }
 
@@ -64,13 +75,25 @@ impl Eprint for Writer {
     }
 
     fn eprintln<D: Display + Drop>(&self, _value: D) -> io::Result<()> {
+        let _before = self.told.fetch_add(1, Ordering::SeqCst);
         Ok(())
+    }
+}
+
+impl Clock for Writer {
+    fn monotonic(&self) -> io::Result<Duration> {
+        let before = self.ticks.fetch_add(1, Ordering::SeqCst);
+        Ok(Duration::from_millis(before.saturating_mul(600)))
+    }
+
+    fn since_1970(&self) -> io::Result<Duration> {
+        Err(io::Error::from(ErrorKind::Unsupported))
     }
 }
 
 // Whether all bytes are written.
 fn writes(writer: &Writer, bytes: &[u8]) -> Result<(), Failed> {
-    let mut out = StdSink::new(writer);
+    let mut out = StdSink::new(writer, false);
     write_all(&mut out, bytes)
 }
 
@@ -99,9 +122,41 @@ fn other_writes_are_faults(rt: HostRuntime) {
     assert!(rt; writes(&always, b"seven b").is_err());
 }
 
+// The progress of a run is told so many times.
+fn note(out: &mut impl Sink, times: u64) {
+    for events in 0..times {
+        out.note_progress(events, events);
+    }
+}
+
+#[test]
+fn progress_is_told_about_once_a_second(rt: HostRuntime) {
+    let writer = Writer::new(4, 0, ErrorKind::Other);
+    let mut out = StdSink::new(&writer, true);
+    note(&mut out, 2);
+    assert_eq!(rt; writer.told(), 0);
+    note(&mut out, 3);
+    assert_eq!(rt; writer.told(), 2);
+    note(&mut StdSink::new(&writer, false), 9);
+    assert_eq!(rt; writer.told(), 2);
+}
+
+#[test]
+fn progress_is_told_at_the_start_of_a_line(rt: HostRuntime) {
+    let writer = Writer::new(4, 0, ErrorKind::Other);
+    let mut within = StdSink::new(&writer, true);
+    assert!(rt; within.write(b"a").is_ok());
+    note(&mut within, 9);
+    assert_eq!(rt; writer.told(), 0);
+    let mut after = StdSink::new(&writer, true);
+    assert!(rt; after.write(b"b\n").is_ok());
+    note(&mut after, 3);
+    assert_eq!(rt; writer.told(), 1);
+}
+
 #[test]
 fn standard_output_takes_bytes(rt: HostRuntime) -> Result<(), AllocError> {
-    let mut out = StdSink::new(rt.clone()?);
+    let mut out = StdSink::new(rt.clone()?, false);
     assert!(rt; out.write(b"taken\n").is_ok());
     assert!(rt; out.write(b"").is_ok());
     Ok(())

@@ -35,6 +35,14 @@ fn saves<H: std::rt::Files + AllocGlobal + Eprint + Drop>(
     RealFiles::new(host, false).save(name, bytes)
 }
 
+// Whether bytes can be saved under a name.
+fn tries<H: std::rt::Files + AllocGlobal + Eprint + Drop>(
+    host: H,
+    name: &str,
+) -> Result<(), SaveFailed> {
+    RealFiles::new(host, false).try_save(name)
+}
+
 // A name holds these bytes and no more.
 fn is_held<H: std::rt::Files + AllocGlobal>(host: &H, name: &str, bytes: &[u8]) -> bool {
     match fs::read(host, name) {
@@ -276,6 +284,48 @@ fn a_folder_that_takes_no_file_keeps_its_names(rt: HostRuntime) -> Result<(), Al
     };
     holds(&rt, "short", saves(files, "closed", &short).is_ok());
     holds(&rt, "short is held", is_held(&rt, "closed", &short));
+    Ok(())
+}
+
+#[test]
+fn a_try_changes_nothing(rt: HostRuntime) -> io::Result<()> {
+    let short = bytes_of(rt.alloc(), SHORT, b's')?;
+    holds(&rt, "short", saves(&rt, "tried", &short).is_ok());
+    holds(&rt, "old file", tries(&rt, "tried").is_ok());
+    holds(&rt, "short is held", is_held(&rt, "tried", &short));
+    holds(&rt, "none is left", has_no_new_file(&rt, "tried"));
+    holds(&rt, "no file", tries(&rt, "untried").is_ok());
+    holds(&rt, "none", fs::symlink_metadata(&rt, "untried").is_err());
+    holds(&rt, "none new", has_no_new_file(&rt, "untried"));
+    holds(&rt, "device", tries(&rt, "/dev/full").is_ok());
+    fs::create_dir(&rt, "tried_folder")?;
+    holds(&rt, "folder", tries(&rt, "tried_folder").is_err());
+    holds(&rt, "no folder", tries(&rt, "no_such_folder/file").is_err());
+    symlink(&rt, "nothing", "loose")?;
+    holds(&rt, "loose link", tries(&rt, "loose").is_ok());
+    holds(
+        &rt,
+        "nothing",
+        fs::symlink_metadata(&rt, "nothing").is_err(),
+    );
+    symlink(&rt, "tried", "firm")?;
+    holds(&rt, "firm link", tries(&rt, "firm").is_ok());
+    holds(&rt, "short stays", is_held(&rt, "tried", &short));
+    Ok(())
+}
+
+#[test]
+fn a_folder_that_takes_no_file_is_told_by_a_try(rt: HostRuntime) -> io::Result<()> {
+    let short = bytes_of(rt.alloc(), SHORT, b's')?;
+    holds(&rt, "short", saves(&rt, "fast", &short).is_ok());
+    for (name, can) in [("fast", true), ("unmade", false)] {
+        let files = FaultyFiles {
+            host: rt.clone()?,
+            faults: CLOSED,
+        };
+        holds(&rt, name, tries(files, name).is_ok() == can);
+    }
+    holds(&rt, "unmade", fs::symlink_metadata(&rt, "unmade").is_err());
     Ok(())
 }
 

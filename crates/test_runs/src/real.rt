@@ -18,7 +18,7 @@ pub fn call_real<R: Threads + Wait + Sync>(
     let line = words_of(rt.alloc(), words)?;
     let mut files = RealFiles::new(rt.clone()?, false);
     let mut keys = ReaderKeys::new(rt.reader());
-    let mut out = StdSink::new(rt.clone()?);
+    let mut out = StdSink::new(rt.clone()?, false);
     let mut bench = Bench { machine: None };
     let status = cli_dispatch::answer(
         threads,

@@ -3,7 +3,7 @@ use Rattle.sv_types.specs.declared.event.Verdict.{Verdict}
 use Rattle.cli_live.specs.Coming.{MayCome}
 use Rattle.cli_live.specs.LiveRuns.{harts_of, events_made}
 use Rattle.cli_live.proofs.DrawnEvents.{drawn_is, drawn_more, same_harts}
-use Rattle.cli_live.proofs.MadeEvents.{on_to, breaks_to, ok_both, err_map, may_step, auto_counted, auto_made}
+use Rattle.cli_live.proofs.MadeEvents.{on_to, breaks_due, breaks_to, ok_both, err_map, may_step, auto_counted, auto_made}
 use Rattle.cli_live.proofs.making.make_auto.Goals as goal
 
 pub make-requires-clause-may : goal.make-requires-clause-may
@@ -19,7 +19,7 @@ returns-clause-drives g c =
     let all = auto_made c.args.live.now.script c.next.new.self c.args.live.now.journal c.add_auto.new.self c.in-Some.event drawn c.next.ensures.rest (c.add_auto.ensures.events (harts_of c.args.live.now.script)) in
     record {
       on = ok_both c.make.result _ _ _ (λ on room. record { went = on_to (on (events_made c.args.live.now)) all; room = room }) c.make.ensures.on c.make.ensures.room;
-      broke = err_map c.make.result _ _ (λ off. breaks_to (off (events_made c.args.live.now)) all) c.make.ensures.broke;
+      broke = err_map c.make.result _ _ (λ off. breaks_due (breaks_to (off (events_made c.args.live.now)) all)) c.make.ensures.broke;
       stays = record {
         way = record {
           keys = c.add_auto.ensures.bytes ∙ way.keys;

@@ -2,7 +2,7 @@ use Rattle.std.proofs.Common.{◌≤◌, ℕ, List, [], ◌∷◌, ◌++◌, ref
 use Rattle.sv_types.specs.Limits.{max_events}
 use Rattle.cli_live.specs.LiveRuns.{harts_of}
 use Rattle.cli_live.proofs.DrawnEvents.{drawn_same}
-use Rattle.cli_live.proofs.MadeEvents.{on_none, on_then, on_breaks, may_write, may_step, key_counted, drives_off}
+use Rattle.cli_live.proofs.MadeEvents.{on_none, on_then, breaks_due, on_breaks, may_write, may_step, key_counted, drives_off}
 use Rattle.cli_live.proofs.making.make_keys.Goals as goal
 
 pub keys-init : goal.keys-init
@@ -54,7 +54,7 @@ pub returns-in_err-make_key-clause-drives : goal.returns-in_err-make_key-clause-
 returns-in_err-make_key-clause-drives g c =
     let stays = c.keys.invariant.stays in
     let way = stays.way in
-    drives_off c.from_residual.result (search rules) (on_breaks c.keys.invariant.on.went (c.in_err-make_key.ensures.broke (harts_of c.keys.live.script))) (record {
+    drives_off c.from_residual.result (search rules) (on_breaks c.keys.invariant.on.went (breaks_due (c.in_err-make_key.ensures.broke (harts_of c.keys.live.script)))) (record {
       way = record {
         keys = c.make_key.ensures.keys ∙ ap (λ (bytes : List ℕ). bytes ++ c.in-Some.byte ∷ []) way.keys ∙ sym c.in-Some.ensures.given;
         few = c.take.ensures.few;

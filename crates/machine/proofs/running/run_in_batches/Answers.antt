@@ -40,19 +40,19 @@ repeat-made-requires-clause-few g c =
     let hand : IsAtHand g.S.EventSource.schedule c.events.drawing c.draw.new.self c.in-Some.batch = c.in-Some.ensures.batch in
     let all : c.in-Some.batch.count + c.draw.new.self.undrawn ≡ c.events.drawing.batch.count + c.events.drawing.undrawn =
     ap (λ (r : EventRun). r.count + c.draw.new.self.undrawn) hand.row_is ∙ hand.count in
-    omega (arith, all, c.events.invariant.few, c.requires.few)
+    omega (arith, all, c.at_once.ensures.most, c.events.invariant.few, c.requires.few)
 
 pub repeat-made-requires-clause-counts : goal.repeat-made-requires-clause-counts
 repeat-made-requires-clause-counts g c =
     let hand : IsAtHand g.S.EventSource.schedule c.events.drawing c.draw.new.self c.in-Some.batch = c.in-Some.ensures.batch in
     let all : c.in-Some.batch.count + c.draw.new.self.undrawn ≡ c.events.drawing.batch.count + c.events.drawing.undrawn =
     ap (λ (r : EventRun). r.count + c.draw.new.self.undrawn) hand.row_is ∙ hand.count in
-    counts_within (max_events + (c.args.events - count_left c.events.drawing)) (max_counts - c.in-Some.batch.count) c.events.machine.journal.counts
-    (omega (arith, all, c.events.invariant.few, c.requires.few))
+    counts_within (max_events + (c.args.events - count_left c.events.drawing)) (max_counts - c.at_once.result) c.events.machine.journal.counts
+    (omega (arith, all, c.at_once.ensures.most, c.events.invariant.few, c.requires.few))
     c.events.invariant.counts
 
-pub flush_due-requires : goal.flush_due-requires
-flush_due-requires g c = record {
+pub flush_and_note-requires : goal.flush_and_note-requires
+flush_and_note-requires g c = record {
   sink = record {
     is_open = subst (λ b. IsTrue b) (sym (ap (λ (s : SinkState). s.is_open) c.events.invariant.taken.taken)) c.requires.sink.is_open;
     count = subst (λ n. n < 18446744073709551615) (sym (ap (λ (s : SinkState). s.faults) c.events.invariant.taken.taken)) c.requires.sink.count;
@@ -60,16 +60,16 @@ flush_due-requires g c = record {
   room = room_again c.repeat-made.result c.events.machine c.repeat-made.new.self c.in-Some.batch.event c.events.invariant.has c.repeat-made.ensures.chain c.events.invariant.room;
 }
 
-pub returns-in_err-flush_due-clause-some : goal.returns-in_err-flush_due-clause-some
-returns-in_err-flush_due-clause-some g c =
+pub returns-in_err-flush_and_note-clause-some : goal.returns-in_err-flush_and_note-clause-some
+returns-in_err-flush_and_note-clause-some g c =
     let hand : IsAtHand g.S.EventSource.schedule c.events.drawing c.draw.new.self c.in-Some.batch = c.in-Some.ensures.batch in
     let parts : events_left g.S.EventSource.schedule c.events.drawing ≡ replicate c.repeat-made.result c.in-Some.batch.event ++ events_left g.S.EventSource.schedule c.count_down.new.self =
     sym hand.left ∙ c.count_down.ensures.left ∙ ap (λ (r : EventRun). replicate c.repeat-made.result r.event ++ events_left g.S.EventSource.schedule c.count_down.new.self) (sym hand.row_is) in
     let room = room_again c.repeat-made.result c.events.machine c.repeat-made.new.self c.in-Some.batch.event c.events.invariant.has c.repeat-made.ensures.chain c.events.invariant.room in
-    let broke : RunBrokeFromStart c.args.machine.now (first_events c.args.events (g.S.EventSource.schedule c.args.source)) c.flush_due.new.machine (g.O.Sink.state c.args.out.now) (g.O.Sink.state c.flush_due.new.out) =
-    λ start new. runs_broke c.repeat-made.result _ start _ (events_left g.S.EventSource.schedule c.events.drawing) (events_left g.S.EventSource.schedule c.count_down.new.self) c.events.machine c.repeat-made.new.self c.flush_due.new.machine
+    let broke : RunBrokeFromStart c.args.machine.now (first_events c.args.events (g.S.EventSource.schedule c.args.source)) c.flush_and_note.new.machine (g.O.Sink.state c.args.out.now) (g.O.Sink.state c.flush_and_note.new.out) =
+    λ start new. runs_broke c.repeat-made.result _ start _ (events_left g.S.EventSource.schedule c.events.drawing) (events_left g.S.EventSource.schedule c.count_down.new.self) c.events.machine c.repeat-made.new.self c.flush_and_note.new.machine
     c.in-Some.batch.event _ _ _ c.repeat-made.ensures.some c.events.invariant.rest (c.events.invariant.on start new) parts c.repeat-made.ensures.chain
-    c.in_err-flush_due.ensures.machine room c.in_err-flush_due.ensures.due c.in_err-flush_due.ensures.failed in
+    c.in_err-flush_and_note.ensures.machine room c.in_err-flush_and_note.ensures.due c.in_err-flush_and_note.ensures.failed in
     on_err _ _ broke
 
 pub events-preserved : goal.events-preserved
@@ -79,18 +79,18 @@ events-preserved g c =
     sym hand.left ∙ c.count_down.ensures.left ∙ ap (λ (r : EventRun). replicate c.repeat-made.result r.event ++ events_left g.S.EventSource.schedule c.count_down.new.self) (sym hand.row_is) in
     let fewer : c.count_down.new.self.batch.count + c.count_down.new.self.undrawn + c.repeat-made.result ≡ c.events.drawing.batch.count + c.events.drawing.undrawn = c.count_down.ensures.count ∙ hand.count in
     let before : c.events.drawing.batch.count + c.events.drawing.undrawn ≤ c.args.events = c.events.invariant.few in
-    let flushed = c.in_ok-flush_due.ensures.flushed in
+    let flushed = c.in_ok-flush_and_note.ensures.flushed in
     record {
-      on = λ start new. runs_more c.repeat-made.result _ start _ (events_left g.S.EventSource.schedule c.events.drawing) (events_left g.S.EventSource.schedule c.count_down.new.self) c.events.machine c.repeat-made.new.self c.flush_due.new.machine
+      on = λ start new. runs_more c.repeat-made.result _ start _ (events_left g.S.EventSource.schedule c.events.drawing) (events_left g.S.EventSource.schedule c.count_down.new.self) c.events.machine c.repeat-made.new.self c.flush_and_note.new.machine
           c.in-Some.batch.event _ _ _ c.repeat-made.ensures.some (c.events.invariant.on start new) parts c.repeat-made.ensures.chain flushed;
-      has = state_after c.repeat-made.result c.events.machine c.repeat-made.new.self c.flush_due.new.machine c.in-Some.batch.event _ _ c.events.invariant.has c.repeat-made.ensures.chain flushed;
-      taken = taken_more _ c.repeat-made.new.self c.flush_due.new.machine _ _ c.events.invariant.taken flushed;
+      has = state_after c.repeat-made.result c.events.machine c.repeat-made.new.self c.flush_and_note.new.machine c.in-Some.batch.event _ _ c.events.invariant.has c.repeat-made.ensures.chain flushed;
+      taken = taken_more _ c.repeat-made.new.self c.flush_and_note.new.machine _ _ c.events.invariant.taken flushed;
       few = omega (arith, fewer, before);
-      counts = flushed_counts (max_events + (c.args.events - count_left c.count_down.new.self)) c.repeat-made.new.self c.flush_due.new.machine _ _
+      counts = flushed_counts (max_events + (c.args.events - count_left c.count_down.new.self)) c.repeat-made.new.self c.flush_and_note.new.machine _ _
           (counts_within (max_events + (c.args.events - count_left c.events.drawing) + c.repeat-made.result) (max_events + (c.args.events - count_left c.count_down.new.self)) c.repeat-made.new.self.journal.counts
           (omega (arith, fewer, before)) (c.repeat-made.ensures.counts (max_events + (c.args.events - count_left c.events.drawing)) c.events.invariant.counts)) flushed;
-      room = c.in_ok-flush_due.ensures.room;
-      rest = c.in_ok-flush_due.ensures.rest;
+      room = c.in_ok-flush_and_note.ensures.room;
+      rest = c.in_ok-flush_and_note.ensures.rest;
     }
 
 pub returns-clause-all : goal.returns-clause-all

@@ -41,12 +41,12 @@ returns-in_default-clause-all g c =
       rest = c.events.invariant.rest;
     }
 
-pub flush_due-requires-clause-room : goal.flush_due-requires-clause-room
-flush_due-requires-clause-room g c =
+pub flush_and_note-requires-clause-room : goal.flush_and_note-requires-clause-room
+flush_and_note-requires-clause-room g c =
     room_again c.repeat.result c.events.machine c.repeat.new.self c.in-Some.one.event c.events.invariant.has c.repeat.ensures.chain c.events.invariant.room
 
-pub returns-in_err-flush_due-clause-some : goal.returns-in_err-flush_due-clause-some
-returns-in_err-flush_due-clause-some g c =
+pub returns-in_err-flush_and_note-clause-some : goal.returns-in_err-flush_and_note-clause-some
+returns-in_err-flush_and_note-clause-some g c =
     let some : 0 < c.events.left = omega (arith, c.events-test.true) in
     let one : c.in-Some.one.count ≡ 1 = omega (arith, c.in-Some.ensures.some, c.in-Some.ensures.most) in
     let once : c.repeat.result ≡ 1 = omega (arith, c.repeat.ensures.some, c.repeat.ensures.most) in
@@ -55,10 +55,10 @@ returns-in_err-flush_due-clause-some g c =
     let parts : first_events c.events.left before ≡ replicate c.repeat.result c.in-Some.one.event ++ first_events (c.events.left - 1) behind =
     one_drawn c.events.left c.repeat.result c.in-Some.one before behind some one once c.in-Some.ensures.first in
     let room = room_again c.repeat.result c.events.machine c.repeat.new.self c.in-Some.one.event c.events.invariant.has c.repeat.ensures.chain c.events.invariant.room in
-    let broke : RunBrokeFromStart c.args.machine.now (first_events c.args.events (g.S.EventSource.schedule c.args.source)) c.flush_due.new.machine (g.O.Sink.state c.args.out.now) (g.O.Sink.state c.flush_due.new.out) =
-    λ start new. runs_broke c.repeat.result _ start _ (first_events c.events.left before) (first_events (c.events.left - 1) behind) c.events.machine c.repeat.new.self c.flush_due.new.machine
+    let broke : RunBrokeFromStart c.args.machine.now (first_events c.args.events (g.S.EventSource.schedule c.args.source)) c.flush_and_note.new.machine (g.O.Sink.state c.args.out.now) (g.O.Sink.state c.flush_and_note.new.out) =
+    λ start new. runs_broke c.repeat.result _ start _ (first_events c.events.left before) (first_events (c.events.left - 1) behind) c.events.machine c.repeat.new.self c.flush_and_note.new.machine
     c.in-Some.one.event _ _ _ c.repeat.ensures.some c.events.invariant.rest (c.events.invariant.on start new) parts c.repeat.ensures.chain
-    c.in_err-flush_due.ensures.machine room c.in_err-flush_due.ensures.due c.in_err-flush_due.ensures.failed in
+    c.in_err-flush_and_note.ensures.machine room c.in_err-flush_and_note.ensures.due c.in_err-flush_and_note.ensures.failed in
     on_err _ _ broke
 
 pub events-preserved : goal.events-preserved
@@ -71,18 +71,18 @@ events-preserved g c =
     let parts : first_events c.events.left before ≡ replicate c.repeat.result c.in-Some.one.event ++ first_events (c.events.left - 1) behind =
     one_drawn c.events.left c.repeat.result c.in-Some.one before behind some one once c.in-Some.ensures.first in
     let few = c.events.invariant.few in
-    let flushed = c.in_ok-flush_due.ensures.flushed in
+    let flushed = c.in_ok-flush_and_note.ensures.flushed in
     record {
-      on = λ start new. runs_more c.repeat.result _ start _ (first_events c.events.left before) (first_events (c.events.left - 1) behind) c.events.machine c.repeat.new.self c.flush_due.new.machine
+      on = λ start new. runs_more c.repeat.result _ start _ (first_events c.events.left before) (first_events (c.events.left - 1) behind) c.events.machine c.repeat.new.self c.flush_and_note.new.machine
           c.in-Some.one.event _ _ _ c.repeat.ensures.some (c.events.invariant.on start new) parts c.repeat.ensures.chain flushed;
-      has = state_after c.repeat.result c.events.machine c.repeat.new.self c.flush_due.new.machine c.in-Some.one.event _ _ c.events.invariant.has c.repeat.ensures.chain flushed;
-      taken = taken_more _ c.repeat.new.self c.flush_due.new.machine _ _ c.events.invariant.taken flushed;
+      has = state_after c.repeat.result c.events.machine c.repeat.new.self c.flush_and_note.new.machine c.in-Some.one.event _ _ c.events.invariant.has c.repeat.ensures.chain flushed;
+      taken = taken_more _ c.repeat.new.self c.flush_and_note.new.machine _ _ c.events.invariant.taken flushed;
       few = omega (arith, few);
-      counts = flushed_counts (max_events + (c.args.events - (c.events.left - 1))) c.repeat.new.self c.flush_due.new.machine _ _
+      counts = flushed_counts (max_events + (c.args.events - (c.events.left - 1))) c.repeat.new.self c.flush_and_note.new.machine _ _
           (counts_within (max_events + (c.args.events - c.events.left) + c.repeat.result) (max_events + (c.args.events - (c.events.left - 1))) c.repeat.new.self.journal.counts
           (omega (arith, once, few, some)) (c.repeat.ensures.counts (max_events + (c.args.events - c.events.left)) c.events.invariant.counts)) flushed;
-      room = c.in_ok-flush_due.ensures.room;
-      rest = c.in_ok-flush_due.ensures.rest;
+      room = c.in_ok-flush_and_note.ensures.room;
+      rest = c.in_ok-flush_and_note.ensures.rest;
     }
 
 pub returns-clause-all : goal.returns-clause-all
