@@ -4,7 +4,7 @@ ghost use Rattle.std.specs.List.{list_any};
 ghost use Rattle.sv_types.specs.Limits.{max_events};
 ghost use Rattle.cli_words.specs.Commands.{has_dash, flat_split, gen_split, run_split, survey_split, live_split, snap_split, sweep_split, resume_split, show_split, measure_split, convert_split};
 ghost use Rattle.cli_plans.specs.CommandLine.{Convert, split_judged, flat_judged, gen_judged, run_judged, survey_of, live_of, snap_of, sweep_of, resume_of, making_judged, command_after, survey_after, live_after, snap_after, sweep_after, resume_after, show_after, judgement_of_words, survey_judged, live_judged, snap_judged, sweep_judged, resume_judged, show_judged};
-ghost use Rattle.cli_plans.specs.Words.{IsAsked, IsInRange, IsDrawnRun, IsBlockRun, AreNumbers, command_of, run_value, live_value, snap_value, sweep_value, resume_value};
+ghost use Rattle.cli_plans.specs.Words.{IsAsked, IsInRange, IsDrawnRun, IsSurveyRun, IsBlockRun, AreNumbers, command_of, run_value, live_value, snap_value, sweep_value, resume_value};
 ghost use Rattle.cli_plans.specs.declared.asking.Unread.TheVariants.{Refused, Memory};
 
 use crate::judgement::{
@@ -141,7 +141,7 @@ fn ask_convert<'a>(alloc: Global, rest: &'a [String]) -> Result<Command<'a>, Unr
 #[tactic(auto, unfolding(crate::specs::CommandLine::survey_judged))]
 pub fn ask_survey<'a>(alloc: Global, words: &'a [String]) -> Result<Run<'a>, Unread>
     ensures asked { IsAsked run_value (survey_judged (map string_bytes words.now)) result }
-    ensures few { IfOk result (λ run. run.events ≤ max_events) }
+    ensures run { IfOk result IsSurveyRun }
 {
     match named(words) {
         Some(naming) => survey_after(alloc, naming.command, naming.rest),
@@ -157,7 +157,7 @@ fn survey_after<'a>(
 ) -> Result<Run<'a>, Unread>
     requires plain { list_any has_dash (map string_bytes rest.now) ≡ false }
     ensures asked { IsAsked run_value (survey_after command (map string_bytes rest.now)) result }
-    ensures few { IfOk result (λ run. run.events ≤ max_events) }
+    ensures run { IfOk result IsSurveyRun }
 {
     let CommandName::Survey = command else {
         return Err(Unread::Refused(Refusal::NoCommand));

@@ -8,7 +8,7 @@ ghost use Rattle.policy_making.specs.WordRanges.{entries_of, are_module_names};
 ghost use Rattle.cli_words.specs.declared.command.DiskKind.{DiskKind};
 ghost use Rattle.cli_words.specs.Values.{flat_split_of, run_split_of, survey_split_of, live_split_of, snap_split_of, sweep_split_of, resume_split_of, measure_split_of};
 ghost use Rattle.cli_plans.specs.CommandLine.{flat_judged, gen_judged, run_judged, run_of, block_run, survey_of, live_of, snap_of, sweep_of, sweep_with, drawn_order_of, most_runs, resume_of, unless_none, source_of, auto_of, bursts_of, making_judged, terms_judged, terms_with, init_of};
-ghost use Rattle.cli_plans.specs.Words.{IsRead, IsInRange, IsDrawnRun, IsBlockRun, AreNumbers, command_of, source_value, run_value, live_value, snap_value, sweep_value, resume_value, terms_value};
+ghost use Rattle.cli_plans.specs.Words.{IsRead, IsInRange, IsDrawnRun, IsSurveyRun, IsBlockRun, AreNumbers, command_of, source_value, run_value, live_value, snap_value, sweep_value, resume_value, terms_value};
 
 use crate::refusal::{Refusal, Word};
 use cli_words::{
@@ -254,7 +254,7 @@ pub fn read_snap<'a>(words: &SnapWords<'a>) -> Result<Snap<'a>, Refusal>
 #[tactic(auto, unfolding(crate::specs::CommandLine::survey_words))]
 pub fn read_survey<'a>(words: &SurveyWords<'a>) -> Result<Run<'a>, Refusal>
     ensures read { IsRead run_value (survey_of (survey_split_of words.now)) result }
-    ensures few { IfOk result (λ run. run.events ≤ max_events) }
+    ensures run { IfOk result IsSurveyRun }
 {
     let Some(script) = source_of(words.script) else {
         return Err(Refusal::OutOfRange { word: Word::Script });
