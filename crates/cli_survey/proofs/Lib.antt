@@ -1,1 +1,4 @@
 pub mod SurveyLemmas
+pub mod ReadyLemmas
+pub mod EndLemmas
+pub mod AnswerLemmas

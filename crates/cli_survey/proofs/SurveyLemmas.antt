@@ -79,7 +79,7 @@ stands_row (suc k) m next e r cleared s (mid, (those, (on, makes))) =
 
 -- ---- a pass
 
-passed_prints : (r : State) → (passed_over r).journal.printed ≡ r.journal.printed
+pub passed_prints : (r : State) → (passed_over r).journal.printed ≡ r.journal.printed
 passed_prints r = ap (λ (x : State). x.journal.printed) (pass_law r).rest
 
 stands_passed : (m : Machine) (cleared : List ℕ) (r : State) → Stands m cleared r → Stands (hw_passed_over m) cleared (passed_over r)

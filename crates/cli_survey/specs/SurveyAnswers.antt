@@ -4,7 +4,7 @@ use Rattle.std.specs.Prelude.{◌≡◌, ℕ, List, [], ◌∷◌, ◌++◌, IsT
 use Rattle.sv_types.specs.Kernel.{kernel_segments}
 use Rattle.sv_types.specs.Output.{run_status}
 use Rattle.sv_types.specs.Policies.{Rules}
-use Rattle.sv_types.specs.Schedule.{first_events}
+use Rattle.sv_types.specs.Schedule.{first_events, line_feed}
 use Rattle.sv_types.specs.declared.event.Event.{Event}
 use Rattle.sv_types.specs.declared.event.Note.{Note}
 use Rattle.sv_types.specs.declared.event.Verdict.{Verdict}
@@ -35,9 +35,14 @@ use Rattle.cli_survey.specs.declared.ready.ReadySurvey.{ReadySurvey}
 
 -- ---- what is written
 
+-- lines are set apart from the console before them, where there are any
+abbrev pub set_apart : (lines : List ℕ) → List ℕ
+set_apart [] = []
+set_apart (byte ∷ lines) = line_feed ∷ byte ∷ lines
+
 -- the lines of what was found, with the names of the kernel's file
 abbrev pub lines_of : (file : List ℕ) → PassedWrites → List Note → List ℕ
-lines_of file writes notes = survey_lines (names_in file (kernel_segments file)) writes notes
+lines_of file writes notes = set_apart (survey_lines (names_in file (kernel_segments file)) writes notes)
 
 -- what stands after the console
 abbrev pub ending_of : (file : List ℕ) → PassedWrites → State → List ℕ
@@ -130,7 +135,8 @@ pub record SurveyHeadline (words : Result RunWords Refusal) (old new : Outside) 
 -- a machine that was booted from this kernel's file
 pub record BeginsSurvey (words : RunWords) (old new : FilesState) (ready : ReadySurvey) : Type 0 where
   pub start : State
-  pub follows : Follows (run_plan words) old new (Some (RunFrom start (first_events ready.booted.events ready.booted.script) words.save))
+  pub save : Option (List ℕ)
+  pub follows : Follows (run_plan words) old new (Some (RunFrom start (first_events ready.booted.events ready.booted.script) save))
   pub is_new : IsNew ready.booted.machine start
   pub fresh : IsFresh ready.booted
   pub starts : StartsFrom words.image old start ready.kernel.bytes.items

@@ -3,7 +3,6 @@ ghost use Rattle.std.specs.Prelude.{◌≡◌, ◌<◌, ◌≤◌, ◌-◌, map,
 ghost use Rattle.std.specs.Result.{is_ok};
 ghost use Rattle.spec_processor.specs.Counters.{CanCount};
 ghost use Rattle.sv_types.specs.Schedule.{first_events};
-ghost use Rattle.sv_types.specs.declared.event.Verdict.TheVariants.{Running};
 ghost use Rattle.spec_reference.specs.Start.{IsStart};
 ghost use Rattle.spec_reference.specs.States.{State};
 ghost use Rattle.spec_hardware.specs.Reaches.{IsNew};
@@ -144,7 +143,7 @@ fn survey_and_report<O: Sink>(
     out: &mut O,
 ) -> Result<Status, Trouble>
     requires may { MayRun machine.old events (O.state out.old) }
-    requires running { machine.old.journal.verdict ≡ Running }
+    requires starts { IsAtStart machine.old }
     ensures { (start : State) → IsNew machine.old start → IsStart start →
         SurveysTo kernel.now.bytes.items start (first_events events script) machine.new (O.state out.old) (O.state out.new) result }
 {

@@ -6,8 +6,8 @@ ghost use Rattle.elf64_load.specs.Images.{segments_of};
 ghost use Rattle.survey_findings.specs.Views.{writes_view};
 ghost use Rattle.host_io.specs.Outside.{MayWrite};
 ghost use Rattle.host_io.specs.declared.trouble.Trouble.TheVariants.{Memory};
-ghost use Rattle.secvisor_cli.specs.Answers.{Writes};
-ghost use Rattle.cli_survey.specs.SurveyAnswers.{lines_of, survey_status};
+ghost use Rattle.secvisor_cli.specs.Answers.{Writes as WritesAll};
+ghost use Rattle.cli_survey.specs.SurveyAnswers.{lines_of, set_apart, survey_status};
 
 use crate::ready::KernelFile;
 use elf64_load::{KernelImage, read_kernel};
@@ -39,8 +39,38 @@ fn lines(
     ensures { IfOk result (λ lines. lines.items ≡ lines_of kernel.now.bytes.items (writes_view writes.now) notes.now) }
 {
     let image = image_again(alloc, kernel)?;
-    let names = kernel_names(alloc, &kernel.bytes, &image)?;
-    survey_lines(alloc, &names, writes, notes)
+    lines_with(alloc, &kernel.bytes, &image, writes, notes)
+}
+
+// The same with the image of the kernel's file.
+fn lines_with(
+    alloc: Global,
+    file: &[u8],
+    image: &KernelImage<'_>,
+    writes: &Writes,
+    notes: &[Note],
+) -> Result<Vec<u8>, AllocError>
+    requires { segments_of image.now ≡ kernel_segments file.now }
+    ensures { IfOk result (λ lines. lines.items ≡ lines_of file.now (writes_view writes.now) notes.now) }
+{
+    let names = kernel_names(alloc, file, image)?;
+    let lines = survey_lines(alloc, &names, writes, notes)?;
+    set_apart(alloc, &lines)
+}
+
+// Lines are set apart from the console before them, where there are any.
+fn set_apart(alloc: Global, lines: &[u8]) -> Result<Vec<u8>, AllocError>
+    ensures { IfOk result (λ apart. apart.items ≡ set_apart lines.now) }
+{
+    let mut apart = Vec::new(alloc);
+    match lines {
+        [] => Ok(apart),
+        [_, ..] => {
+            apart.push(b'\n')?;
+            apart.extend_from_slice(lines)?;
+            Ok(apart)
+        }
+    }
 }
 
 // The machine stopped where a line says so.
@@ -62,7 +92,7 @@ pub(crate) fn finish<O: Sink>(
     out: &mut O,
 ) -> Result<Status, Trouble>
     requires sink { MayWrite (O.state out.old) }
-    ensures writes { Writes
+    ensures writes { WritesAll
         (survey_status (lines_of kernel.now.bytes.items (writes_view writes.now) machine.now.journal.notes) machine.now.journal.verdict)
         (machine.now.journal.printed ++ (lines_of kernel.now.bytes.items (writes_view writes.now) machine.now.journal.notes ++ report machine.now.journal))
         (O.state out.old) (O.state out.new) result }
