@@ -22,7 +22,7 @@ returns-in_err-survey g c = λ start new is_start.
 pub finish-requires : goal.finish-requires
 finish-requires g c =
     let s = c.requires.starts in
-    may_write s.start _ c.survey.new.machine c.survey.new.writes _ _ (c.in_ok-survey.ensures s.start s.is_new s.is_start) c.requires.may.sink
+    record { sink = may_write s.start _ c.survey.new.machine c.survey.new.writes _ _ (c.in_ok-survey.ensures s.start s.is_new s.is_start) c.requires.may.sink }
 
 pub returns : goal.returns
 returns g c = λ start new is_start.

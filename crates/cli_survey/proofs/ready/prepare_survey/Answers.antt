@@ -1,10 +1,11 @@
-use Rattle.std.proofs.Common.{ℕ, List, refl, subst, sym, Err}
+use Rattle.std.proofs.Common.{ℕ, List, refl, subst, sym, Ok, Err}
 use Rattle.sv_types.specs.Policies.{rules_of}
 use Rattle.cli_plans.specs.declared.file_fault.Part.{Part}
 use Rattle.cli_plans.specs.Plans.{max_image_bytes, policy_part, kernel_part, boot_plan, image_plan, run_plan}
 use Rattle.cli_plans.specs.Reading.{MayFollow}
 use Rattle.cli_plans.specs.Words.{run_value}
 use Rattle.secvisor_cli.specs.Ready.{Prepares}
+use Rattle.secvisor_cli.specs.declared.ready.Ready.TheVariants.{Run}
 use Rattle.secvisor_cli.proofs.ReadyLemmas.{err_by, stopped_ready, read_ready}
 use Rattle.secvisor_cli.proofs.StageLemmas.{pass_ready, read_may}
 use Rattle.cli_survey.specs.SurveyAnswers.{PreparesSurvey}
@@ -61,5 +62,5 @@ returns g c =
     (record { booted = c.in_ok-booted.booted; kernel = record { bytes = c.in_ok-bytes.bytes; ram_pages = c.in_ok-policy.policy.ram_pages } })
     c.requires.run.0 c.in_ok-policy.ensures.stage c.in_ok-bytes.ensures
     (subst
-    (λ (b : List ℕ). Prepares (kernel_part (rules_of c.in_ok-policy.policy) b (boot_plan (run_value c.args.asked.now) (rules_of c.in_ok-policy.policy) b)) (g.F.Files.state c.read_part.new.files) (g.F.Files.state c.boot_file.new.files) _)
+    (λ (b : List ℕ). Prepares (kernel_part (rules_of c.in_ok-policy.policy) b (boot_plan (run_value c.args.asked.now) (rules_of c.in_ok-policy.policy) b)) (g.F.Files.state c.read_part.new.files) (g.F.Files.state c.boot_file.new.files) (Ok (Run c.in_ok-booted.booted)))
     c.deref.ensures.value c.in_ok-booted.ensures.prepares) refl
