@@ -2,3 +2,4 @@ pub mod SurveyLemmas
 pub mod ReadyLemmas
 pub mod EndLemmas
 pub mod AnswerLemmas
+pub mod NoFindings

@@ -3,9 +3,11 @@
 
 mod answer;
 mod ending;
+mod laws;
 mod ready;
 mod surveying;
 
 pub use answer::secvisor_survey;
+pub use laws::law_no_findings;
 pub use ready::{KernelFile, ReadySurvey};
 pub use surveying::survey;
