@@ -40,6 +40,7 @@ fn judge_command<R: Threads + Sync, A: Reread>(
             run_words(alloc, rest, files, most)
         }
         CommandName::Sweep => sweep_words(alloc, rest, files, most),
+        CommandName::Survey => survey_words(alloc, rest, files, most),
         CommandName::Live => live_words(alloc, rest, files, most),
         CommandName::Measure => measure_words(alloc, rest, files, most),
         CommandName::Convert => convert_words(rt, alloc, rest, files, most),
@@ -94,6 +95,26 @@ fn sweep_words<A: Reread>(
                 policy: policy.as_str(),
                 disk: disk.as_str(),
                 script: "none",
+            };
+            run_files(alloc, files, most, &names)
+        }
+        _ => Ok(()),
+    }
+}
+
+fn survey_words<A: Reread>(
+    alloc: Global,
+    words: &[String],
+    files: &A,
+    most: &MostBytes,
+) -> Result<(), Found> {
+    match words {
+        [image, policy, disk, script, _] => {
+            let names = RunNames {
+                image: image.as_str(),
+                policy: policy.as_str(),
+                disk: disk.as_str(),
+                script: script.as_str(),
             };
             run_files(alloc, files, most, &names)
         }

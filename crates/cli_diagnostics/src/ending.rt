@@ -50,9 +50,10 @@ pub fn stop_remark<A: Reread>(
 fn guest_names(words: &[String]) -> Option<(&str, &str)> {
     let Naming { command, rest } = named(words)?;
     match (command, rest) {
-        (CommandName::Run(_) | CommandName::Snap | CommandName::Live, [image, policy, ..]) => {
-            Some((image.as_str(), policy.as_str()))
-        }
+        (
+            CommandName::Run(_) | CommandName::Survey | CommandName::Snap | CommandName::Live,
+            [image, policy, ..],
+        ) => Some((image.as_str(), policy.as_str())),
         _ => None,
     }
 }

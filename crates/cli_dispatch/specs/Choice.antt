@@ -4,9 +4,10 @@ use Rattle.cli_words.specs.declared.table.CommandName.{CommandName}
 use Rattle.cli_words.specs.declared.table.CommandName.TheVariants as command
 use Rattle.cli_words.specs.Commands.{name_of}
 use Rattle.cli_dispatch.specs.declared.choice.TopCall.{TopCall}
-use Rattle.cli_dispatch.specs.declared.choice.TopCall.TheVariants.{Live, Snap, Sweep, Shrink, Resume, Show, Others}
+use Rattle.cli_dispatch.specs.declared.choice.TopCall.TheVariants.{Live, Snap, Sweep, Shrink, Resume, Show, Others, Survey}
 
 abbrev pub call_of : Option CommandName → TopCall
+call_of (Some command.Survey) = Survey
 call_of (Some command.Live) = Live
 call_of (Some command.Snap) = Snap
 call_of (Some command.Sweep) = Sweep

@@ -12,6 +12,7 @@ use cli_resume::secvisor_resume;
 use cli_show::secvisor_show;
 use cli_shrink::secvisor_shrink;
 use cli_snap::secvisor_snap;
+use cli_survey::secvisor_survey;
 use cli_sweep::secvisor_sweep;
 use host_io::{Files, Sink};
 use live_keys::{Keys, Pace};
@@ -51,6 +52,7 @@ pub fn answer<R: Threads + Wait + Sync, F: Files, K: Keys + Send, O: Sink, P: Pa
     ensures keys { (K.state keys.old).faults ≤ (K.state keys.new).faults }
 {
     match top_call_of(words) {
+        TopCall::Survey => secvisor_survey(rt, alloc, words, files, out, bench),
         TopCall::Live => secvisor_live(rt, alloc, words, files, keys, out, pace, bench),
         TopCall::Snap => secvisor_snap(rt, alloc, words, files, out, bench),
         TopCall::Sweep => secvisor_sweep(rt, alloc, words, files, out),

@@ -8,6 +8,7 @@ use cli_words::{CommandName, command_of_name};
 /// The call of a command.
 #[derive(Clone, Copy, Debug, PartialEq, Eq, Drop)]
 pub enum TopCall {
+    Survey,
     Live,
     Snap,
     Sweep,
@@ -32,6 +33,7 @@ fn call_of_name(name: &str) -> TopCall
     ensures { result ≡ spec.call_of (name_of name.now) }
 {
     match command_of_name(name) {
+        Some(CommandName::Survey) => TopCall::Survey,
         Some(CommandName::Live) => TopCall::Live,
         Some(CommandName::Snap) => TopCall::Snap,
         Some(CommandName::Sweep) => TopCall::Sweep,

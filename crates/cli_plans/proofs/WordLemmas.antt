@@ -19,7 +19,7 @@ use Rattle.policy_making.proofs.WordsWithin.{entries_count, entries_good, span_o
 use Rattle.cli_words.specs.declared.command.DiskKind.{DiskKind}
 use Rattle.cli_words.specs.declared.table.CommandName.{CommandName}
 use Rattle.cli_words.specs.declared.table.CommandName.TheVariants as command
-use Rattle.cli_words.specs.Commands.{Named, FlatSplit, RunSplit, LiveSplit, SnapSplit, SweepSplit, ResumeSplit, MeasureSplit, ConvertSplit, flat_split, gen_split, run_split, live_split, snap_split, sweep_split, resume_split, show_split, measure_split, convert_split, named_words}
+use Rattle.cli_words.specs.Commands.{Named, FlatSplit, RunSplit, LiveSplit, SnapSplit, SweepSplit, ResumeSplit, MeasureSplit, ConvertSplit, flat_split, gen_split, run_split, survey_split, live_split, snap_split, sweep_split, resume_split, show_split, measure_split, convert_split, named_words}
 use Rattle.cli_plans.specs.declared.refusal.Refusal.{Refusal}
 use Rattle.cli_plans.specs.declared.refusal.Refusal.TheVariants.{OutOfRange, NoCommand}
 use Rattle.cli_plans.specs.declared.words.DrawnOrder.{DrawnOrder}
@@ -66,6 +66,15 @@ not_convert (a ∷ []) other = refl
 not_convert (a ∷ b ∷ []) other = refl
 not_convert (a ∷ b ∷ c ∷ []) other = absurd (other refl)
 not_convert (a ∷ b ∷ c ∷ d ∷ rest) other = refl
+
+pub not_survey : (words : List (List ℕ)) → length words ≢ 5 → survey_split words ≡ None
+not_survey [] other = refl
+not_survey (a ∷ []) other = refl
+not_survey (a ∷ b ∷ []) other = refl
+not_survey (a ∷ b ∷ c ∷ []) other = refl
+not_survey (a ∷ b ∷ c ∷ d ∷ []) other = refl
+not_survey (a ∷ b ∷ c ∷ d ∷ e ∷ []) other = absurd (other refl)
+not_survey (a ∷ b ∷ c ∷ d ∷ e ∷ f ∷ rest) other = refl
 
 pub not_live : (words : List (List ℕ)) → length words ≢ 5 → live_split words ≡ None
 not_live [] other = refl
@@ -295,6 +304,7 @@ command_no_fault command.Shrink rest = λ e. cc e
 command_no_fault command.Snap rest = λ e. cc e
 command_no_fault command.Resume rest = λ e. cc e
 command_no_fault command.Show rest = λ e. cc e
+command_no_fault command.Survey rest = λ e. cc e
 
 pub words_no_read_fault : (words : List (List ℕ)) → NoReadFault (judgement_of_words words)
 unfolding judgement_of_words
@@ -310,6 +320,7 @@ live_after_no_fault command.Shrink rest = λ e. cc e
 live_after_no_fault command.Snap rest = λ e. cc e
 live_after_no_fault command.Resume rest = λ e. cc e
 live_after_no_fault command.Show rest = λ e. cc e
+live_after_no_fault command.Survey rest = λ e. cc e
 live_after_no_fault command.Measure rest = λ e. cc e
 live_after_no_fault command.Convert rest = λ e. cc e
 
@@ -327,6 +338,7 @@ snap_after_no_fault command.Sweep rest = λ e. cc e
 snap_after_no_fault command.Shrink rest = λ e. cc e
 snap_after_no_fault command.Resume rest = λ e. cc e
 snap_after_no_fault command.Show rest = λ e. cc e
+snap_after_no_fault command.Survey rest = λ e. cc e
 snap_after_no_fault command.Measure rest = λ e. cc e
 snap_after_no_fault command.Convert rest = λ e. cc e
 
@@ -344,6 +356,7 @@ sweep_after_no_fault command.Snap rest = λ e. cc e
 sweep_after_no_fault command.Shrink rest = λ e. cc e
 sweep_after_no_fault command.Resume rest = λ e. cc e
 sweep_after_no_fault command.Show rest = λ e. cc e
+sweep_after_no_fault command.Survey rest = λ e. cc e
 sweep_after_no_fault command.Measure rest = λ e. cc e
 sweep_after_no_fault command.Convert rest = λ e. cc e
 
@@ -378,6 +391,7 @@ resume_after_no_fault command.Sweep rest = λ e. cc e
 resume_after_no_fault command.Shrink rest = λ e. cc e
 resume_after_no_fault command.Snap rest = λ e. cc e
 resume_after_no_fault command.Show rest = λ e. cc e
+resume_after_no_fault command.Survey rest = λ e. cc e
 resume_after_no_fault command.Measure rest = λ e. cc e
 resume_after_no_fault command.Convert rest = λ e. cc e
 

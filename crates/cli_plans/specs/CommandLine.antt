@@ -5,7 +5,7 @@ use Rattle.std.specs.Str.{bytes_eq}
 use Rattle.cli_words.specs.declared.command.DiskKind.{DiskKind}
 use Rattle.cli_words.specs.declared.table.CommandName.{CommandName}
 use Rattle.cli_words.specs.declared.table.CommandName.TheVariants as command
-use Rattle.cli_words.specs.Commands.{Named, FlatSplit, RunSplit, LiveSplit, SnapSplit, SweepSplit, ResumeSplit, MeasureSplit, ConvertSplit, flat_split, gen_split, run_split, live_split, snap_split, sweep_split, resume_split, show_split, measure_split, convert_split, named_words}
+use Rattle.cli_words.specs.Commands.{Named, FlatSplit, RunSplit, SurveySplit, LiveSplit, SnapSplit, SweepSplit, ResumeSplit, MeasureSplit, ConvertSplit, flat_split, gen_split, run_split, survey_split, live_split, snap_split, sweep_split, resume_split, show_split, measure_split, convert_split, named_words}
 use Rattle.sv_types.specs.Numbers.{number_within, digest_of}
 use Rattle.spec_processor.specs.Regions.{max_ram_pages}
 use Rattle.sv_types.specs.declared.module.Span.{Span}
@@ -87,7 +87,7 @@ pub record ResumeWords : Type 0 where
   -- where the disk is saved after the report, if it is
   pub save : Option (List ℕ)
 
--- a command of the top call. `live`, `snap`, `sweep`, `shrink`, `resume` and `show` have calls of their own
+-- a command of the top call. `survey`, `live`, `snap`, `sweep`, `shrink`, `resume` and `show` have calls of their own
 pub data Command : Type 0 where
   Flat : (file wanted : List ℕ) → (events : ℕ) → Command
   -- the generated guest, which calls its kernel so many times
@@ -180,6 +180,16 @@ live_words image policy disk out (Some events) = Ok (record { run = block_run im
 
 abbrev pub live_of : LiveSplit → Result LiveWords Refusal
 live_of w = live_words w.image w.policy w.disk w.out (number_within 0 max_live_events w.events)
+
+-- ---- survey IMAGE POLICY DISK SCRIPT EVENTS
+
+unfoldable pub survey_words : (image policy disk : List ℕ) → Option Source → Option ℕ → Result RunWords Refusal
+survey_words image policy disk None events = Err (OutOfRange Word.Script)
+survey_words image policy disk (Some script) None = Err (OutOfRange Word.Events)
+survey_words image policy disk (Some script) (Some events) = Ok (block_run image policy disk script events)
+
+abbrev pub survey_of : SurveySplit → Result RunWords Refusal
+survey_of w = survey_words w.image w.policy w.disk (source_of w.script) (number_within 0 max_events w.events)
 
 -- ---- snap IMAGE POLICY DISK SCRIPT EVENTS OUT
 
@@ -301,6 +311,10 @@ command_after command.Measure rest = split_judged making_judged (measure_split r
 command_after command.Convert rest = split_judged (λ w. Ok (Convert w)) (convert_split rest)
 command_after _ rest = Err NoCommand
 
+abbrev pub survey_after : CommandName → List (List ℕ) → Result RunWords Refusal
+survey_after command.Survey rest = split_judged survey_of (survey_split rest)
+survey_after _ rest = Err NoCommand
+
 abbrev pub live_after : CommandName → List (List ℕ) → Result LiveWords Refusal
 live_after command.Live rest = split_judged live_of (live_split rest)
 live_after _ rest = Err NoCommand
@@ -337,6 +351,9 @@ unfoldable pub judgement_of_words : List (List ℕ) → Result Command Refusal
 judgement_of_words words = named_judged command_after (named_words words)
 
 -- the same of each command that has a call of its own, which refuses the words of all others
+unfoldable pub survey_judged : List (List ℕ) → Result RunWords Refusal
+survey_judged words = named_judged survey_after (named_words words)
+
 unfoldable pub live_judged : List (List ℕ) → Result LiveWords Refusal
 live_judged words = named_judged live_after (named_words words)
 

@@ -246,7 +246,11 @@ image_plan words rules = image_part rules words.image (boot_plan words rules)
 unfoldable pub run_plan : RunWords → Plan
 run_plan words = policy_part words.policy (image_plan words)
 
--- ---- live and snap: what `run` reads and judges for the same words
+-- ---- survey, live and snap: what `run` reads and judges for the same words
+
+unfoldable pub survey_plan : Result RunWords Refusal → Plan
+survey_plan (Err refusal) = End (Refuse refusal)
+survey_plan (Ok words) = Judge (run_plan words)
 
 unfoldable pub live_plan : Result LiveWords Refusal → Plan
 live_plan (Err refusal) = End (Refuse refusal)

@@ -112,6 +112,10 @@ IsInRange (asked.Run run) = run.events ≤ max_events
 IsInRange (asked.MakePolicy policy) = IsTrue (terms_within (terms_value policy.terms)) × IsTrue (are_module_names (map (λ name. name.now) policy.modules.items))
 IsInRange (asked.Convert convert) = Unit {0}
 
+-- a run over the project's block device
+abbrev pub IsSurveyRun : AskedRun → Type 0
+IsSurveyRun run = (run.kind ≡ DiskKind.Block) × (run.events ≤ max_events)
+
 -- a run whose events are drawn after 0, few enough that keys may be among them
 abbrev pub IsDrawnRun : Live → Type 0
 IsDrawnRun live = (live.run.events ≤ max_live_events) × (source_value live.run.script ≡ Auto 0)

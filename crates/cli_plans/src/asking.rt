@@ -2,23 +2,23 @@
 ghost use Rattle.std.specs.Prelude.{◌≡◌, ◌≤◌, IfOk, Ok, false, map, string_bytes};
 ghost use Rattle.std.specs.List.{list_any};
 ghost use Rattle.sv_types.specs.Limits.{max_events};
-ghost use Rattle.cli_words.specs.Commands.{has_dash, flat_split, gen_split, run_split, live_split, snap_split, sweep_split, resume_split, show_split, measure_split, convert_split};
-ghost use Rattle.cli_plans.specs.CommandLine.{Convert, split_judged, flat_judged, gen_judged, run_judged, live_of, snap_of, sweep_of, resume_of, making_judged, command_after, live_after, snap_after, sweep_after, shrink_after, resume_after, show_after, judgement_of_words, live_judged, snap_judged, sweep_judged, shrink_judged, resume_judged, show_judged};
-ghost use Rattle.cli_plans.specs.Words.{IsAsked, IsInRange, IsDrawnRun, IsBlockRun, AreNumbers, command_of, live_value, snap_value, sweep_value, resume_value};
+ghost use Rattle.cli_words.specs.Commands.{has_dash, flat_split, gen_split, run_split, live_split, snap_split, sweep_split, resume_split, show_split, measure_split, convert_split, survey_split};
+ghost use Rattle.cli_plans.specs.CommandLine.{Convert, split_judged, flat_judged, gen_judged, run_judged, live_of, snap_of, sweep_of, resume_of, making_judged, command_after, live_after, snap_after, sweep_after, shrink_after, resume_after, show_after, judgement_of_words, live_judged, snap_judged, sweep_judged, shrink_judged, resume_judged, show_judged, survey_of, survey_after, survey_judged};
+ghost use Rattle.cli_plans.specs.Words.{IsAsked, IsInRange, IsDrawnRun, IsBlockRun, AreNumbers, command_of, live_value, snap_value, sweep_value, resume_value, IsSurveyRun, run_value};
 ghost use Rattle.cli_plans.specs.declared.asking.Unread.TheVariants.{Refused, Memory};
 
 use crate::judgement::{
     judge_convert, judge_flat, judge_generated, judge_live, judge_measure, judge_resume, judge_run,
-    judge_show, judge_snap, judge_sweep,
+    judge_show, judge_snap, judge_survey, judge_sweep,
 };
 use crate::refusal::Refusal;
 use crate::words::{
-    Command, Live, Resume, Snap, Sweep, read_flat, read_generated, read_live, read_measure,
-    read_resume, read_run, read_snap, read_sweep,
+    Command, Live, Resume, Run, Snap, Sweep, read_flat, read_generated, read_live, read_measure,
+    read_resume, read_run, read_snap, read_survey, read_sweep,
 };
 use cli_words::{
     CommandName, DiskKind, named, split_convert, split_flat, split_generated, split_live,
-    split_measure, split_resume, split_run, split_show, split_snap, split_sweep,
+    split_measure, split_resume, split_run, split_show, split_snap, split_survey, split_sweep,
 };
 use std::alloc::{AllocError, Global};
 
@@ -73,7 +73,8 @@ fn ask_after<'a>(
         CommandName::Run(kind) => ask_run(alloc, kind, rest),
         CommandName::Measure => ask_measure(alloc, rest),
         CommandName::Convert => ask_convert(alloc, rest),
-        CommandName::Live
+        CommandName::Survey
+        | CommandName::Live
         | CommandName::Snap
         | CommandName::Sweep
         | CommandName::Shrink
@@ -135,6 +136,36 @@ fn ask_convert<'a>(alloc: Global, rest: &'a [String]) -> Result<Command<'a>, Unr
     judge_convert(rest)?;
     let words = split_convert(alloc, rest)?;
     Ok(Command::Convert(words))
+}
+
+/// What words ask `survey` for.
+#[tactic(auto, unfolding(crate::specs::CommandLine::survey_judged))]
+pub fn ask_survey<'a>(alloc: Global, words: &'a [String]) -> Result<Run<'a>, Unread>
+    ensures asked { IsAsked run_value (survey_judged (map string_bytes words.now)) result }
+    ensures run { IfOk result IsSurveyRun }
+{
+    match named(words) {
+        Some(naming) => survey_after(alloc, naming.command, naming.rest),
+        None => Err(Unread::Refused(Refusal::NoCommand)),
+    }
+}
+
+#[tactic(auto, using(crate::proofs::WordLemmas::split_is_some))]
+fn survey_after<'a>(
+    alloc: Global,
+    command: CommandName,
+    rest: &'a [String],
+) -> Result<Run<'a>, Unread>
+    requires plain { list_any has_dash (map string_bytes rest.now) ≡ false }
+    ensures asked { IsAsked run_value (survey_after command (map string_bytes rest.now)) result }
+    ensures run { IfOk result IsSurveyRun }
+{
+    let CommandName::Survey = command else {
+        return Err(Unread::Refused(Refusal::NoCommand));
+    };
+    judge_survey(rest)?;
+    let words = split_survey(alloc, rest)?;
+    Ok(read_survey(&words)?)
 }
 
 /// What words ask `live` for.

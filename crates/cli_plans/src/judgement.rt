@@ -1,16 +1,17 @@
 // The judgement of the words after a command's name by their places, from left to right, which takes no memory.
 ghost use Rattle.std.specs.Prelude.{Ok, map, string_bytes};
-ghost use Rattle.cli_words.specs.Commands.{flat_split, gen_split, run_split, live_split, snap_split, sweep_split, resume_split, show_split, measure_split, convert_split};
-ghost use Rattle.cli_plans.specs.CommandLine.{Convert, split_judged, flat_judged, gen_judged, run_judged, live_of, snap_of, sweep_of, resume_of, making_judged};
+ghost use Rattle.cli_words.specs.Commands.{flat_split, gen_split, run_split, survey_split, live_split, snap_split, sweep_split, resume_split, show_split, measure_split, convert_split};
+ghost use Rattle.cli_plans.specs.CommandLine.{Convert, split_judged, flat_judged, gen_judged, run_judged, survey_of, live_of, snap_of, sweep_of, resume_of, making_judged};
 ghost use Rattle.cli_plans.specs.Words.{IsJudged};
 
 use crate::refusal::{Refusal, Word};
 use crate::words::{
-    read_flat, read_generated, read_live, read_resume, read_run, read_snap, read_sweep, read_terms,
+    read_flat, read_generated, read_live, read_resume, read_run, read_snap, read_survey,
+    read_sweep, read_terms,
 };
 use cli_words::{
-    CommandName, DiskKind, FlatWords, LiveWords, ResumeWords, RunWords, SnapWords, SweepWords,
-    named,
+    CommandName, DiskKind, FlatWords, LiveWords, ResumeWords, RunWords, SnapWords, SurveyWords,
+    SweepWords, named,
 };
 use policy_making::are_module_names;
 
@@ -23,6 +24,7 @@ pub fn judge(words: &[String]) -> Result<(), Refusal> {
         CommandName::Flat => judge_flat(naming.rest),
         CommandName::Generated => judge_generated(naming.rest),
         CommandName::Run(kind) => judge_run(kind, naming.rest),
+        CommandName::Survey => judge_survey(naming.rest),
         CommandName::Live => judge_live(naming.rest),
         CommandName::Snap | CommandName::Shrink => judge_snap(naming.rest),
         CommandName::Sweep => judge_sweep(naming.rest),
@@ -114,6 +116,25 @@ pub fn judge_convert(rest: &[String]) -> Result<(), Refusal>
 {
     match rest {
         [_, _, _] => Ok(()),
+        _ => Err(Refusal::NoCommand),
+    }
+}
+
+#[tactic(auto, using(crate::proofs::WordLemmas::not_survey))]
+pub fn judge_survey(rest: &[String]) -> Result<(), Refusal>
+    ensures { IsJudged (split_judged survey_of (survey_split (map string_bytes rest.now))) result }
+{
+    match rest {
+        [image, policy, disk, script, events] => {
+            read_survey(&SurveyWords {
+                image: image.as_str(),
+                policy: policy.as_str(),
+                disk: disk.as_str(),
+                script: script.as_str(),
+                events: events.as_str(),
+            })?;
+            Ok(())
+        }
         _ => Err(Refusal::NoCommand),
     }
 }

@@ -7,7 +7,9 @@ mod judgement;
 mod refusal;
 mod words;
 
-pub use asking::{Unread, ask, ask_live, ask_resume, ask_show, ask_shrink, ask_snap, ask_sweep};
+pub use asking::{
+    Unread, ask, ask_live, ask_resume, ask_show, ask_shrink, ask_snap, ask_survey, ask_sweep,
+};
 pub use cli_words::DiskKind;
 pub use file_fault::{FileFault, Part};
 pub use judgement::judge;

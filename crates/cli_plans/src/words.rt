@@ -6,14 +6,14 @@ ghost use Rattle.sv_types.specs.Limits.{max_events, max_harts, min_ram_pages};
 ghost use Rattle.spec_processor.specs.Regions.{max_ram_pages};
 ghost use Rattle.policy_making.specs.WordRanges.{entries_of, are_module_names};
 ghost use Rattle.cli_words.specs.declared.command.DiskKind.{DiskKind};
-ghost use Rattle.cli_words.specs.Values.{flat_split_of, run_split_of, live_split_of, snap_split_of, sweep_split_of, resume_split_of, measure_split_of};
-ghost use Rattle.cli_plans.specs.CommandLine.{flat_judged, gen_judged, run_judged, run_of, block_run, live_of, snap_of, sweep_of, sweep_with, drawn_order_of, most_runs, resume_of, unless_none, source_of, auto_of, bursts_of, making_judged, terms_judged, terms_with, init_of};
-ghost use Rattle.cli_plans.specs.Words.{IsRead, IsInRange, IsDrawnRun, IsBlockRun, AreNumbers, command_of, source_value, run_value, live_value, snap_value, sweep_value, resume_value, terms_value};
+ghost use Rattle.cli_words.specs.Values.{flat_split_of, run_split_of, survey_split_of, live_split_of, snap_split_of, sweep_split_of, resume_split_of, measure_split_of};
+ghost use Rattle.cli_plans.specs.CommandLine.{flat_judged, gen_judged, run_judged, run_of, block_run, survey_of, live_of, snap_of, sweep_of, sweep_with, drawn_order_of, most_runs, resume_of, unless_none, source_of, auto_of, bursts_of, making_judged, terms_judged, terms_with, init_of};
+ghost use Rattle.cli_plans.specs.Words.{IsRead, IsInRange, IsDrawnRun, IsSurveyRun, IsBlockRun, AreNumbers, command_of, source_value, run_value, live_value, snap_value, sweep_value, resume_value, terms_value};
 
 use crate::refusal::{Refusal, Word};
 use cli_words::{
     ConvertWords, DiskKind, FlatWords, LiveWords, MeasureWords, ResumeWords, RunWords, SnapWords,
-    SweepWords,
+    SurveyWords, SweepWords,
 };
 use guest_gen::MAX_CALLS;
 use live_keys::MAX_KEYS;
@@ -249,6 +249,22 @@ pub fn read_snap<'a>(words: &SnapWords<'a>) -> Result<Snap<'a>, Refusal>
         run,
         out: words.out,
     })
+}
+
+/// The words of `survey`: a run whose disk isn't saved.
+#[tactic(auto, unfolding(crate::specs::CommandLine::survey_words))]
+pub fn read_survey<'a>(words: &SurveyWords<'a>) -> Result<Run<'a>, Refusal>
+    ensures read { IsRead run_value (survey_of (survey_split_of words.now)) result }
+    ensures run { IfOk result IsSurveyRun }
+{
+    let Some(script) = source_of(words.script) else {
+        return Err(Refusal::OutOfRange { word: Word::Script });
+    };
+    let Some(events) = number_within(words.events.as_bytes(), 0, MAX_EVENTS) else {
+        return Err(Refusal::OutOfRange { word: Word::Events });
+    };
+    let run = block_run(words.image, words.policy, words.disk, script, events);
+    Ok(run)
 }
 
 // A run over the project's block device, whose disk isn't saved.

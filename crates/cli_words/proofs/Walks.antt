@@ -12,8 +12,8 @@ use Rattle.clap.proofs.WalkLemmas.{both}
 use Rattle.cli_words.specs.declared.command.DiskKind.{DiskKind}
 use Rattle.cli_words.specs.declared.table.CommandName.{CommandName}
 use Rattle.cli_words.specs.declared.table.CommandName.TheVariants as command
-use Rattle.cli_words.specs.Commands.{flat_split, gen_split, run_split, live_split, snap_split, sweep_split, resume_split, show_split, measure_split, convert_split, has_dash}
-use Rattle.cli_words.specs.Parsing.{Finds, HasWords, IsKnown, Want, app_of_wants, bare_app, rule_of_want, flat_wants, gen_wants, run_wants, live_wants, snap_wants, sweep_wants, resume_wants, show_wants, measure_wants, convert_wants, wants_of, flat_found, gen_found, run_found, live_found, snap_found, sweep_found, resume_found, show_found, measure_found, convert_found}
+use Rattle.cli_words.specs.Commands.{flat_split, gen_split, run_split, survey_split, live_split, snap_split, sweep_split, resume_split, show_split, measure_split, convert_split, has_dash}
+use Rattle.cli_words.specs.Parsing.{Finds, HasWords, IsKnown, Want, app_of_wants, bare_app, rule_of_want, flat_wants, gen_wants, run_wants, survey_wants, live_wants, snap_wants, sweep_wants, resume_wants, show_wants, measure_wants, convert_wants, wants_of, flat_found, gen_found, run_found, survey_found, live_found, snap_found, sweep_found, resume_found, show_found, measure_found, convert_found}
 use Rattle.cli_words.proofs.PlainWords.{IsOn, NoneTrails, walk_after, placed_pass, pass_is, walk_is}
 
 -- ---- the words of any command
@@ -109,6 +109,9 @@ gen_is = record { simple = refl; shape = refl; bare = refl; trails = refl }
 run_is : IsAlone run_wants (shape_of_wants run_wants)
 run_is = record { simple = refl; shape = refl; bare = refl; trails = refl }
 
+survey_is : IsAlone survey_wants (shape_of_wants survey_wants)
+survey_is = record { simple = refl; shape = refl; bare = refl; trails = refl }
+
 live_is : IsAlone live_wants (shape_of_wants live_wants)
 live_is = record { simple = refl; shape = refl; bare = refl; trails = refl }
 
@@ -146,6 +149,11 @@ run_read : (kind : DiskKind) (words : List Text) → is_some (run_split kind wor
     → IsRead run_wants (run_found kind) words (run_split kind words)
 run_read kind (a ∷ b ∷ c ∷ d ∷ e ∷ f ∷ []) known plain = read_by _ _ run_is _ _ _ plain refl (refl, (refl, (refl, (refl, (refl, (refl, tt)))))) refl
 run_read kind _ known plain = absurd (true≢false (sym known))
+
+survey_read : (words : List Text) → is_some (survey_split words) ≡ true → list_any has_dash words ≡ false
+    → IsRead survey_wants survey_found words (survey_split words)
+survey_read (a ∷ b ∷ c ∷ d ∷ e ∷ []) known plain = read_by _ _ survey_is _ _ _ plain refl (refl, (refl, (refl, (refl, (refl, tt))))) refl
+survey_read _ known plain = absurd (true≢false (sym known))
 
 live_read : (words : List Text) → is_some (live_split words) ≡ true → list_any has_dash words ≡ false
     → IsRead live_wants live_found words (live_split words)
@@ -249,6 +257,8 @@ words_read command.Generated words known plain =
     let it = gen_read words known plain in record { taken = it.taken; has = it.has; finds = λ rows e. it.is rows _ e refl }
 words_read (command.Run kind) words known plain =
     let it = run_read kind words known plain in record { taken = it.taken; has = it.has; finds = λ rows e. it.is rows _ e refl }
+words_read command.Survey words known plain =
+    let it = survey_read words known plain in record { taken = it.taken; has = it.has; finds = λ rows e. it.is rows _ e refl }
 words_read command.Live words known plain =
     let it = live_read words known plain in record { taken = it.taken; has = it.has; finds = λ rows e. it.is rows _ e refl }
 words_read command.Snap words known plain =

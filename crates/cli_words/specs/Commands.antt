@@ -23,6 +23,14 @@ pub record RunSplit : Type 0 where
   pub events : List ℕ
   pub save : List ℕ
 
+-- survey IMAGE POLICY DISK SCRIPT EVENTS
+pub record SurveySplit : Type 0 where
+  pub image : List ℕ
+  pub policy : List ℕ
+  pub disk : List ℕ
+  pub script : List ℕ
+  pub events : List ℕ
+
 -- live IMAGE POLICY DISK EVENTS OUT
 pub record LiveSplit : Type 0 where
   pub image : List ℕ
@@ -83,6 +91,7 @@ name_of name =
     else if bytes_eq name (codes "gen") then Some command.Generated
     else if bytes_eq name (codes "run") then Some (command.Run DiskKind.Block)
     else if bytes_eq name (codes "vrun") then Some (command.Run DiskKind.Virtio)
+    else if bytes_eq name (codes "survey") then Some command.Survey
     else if bytes_eq name (codes "live") then Some command.Live
     else if bytes_eq name (codes "snap") then Some command.Snap
     else if bytes_eq name (codes "resume") then Some command.Resume
@@ -114,6 +123,11 @@ run_split kind (image ∷ policy ∷ disk ∷ script ∷ events ∷ save ∷ [])
   save = save;
 })
 run_split kind _ = None
+
+abbrev pub survey_split : List (List ℕ) → Option SurveySplit
+survey_split (image ∷ policy ∷ disk ∷ script ∷ events ∷ []) =
+    Some (record { image = image; policy = policy; disk = disk; script = script; events = events })
+survey_split _ = None
 
 abbrev pub live_split : List (List ℕ) → Option LiveSplit
 live_split (image ∷ policy ∷ disk ∷ events ∷ out ∷ []) =

@@ -8,7 +8,7 @@ use Rattle.cli_words.specs.declared.table.CommandName.{CommandName}
 use Rattle.cli_words.specs.declared.table.CommandName.TheVariants as command
 use Rattle.cli_words.specs.declared.table.Argument.{Argument}
 use Rattle.cli_words.specs.declared.table.Argument.TheVariants as argument
-use Rattle.cli_words.specs.Commands.{FlatSplit, RunSplit, LiveSplit, SnapSplit, SweepSplit, ResumeSplit, MeasureSplit, ConvertSplit, flat_split, gen_split, run_split, live_split, snap_split, sweep_split, resume_split, show_split, measure_split, convert_split}
+use Rattle.cli_words.specs.Commands.{FlatSplit, RunSplit, SurveySplit, LiveSplit, SnapSplit, SweepSplit, ResumeSplit, MeasureSplit, ConvertSplit, flat_split, gen_split, run_split, survey_split, live_split, snap_split, sweep_split, resume_split, show_split, measure_split, convert_split}
 
 -- what a command has under a name
 pub data Want : Type 0 where
@@ -29,6 +29,9 @@ gen_wants = One (codes "N") ∷ []
 
 abbrev pub run_wants : List Want
 run_wants = One (codes "IMAGE") ∷ One (codes "POLICY") ∷ One (codes "DISK") ∷ One (codes "SCRIPT") ∷ One (codes "EVENTS") ∷ One (codes "SAVE") ∷ []
+
+abbrev pub survey_wants : List Want
+survey_wants = One (codes "IMAGE") ∷ One (codes "POLICY") ∷ One (codes "DISK") ∷ One (codes "SCRIPT") ∷ One (codes "EVENTS") ∷ []
 
 abbrev pub live_wants : List Want
 live_wants = One (codes "IMAGE") ∷ One (codes "POLICY") ∷ One (codes "DISK") ∷ One (codes "EVENTS") ∷ One (codes "OUT") ∷ []
@@ -57,6 +60,7 @@ abbrev pub wants_of : CommandName → List Want
 wants_of command.Flat = flat_wants
 wants_of command.Generated = gen_wants
 wants_of (command.Run kind) = run_wants
+wants_of command.Survey = survey_wants
 wants_of command.Live = live_wants
 wants_of command.Snap = snap_wants
 wants_of command.Sweep = sweep_wants
@@ -112,6 +116,15 @@ run_found kind rows = record {
   script = word_of (codes "SCRIPT") rows;
   events = word_of (codes "EVENTS") rows;
   save = word_of (codes "SAVE") rows;
+}
+
+abbrev pub survey_found : List Row → SurveySplit
+survey_found rows = record {
+  image = word_of (codes "IMAGE") rows;
+  policy = word_of (codes "POLICY") rows;
+  disk = word_of (codes "DISK") rows;
+  script = word_of (codes "SCRIPT") rows;
+  events = word_of (codes "EVENTS") rows;
 }
 
 abbrev pub live_found : List Row → LiveSplit
@@ -182,6 +195,7 @@ abbrev pub IsKnown : CommandName → List Text → Type 0
 IsKnown command.Flat words = IsTrue (is_some (flat_split words))
 IsKnown command.Generated words = IsTrue (is_some (gen_split words))
 IsKnown (command.Run kind) words = IsTrue (is_some (run_split kind words))
+IsKnown command.Survey words = IsTrue (is_some (survey_split words))
 IsKnown command.Live words = IsTrue (is_some (live_split words))
 IsKnown command.Snap words = IsTrue (is_some (snap_split words))
 IsKnown command.Sweep words = IsTrue (is_some (sweep_split words))
@@ -196,6 +210,7 @@ abbrev pub Finds : CommandName → List Text → List Row → Type 0
 Finds command.Flat words rows = flat_split words ≡ Some (flat_found rows)
 Finds command.Generated words rows = gen_split words ≡ Some (gen_found rows)
 Finds (command.Run kind) words rows = run_split kind words ≡ Some (run_found kind rows)
+Finds command.Survey words rows = survey_split words ≡ Some (survey_found rows)
 Finds command.Live words rows = live_split words ≡ Some (live_found rows)
 Finds command.Snap words rows = snap_split words ≡ Some (snap_found rows)
 Finds command.Sweep words rows = sweep_split words ≡ Some (sweep_found rows)

@@ -1,9 +1,10 @@
 -- What the words of a command are, by value.
 use Rattle.std.specs.Prelude.{map, string_bytes}
-use Rattle.cli_words.specs.Commands.{Named, FlatSplit, RunSplit, LiveSplit, SnapSplit, SweepSplit, ResumeSplit, MeasureSplit, ConvertSplit}
+use Rattle.cli_words.specs.Commands.{Named, FlatSplit, RunSplit, SurveySplit, LiveSplit, SnapSplit, SweepSplit, ResumeSplit, MeasureSplit, ConvertSplit}
 use Rattle.cli_words.specs.declared.naming.Naming.{Naming}
 use Rattle.cli_words.specs.declared.command.FlatWords.{FlatWords}
 use Rattle.cli_words.specs.declared.command.RunWords.{RunWords}
+use Rattle.cli_words.specs.declared.command.SurveyWords.{SurveyWords}
 use Rattle.cli_words.specs.declared.command.LiveWords.{LiveWords}
 use Rattle.cli_words.specs.declared.command.SnapWords.{SnapWords}
 use Rattle.cli_words.specs.declared.command.SweepWords.{SweepWords}
@@ -23,6 +24,15 @@ run_split_of w = record {
   script = w.script.now;
   events = w.events.now;
   save = w.save.now;
+}
+
+abbrev pub survey_split_of : SurveyWords → SurveySplit
+survey_split_of w = record {
+  image = w.image.now;
+  policy = w.policy.now;
+  disk = w.disk.now;
+  script = w.script.now;
+  events = w.events.now;
 }
 
 abbrev pub live_split_of : LiveWords → LiveSplit

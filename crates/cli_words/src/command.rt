@@ -29,6 +29,16 @@ pub struct RunWords<'a> {
     pub save: &'a str,
 }
 
+/// `survey IMAGE POLICY DISK SCRIPT EVENTS`
+#[derive(Drop)]
+pub struct SurveyWords<'a> {
+    pub image: &'a str,
+    pub policy: &'a str,
+    pub disk: &'a str,
+    pub script: &'a str,
+    pub events: &'a str,
+}
+
 /// `live IMAGE POLICY DISK EVENTS OUT`
 #[derive(Drop)]
 pub struct LiveWords<'a> {

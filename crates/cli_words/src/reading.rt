@@ -4,13 +4,13 @@ ghost use Rattle.std.specs.Prelude.{◌≡◌, IfOk, IsTrue, Some, false, map, s
 ghost use Rattle.std.specs.List.{list_any};
 ghost use Rattle.std.specs.Option.{is_some};
 ghost use Rattle.clap.specs.Words.{found_of, rows_of};
-ghost use Rattle.cli_words.specs.Commands.{has_dash, flat_split, gen_split, run_split, live_split, snap_split, sweep_split, resume_split, show_split, measure_split, convert_split};
+ghost use Rattle.cli_words.specs.Commands.{has_dash, flat_split, gen_split, run_split, survey_split, live_split, snap_split, sweep_split, resume_split, show_split, measure_split, convert_split};
 ghost use Rattle.cli_words.specs.Parsing.{Finds, HasWords, IsKnown, wants_of};
-ghost use Rattle.cli_words.specs.Values.{flat_split_of, run_split_of, live_split_of, snap_split_of, sweep_split_of, resume_split_of, measure_split_of, convert_split_of};
+ghost use Rattle.cli_words.specs.Values.{flat_split_of, run_split_of, survey_split_of, live_split_of, snap_split_of, sweep_split_of, resume_split_of, measure_split_of, convert_split_of};
 
 use crate::command::{
     ConvertWords, DiskKind, FlatWords, LiveWords, MeasureWords, ResumeWords, RunWords, SnapWords,
-    SweepWords,
+    SurveyWords, SweepWords,
 };
 use crate::commands::read;
 use crate::found;
@@ -64,6 +64,16 @@ pub fn split_run<'a>(
 {
     let matches = find(alloc, CommandName::Run(kind), words)?;
     Ok(found::run(kind, &matches))
+}
+
+/// `survey IMAGE POLICY DISK SCRIPT EVENTS`
+pub fn split_survey<'a>(alloc: Global, words: &'a [String]) -> Result<SurveyWords<'a>, AllocError>
+    requires known { IsTrue (is_some (survey_split (map string_bytes words.now))) }
+    requires plain { list_any has_dash (map string_bytes words.now) ≡ false }
+    ensures { IfOk result (λ found. survey_split (map string_bytes words.entry.now) ≡ Some (survey_split_of found)) }
+{
+    let matches = find(alloc, CommandName::Survey, words)?;
+    Ok(found::survey(&matches))
 }
 
 /// `live IMAGE POLICY DISK EVENTS OUT`

@@ -12,6 +12,7 @@ pub enum CommandName {
     Generated,
     /// With the block device that its machine has.
     Run(DiskKind),
+    Survey,
     Live,
     Snap,
     Sweep,
@@ -48,6 +49,8 @@ const RUN_NAME: &str = "run";
 
 const VIRTIO_RUN_NAME: &str = "vrun";
 
+const SURVEY_NAME: &str = "survey";
+
 const LIVE_NAME: &str = "live";
 
 const SNAP_NAME: &str = "snap";
@@ -65,7 +68,7 @@ const MEASURE_NAME: &str = "measure";
 const CONVERT_NAME: &str = "convert";
 
 /// All commands, in the order in which they are explained.
-pub static COMMANDS: [CommandRow; 12] = [
+pub static COMMANDS: [CommandRow; 13] = [
     CommandRow {
         name: MEASURE_NAME,
         command: CommandName::Measure,
@@ -85,6 +88,11 @@ pub static COMMANDS: [CommandRow; 12] = [
         name: VIRTIO_RUN_NAME,
         command: CommandName::Run(DiskKind::Virtio),
         about: "the same with a virtio disk",
+    },
+    CommandRow {
+        name: SURVEY_NAME,
+        command: CommandName::Survey,
+        about: "runs a kernel past each write that breaks its policy, and tells what breaks it, and where",
     },
     CommandRow {
         name: LIVE_NAME,
@@ -240,6 +248,14 @@ static RUN: [Argument<'static>; 6] = [
     Argument::One("SAVE"),
 ];
 
+static SURVEY: [Argument<'static>; 5] = [
+    Argument::One("IMAGE"),
+    Argument::One("POLICY"),
+    Argument::One("DISK"),
+    Argument::One("SCRIPT"),
+    Argument::One("EVENTS"),
+];
+
 static LIVE: [Argument<'static>; 5] = [
     Argument::One("IMAGE"),
     Argument::One("POLICY"),
@@ -301,6 +317,7 @@ pub fn arguments_of(command: CommandName) -> &'static [Argument<'static>]
         CommandName::Flat => &FLAT,
         CommandName::Generated => &GENERATED,
         CommandName::Run(_) => &RUN,
+        CommandName::Survey => &SURVEY,
         CommandName::Live => &LIVE,
         CommandName::Snap => &SNAP,
         CommandName::Sweep => &SWEEP,
@@ -321,6 +338,7 @@ pub fn command_of_name(name: &str) -> Option<CommandName>
         GENERATED_NAME => Some(CommandName::Generated),
         RUN_NAME => Some(CommandName::Run(DiskKind::Block)),
         VIRTIO_RUN_NAME => Some(CommandName::Run(DiskKind::Virtio)),
+        SURVEY_NAME => Some(CommandName::Survey),
         LIVE_NAME => Some(CommandName::Live),
         SNAP_NAME => Some(CommandName::Snap),
         RESUME_NAME => Some(CommandName::Resume),

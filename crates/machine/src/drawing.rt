@@ -9,7 +9,7 @@ use sv_types::Event;
 
 /// The first events of a source, drawn in rows of equal ones.
 #[derive(Drop)]
-pub(crate) struct Drawing<S> {
+pub struct Drawing<S> {
     source: S,
     // The events that are still to be drawn.
     undrawn: u64,
@@ -19,7 +19,8 @@ pub(crate) struct Drawing<S> {
 
 impl<S: EventSource> Drawing<S> {
     #[inline(always)]
-    pub(crate) fn new(source: S, events: u64) -> Drawing<S>
+    /// The first `events` of a source.
+    pub fn new(source: S, events: u64) -> Drawing<S>
         ensures left { events_left S.schedule result ≡ first_events events (S.schedule source) }
         ensures count { count_left result ≡ events }
     {
@@ -35,7 +36,7 @@ impl<S: EventSource> Drawing<S> {
 
     /// The next events that are equal. They stay until they were made. None where none is left.
     #[inline(always)]
-    pub(crate) fn draw(&mut self) -> Option<EventRun>
+    pub fn draw(&mut self) -> Option<EventRun>
         ensures batch { IfSome result (IsAtHand S.schedule self.old self.new) }
         ensures none { result ≡ None → events_left S.schedule self.old ≡ [] }
     {
@@ -51,7 +52,7 @@ impl<S: EventSource> Drawing<S> {
 
     /// So many of the equal events were made.
     #[inline(always)]
-    pub(crate) fn count_down(&mut self, count: u64)
+    pub fn count_down(&mut self, count: u64)
         requires { count ≤ self.old.batch.count }
         ensures left { events_left S.schedule self.old ≡ replicate count self.old.batch.event ++ events_left S.schedule self.new }
         ensures count { count_left self.new + count ≡ count_left self.old }

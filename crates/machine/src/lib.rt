@@ -14,6 +14,7 @@ mod start;
 mod text;
 
 pub use boot::BootRefusal;
+pub use drawing::Drawing;
 pub use hw_devices::SECTOR_BYTES;
 pub use machine::Machine;
 pub use resume::ResumeFailure;

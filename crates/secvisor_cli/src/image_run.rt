@@ -61,8 +61,8 @@ pub fn prepare_run<'a, R: Threads + Sync, F: Files>(
     boot_file(rt, alloc, asked, policy, &file, files)
 }
 
-// An image's file is judged, then the disk and the script are read, and the machine boots.
-fn boot_file<'a, R: Threads + Sync, F: Files>(
+/// An image's file is judged, then the disk and the script are read, and the machine boots.
+pub fn boot_file<'a, R: Threads + Sync, F: Files>(
     rt: &R,
     alloc: Global,
     asked: &Run<'a>,

@@ -45,6 +45,19 @@ is_found fs key = list_any (λ f. f.key == key) fs
 unfoldable pub after_occurrence : List Finding → Occurrence → List Finding
 after_occurrence fs p = if is_found fs p.key || nat_lt (length fs) max_findings then with_occurrence fs p else fs
 
+-- ---- the writes that a survey passes over
+
+-- those of each pc, and how many they are in all, whether their findings are kept or not
+pub record PassedWrites : Type 0 where
+  pub findings : List Finding
+  pub total : ℕ
+
+abbrev pub no_writes : PassedWrites
+no_writes = record { findings = []; total = 0 }
+
+abbrev pub with_write : PassedWrites → Occurrence → PassedWrites
+with_write w o = record { findings = after_occurrence w.findings o; total = raised w.total }
+
 -- ---- from notes
 
 -- the address of the page of RAM in which an address lies

@@ -1,12 +1,12 @@
 -- The lines of a survey's findings. This project's own.
-use Rattle.std.specs.Prelude.{ℕ, List, [], ◌++◌, flat_map, Option, Some, None, codes}
+use Rattle.std.specs.Prelude.{ℕ, List, [], ◌++◌, ◌==◌, if◌then◌else◌, flat_map, Option, Some, None, codes}
 use Rattle.std.specs.Fmt.{decimal}
 use Rattle.sv_types.specs.Output.{line_end, address_text}
 use Rattle.elf64_symbols.specs.Symbols.{Location}
 use Rattle.elf64_symbols.specs.Names.{KernelNames, name_of_gpa, name_of_pc}
 use Rattle.elf64_symbols.specs.Printed.{location_text}
 use Rattle.sv_types.specs.declared.event.Note.{Note}
-use Rattle.survey_findings.specs.Findings.{demotions, denied_moves}
+use Rattle.survey_findings.specs.Findings.{PassedWrites, demotions, denied_moves}
 use Rattle.survey_findings.specs.declared.findings.Finding.{Finding}
 
 -- the name of an address, or a dash
@@ -34,6 +34,10 @@ write_line names f = joined_line (write_head f) (write_range f) (name_text (name
 unfoldable pub write_lines : KernelNames → List Finding → List ℕ
 write_lines names findings = flat_map (write_line names) findings
 
+-- how many writes there were, where there were any
+unfoldable pub total_line : (total : ℕ) → List ℕ
+total_line total = if total == 0 then [] else codes "writes " ++ (decimal total ++ line_end)
+
 -- ---- demotions and denied moves
 
 unfoldable pub fetch_head : Finding → List ℕ
@@ -59,5 +63,6 @@ denied_lines findings = flat_map denied_line findings
 
 -- ---- all of a survey: the writes that it passed over, and what its notes say
 
-unfoldable pub survey_lines : KernelNames → (writes : List Finding) → List Note → List ℕ
-survey_lines names writes notes = (write_lines names writes ++ fetch_lines names (demotions [] notes)) ++ denied_lines (denied_moves [] notes)
+unfoldable pub survey_lines : KernelNames → PassedWrites → List Note → List ℕ
+survey_lines names writes notes =
+    ((write_lines names writes.findings ++ total_line writes.total) ++ fetch_lines names (demotions [] notes)) ++ denied_lines (denied_moves [] notes)

@@ -2,6 +2,7 @@
 
 ghost use Rattle.std.specs.Prelude.{◌≡◌, ◌<◌, [], length, IfOk, OnOk};
 ghost use Rattle.survey_findings.specs.Findings as spec;
+ghost use Rattle.survey_findings.specs.Views.{writes_view};
 
 use spec_processor::PAGE_BYTES;
 use std::alloc::{AllocError, Global};
@@ -84,9 +85,8 @@ fn join(findings: &mut Vec<Finding>, place: usize, occurrence: &Occurrence)
     findings[place] = joined(&findings[place], occurrence);
 }
 
-/// One occurrence more: it joins the finding of its key, or begins one after the others where there is room for it. Fails where
-/// memory runs out.
-pub fn add(findings: &mut Vec<Finding>, occurrence: &Occurrence) -> Result<(), AllocError>
+// One occurrence more: it joins the finding of its key, or begins one after the others where there is room for it.
+fn add(findings: &mut Vec<Finding>, occurrence: &Occurrence) -> Result<(), AllocError>
     ensures { OnOk result (findings.new.items ≡ spec.after_occurrence findings.old.items occurrence.now) }
 {
     if let Some(place) = place_of(findings, occurrence) {
@@ -96,6 +96,32 @@ pub fn add(findings: &mut Vec<Finding>, occurrence: &Occurrence) -> Result<(), A
     if findings.len() < MAX_FINDINGS {
         findings.push(first_finding(occurrence))?;
     }
+    Ok(())
+}
+
+/// The writes that a survey passed over: those of each pc, and how many they are in all, whether their findings are kept or not.
+#[derive(Drop)]
+pub struct Writes {
+    pub findings: Vec<Finding>,
+    pub total: u64,
+}
+
+/// No writes yet.
+pub fn no_writes(alloc: Global) -> Writes
+    ensures { writes_view result ≡ spec.no_writes }
+{
+    Writes {
+        findings: Vec::new(alloc),
+        total: 0,
+    }
+}
+
+/// One write more. Fails where memory runs out.
+pub fn add_write(writes: &mut Writes, write: &Occurrence) -> Result<(), AllocError>
+    ensures { OnOk result (writes_view writes.new ≡ spec.with_write (writes_view writes.old) write.now) }
+{
+    add(&mut writes.findings, write)?;
+    writes.total = raised(writes.total);
     Ok(())
 }
 
@@ -152,7 +178,7 @@ fn add_denied(findings: &mut Vec<Finding>, note: Note) -> Result<(), AllocError>
 }
 
 /// The pages at which kernel mode was left, by the notes of a run. Fails where memory runs out.
-pub fn demotions(alloc: Global, notes: &[Note]) -> Result<Vec<Finding>, AllocError>
+pub(crate) fn demotions(alloc: Global, notes: &[Note]) -> Result<Vec<Finding>, AllocError>
     ensures { IfOk result (λ found. found.items ≡ spec.demotions [] notes.now) }
 {
     let mut found = Vec::new(alloc);
@@ -163,7 +189,7 @@ pub fn demotions(alloc: Global, notes: &[Note]) -> Result<Vec<Finding>, AllocErr
 }
 
 /// The pages that devices were kept from, by the notes of a run. Fails where memory runs out.
-pub fn denied_moves(alloc: Global, notes: &[Note]) -> Result<Vec<Finding>, AllocError>
+pub(crate) fn denied_moves(alloc: Global, notes: &[Note]) -> Result<Vec<Finding>, AllocError>
     ensures { IfOk result (λ found. found.items ≡ spec.denied_moves [] notes.now) }
 {
     let mut found = Vec::new(alloc);

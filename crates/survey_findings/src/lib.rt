@@ -7,5 +7,5 @@ mod lines;
 #[cfg(test)]
 mod tests;
 
-pub use findings::{Finding, MAX_FINDINGS, Occurrence, add, demotions, denied_moves};
+pub use findings::{Finding, MAX_FINDINGS, Occurrence, Writes, add_write, no_writes};
 pub use lines::survey_lines;

@@ -4,8 +4,9 @@ ghost use Rattle.std.specs.Prelude.{◌≡◌, ◌++◌, IfOk, OnOk, option_map,
 ghost use Rattle.elf64_symbols.specs.KernelViews.{names_view};
 ghost use Rattle.elf64_symbols.specs.Views.{location_view};
 ghost use Rattle.survey_findings.specs.Lines as spec;
+ghost use Rattle.survey_findings.specs.Views.{writes_view};
 
-use crate::findings::{Finding, demotions, denied_moves};
+use crate::findings::{Finding, Writes, demotions, denied_moves};
 use elf64_symbols::{KernelNames, Location, location_text};
 use std::alloc::{AllocError, Global};
 use sv_types::Note;
@@ -101,6 +102,17 @@ fn push_write_lines(
     Ok(())
 }
 
+// How many writes there were, where there were any.
+#[tactic(auto, unfolding(crate::specs::Lines::total_line))]
+fn total_line(alloc: Global, total: u64) -> Result<String, AllocError>
+    ensures { IfOk result (λ t. string_bytes t ≡ spec.total_line total) }
+{
+    if total == 0 {
+        return Ok(String::new(alloc));
+    }
+    format!(in alloc; "writes {total}\n")
+}
+
 // Where kernel mode was left, and how often.
 #[tactic(auto, unfolding(crate::specs::Lines::fetch_head))]
 fn fetch_head(alloc: Global, finding: &Finding) -> Result<String, AllocError>
@@ -191,19 +203,21 @@ fn push_denied_lines(
 
 /// The lines of a survey's findings. First those of the writes that it passed over, in the order of their first turns: of each pc how
 /// often it wrote, the first hart and turn, the lowest and highest address, and the names of the pc and of the lowest address, or a
-/// dash. Then by the notes those of the pages at which kernel mode was left, with the first hart, turn and pc, and of the pages that
+/// dash, and then how many writes there were in all, where there were any. Then by the notes those of the pages at which kernel mode was left, with the first hart, turn and pc, and of the pages that
 /// devices were kept from. Fails where memory runs out.
 #[tactic(auto, unfolding(crate::specs::Lines::survey_lines))]
 pub fn survey_lines(
     alloc: Global,
     names: &KernelNames,
-    writes: &[Finding],
+    writes: &Writes,
     notes: &[Note],
 ) -> Result<Vec<u8>, AllocError>
-    ensures { IfOk result (λ t. t.items ≡ spec.survey_lines (names_view names.now) writes.now notes.now) }
+    ensures { IfOk result (λ t. t.items ≡ spec.survey_lines (names_view names.now) (writes_view writes.now) notes.now) }
 {
     let mut text = Vec::new(alloc);
-    push_write_lines(alloc, &mut text, names, writes)?;
+    push_write_lines(alloc, &mut text, names, &writes.findings)?;
+    let total = total_line(alloc, writes.total)?;
+    text.extend_from_slice(total.as_str().as_bytes())?;
     let demotions = demotions(alloc, notes)?;
     push_fetch_lines(alloc, &mut text, names, &demotions)?;
     let denied = denied_moves(alloc, notes)?;

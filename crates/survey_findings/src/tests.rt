@@ -1,6 +1,6 @@
 // The lines of a small survey of a kernel without symbols.
 
-use crate::findings::{Occurrence, add};
+use crate::findings::{Occurrence, add_write, no_writes};
 use crate::lines::survey_lines;
 use elf64_symbols::KernelNames;
 use std::alloc::{AllocError, Global};
@@ -34,12 +34,13 @@ static NOTES: [Note; 3] = [
 const LINES: &str =
     "write pc 0x0000000080001004 times 3 hart 0 turn 7 gpa 0x0000000080002008 to 0x0000000080002018 by - at -
 write pc 0x0000000080001008 times 1 hart 1 turn 9 gpa 0x0000000080002000 to 0x0000000080002000 by - at -
+writes 4
 fetch gpa 0x0000000080003000 times 2 hart 0 turn 20 pc 0x0000000080003004 by -
 denied gpa 0x0000000080001000 times 1
 ";
 
 fn lines(alloc: Global) -> Result<Vec<u8>, AllocError> {
-    let mut writes = Vec::new(alloc);
+    let mut writes = no_writes(alloc);
     for (key, address, hart, turn) in &WRITES {
         let occurrence = Occurrence {
             key: *key,
@@ -47,7 +48,7 @@ fn lines(alloc: Global) -> Result<Vec<u8>, AllocError> {
             hart: *hart,
             turn: *turn,
         };
-        add(&mut writes, &occurrence)?;
+        add_write(&mut writes, &occurrence)?;
     }
     let names = KernelNames {
         tables: None,

@@ -1,7 +1,16 @@
 use Rattle.std.proofs.Common.{refl, sym, ◌∙◌}
-use Rattle.cli_dispatch.specs.declared.choice.TopCall.TheVariants.{Live, Sweep, Shrink, Resume, Others}
+use Rattle.cli_dispatch.specs.declared.choice.TopCall.TheVariants.{Live, Sweep, Shrink, Resume, Others, Survey}
 use Rattle.cli_dispatch.proofs.Owing.{owed_of}
 use Rattle.cli_dispatch.proofs.call.answer.Goals as goal
+
+pub returns-in-Survey-clause-owed : goal.returns-in-Survey-clause-owed
+returns-in-Survey-clause-owed g c = owed_of Survey _ _ _ _ _ (sym c.in-Survey.is ∙ c.top_call_of.ensures)
+    (record {
+      headline = c.secvisor_survey.ensures.headline;
+      unread = c.secvisor_survey.ensures.unread;
+      unsaved = c.secvisor_survey.ensures.same;
+      keys = refl;
+    })
 
 pub returns-in-Live-clause-owed : goal.returns-in-Live-clause-owed
 returns-in-Live-clause-owed g c = owed_of Live _ _ _ _ _ (sym c.in-Live.is ∙ c.top_call_of.ensures)

@@ -1,0 +1,5 @@
+pub mod SurveyLemmas
+pub mod ReadyLemmas
+pub mod EndLemmas
+pub mod AnswerLemmas
+pub mod NoFindings

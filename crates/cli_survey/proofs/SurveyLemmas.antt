@@ -1,0 +1,342 @@
+-- A survey, its console and the sink.
+use Rattle.std.proofs.Common.{◌≡◌, ◌≢◌, ℕ, zero, suc, ◌<◌, ◌≤◌, List, [], ◌∷◌, ◌++◌, length, take, replicate, refl, sym, ◌∙◌, ap, subst, append_assoc, append-nil, arith, slice_get, Some, inl, inr, true, false}
+use Rattle.sv_types.specs.Limits.{max_printed}
+use Rattle.sv_types.specs.declared.event.Counts.{Counts}
+use Rattle.sv_types.specs.declared.event.Event.{Event}
+use Rattle.sv_types.specs.declared.event.Rule.TheVariants.{Entry, Write}
+use Rattle.sv_types.specs.declared.event.Verdict.{Verdict}
+use Rattle.sv_types.specs.declared.event.Verdict.TheVariants.{Running, Shutdown, Stopped}
+use Rattle.std.specs.Prelude.{Option, None}
+use Rattle.spec_reference.specs.Counting.{CountsAtMost}
+use Rattle.spec_reference.specs.Run.{HasEnded, run, step}
+use Rattle.spec_reference.specs.Soundness.{IsSound}
+use Rattle.spec_reference.specs.Start.{IsStart, flat_start, boot_start, virtio_start, start as begin}
+use Rattle.spec_reference.specs.States.{State}
+use Rattle.spec_reference.proofs.Runs.{ended_stays, run_on}
+use Rattle.spec_hardware.specs.Machine.{Machine, HwHart}
+use Rattle.spec_hardware.specs.Reaches.{IsNew}
+use Rattle.spec_hardware.specs.StandsFor.{StandsFor}
+use Rattle.laws_invariants.proofs.StateLawsHold.{reached_sound}
+use Rattle.laws_simulation.proofs.RunsReach.{clear_law}
+use Rattle.laws_resume.specs.Keepable.{IsKeepable, IsKeepableVerdict}
+use Rattle.laws_resume.proofs.KeepableStarts.{keepable_law}
+use Rattle.laws_resume.proofs.KeepableSteps.{keeps_law}
+use Rattle.laws_survey.specs.HwPassing.{hw_moved_on, hw_passed_under, hw_passed_over}
+use Rattle.laws_survey.specs.Passing.{passed_over, survey_step, survey}
+use Rattle.laws_survey.specs.Passes.{Pass, pass_of, passes, IsRow}
+use Rattle.laws_survey.specs.SurveyLaws.{IsNoWrite}
+use Rattle.laws_survey.proofs.HwPassesHold.{hw_pass_law}
+use Rattle.laws_survey.proofs.PassesHold.{moves_on_law, pass_law}
+use Rattle.laws_survey.proofs.RowsHold.{passes_on_law, row_law}
+use Rattle.laws_survey.proofs.SurveysHold.{same_run_law, unpassed}
+use Rattle.laws_survey_guarantee.proofs.SurveysKeep.{survey_keeps}
+use Rattle.host_io.specs.Outside.{SinkState, after_taking, BreaksOff}
+use Rattle.host_io.proofs.SinkLemmas.{after_taking-append, after_taking-nil}
+use Rattle.machine.specs.Repeats.{Repeats}
+use Rattle.machine.specs.Console.{Flushed}
+use Rattle.machine.specs.Standing.{HasState, Stands}
+use Rattle.machine.proofs.ConsoleLemmas.{flushed_counts, room_again}
+use Rattle.machine.proofs.Passes.{pass_rest}
+use Rattle.machine.proofs.Repeated.{counts_within, one_more, repeats_stand}
+use Rattle.machine.proofs.Standing.{stands_new, stands_step, stands_away, stands_verdict, verdict_is}
+use Rattle.survey_findings.specs.Findings.{PassedWrites, no_writes, with_write}
+use Rattle.survey_findings.specs.Views.{writes_view}
+use Rattle.survey_findings.specs.declared.findings.Writes.{Writes}
+use Rattle.cli_survey.specs.Surveys.{HasSurveyed, StandsAmong, SurveyBroke, SurveyWants, is_running, occurrence_of, with_passes, writes_in}
+
+-- ---- events after others
+
+pub survey_on : (r : State) (front back : List Event) → survey r (front ++ back) ≡ survey (survey r front) back
+survey_on r [] back = refl
+survey_on r (e ∷ front) back = survey_on (survey_step r e) front back
+
+passed_on : (w : PassedWrites) (ps qs : List Pass) → with_passes w (ps ++ qs) ≡ with_passes (with_passes w ps) qs
+passed_on w [] qs = refl
+passed_on w (p ∷ ps) qs = passed_on (with_write w (occurrence_of p)) ps qs
+
+writes_on : (r : State) (front back : List Event) → writes_in r (front ++ back) ≡ with_passes (writes_in r front) (passes (survey r front) back)
+writes_on r front back =
+    ap (λ (ps : List Pass). with_passes no_writes ps) (passes_on_law r front back) ∙ passed_on no_writes (passes r front) (passes (survey r front) back)
+
+-- ---- a row of equal events
+
+none_running : (v : Verdict) → v ≡ Running → IsNoWrite v
+none_running v is = subst IsNoWrite (sym is) tt
+
+row_of : (k : ℕ) (m next : Machine) (e : Event) (r : State) → StandsFor m r → m.journal.verdict ≡ Running → Repeats (suc k) m e next → IsRow r k e
+row_of k m next e r s running (before, (those, (on, makes))) =
+    let mid : State = run r (replicate k e) in
+    let here : StandsFor before mid = repeats_stand k m before e those r s in
+    row_law r k e (none_running mid.journal.verdict (sym (verdict_is before mid here) ∙ on.running running))
+
+stands_row : (n : ℕ) (m next : Machine) (e : Event) (r : State) (cleared : List ℕ) → Stands m cleared r → Repeats n m e next → Stands next cleared (run r (replicate n e))
+stands_row zero m next e r cleared s same = subst (λ (x : Machine). Stands x cleared r) (sym same) s
+stands_row (suc k) m next e r cleared s (mid, (those, (on, makes))) =
+    let here : Stands mid cleared (run r (replicate k e)) = stands_row k m mid e r cleared s those in
+    subst (λ (x : State). Stands next cleared x)
+    (sym (run_on r (replicate k e) (e ∷ [])) ∙ ap (λ (events : List Event). run r events) (one_more k e))
+    (stands_step mid next (run r (replicate k e)) cleared e here (makes.stands (run r (replicate k e)) here.stands) makes.event)
+
+-- ---- a pass
+
+pub passed_prints : (r : State) → (passed_over r).journal.printed ≡ r.journal.printed
+passed_prints r = ap (λ (x : State). x.journal.printed) (pass_law r).rest
+
+stands_passed : (m : Machine) (cleared : List ℕ) (r : State) → Stands m cleared r → Stands (hw_passed_over m) cleared (passed_over r)
+stands_passed m cleared r s = record {
+  stands = hw_pass_law m r s.stands;
+  away =
+      s.away ∙ ap (λ (p : List ℕ). take m.cleared p) (sym (passed_prints r))
+      ∙ ap (λ (n : ℕ). take n (passed_over r).journal.printed) (sym (pass_rest m).cleared);
+}
+
+moved_counts : (m : Machine) (h : ℕ) (x : Option HwHart) → (hw_moved_on m h x).journal.counts ≡ m.journal.counts
+unfolding hw_moved_on
+moved_counts m h None = refl
+moved_counts m h (Some hw) = refl
+
+under_counts : (v : Verdict) (m : Machine) → (hw_passed_under v m).journal.counts ≡ m.journal.counts
+unfolding hw_passed_under
+under_counts Running m = refl
+under_counts Shutdown m = refl
+under_counts (Stopped (Entry target) h turn) m = refl
+under_counts (Stopped (Write pc gpa) h turn) m = moved_counts m h (slice_get m.harts h)
+
+pass_counts : (m : Machine) → (hw_passed_over m).journal.counts ≡ m.journal.counts
+unfolding hw_passed_over
+pass_counts m = under_counts m.journal.verdict m
+
+-- a machine that runs is passed over as it is
+pub pass_running : (m : Machine) → m.journal.verdict ≡ Running → m ≡ hw_passed_over m
+unfolding hw_passed_over hw_passed_under
+pass_running m is = sym (ap (λ (v : Verdict). hw_passed_under v m) is)
+
+-- and nothing is kept of it
+pub keeps_writes : (w : PassedWrites) (v : Verdict) → v ≡ Running → w ≡ with_passes w (pass_of v)
+unfolding pass_of
+keeps_writes w v is = sym (ap (λ (x : Verdict). with_passes w (pass_of x)) is)
+
+pub running_is : (v : Verdict) → is_running v ≡ true → v ≡ Running
+running_is Running is = refl
+running_is Shutdown is = absurd (cc is)
+running_is (Stopped rule h turn) is = absurd (cc is)
+
+pub not_running : (v : Verdict) → is_running v ≡ false → v ≢ Running
+not_running Running is = λ at. cc is
+not_running Shutdown is = λ at. cc at
+not_running (Stopped rule h turn) is = λ at. cc at
+
+-- ---- after a pass no write stops the machine, since the hart that wrote is there
+
+at_place : {A : Type 0} (xs : List A) (i : ℕ) → i < length xs → (x : A) × (slice_get xs i ≡ Some x)
+at_place [] i below = absurd (omega arith)
+at_place (x ∷ xs) zero below = (x, refl)
+at_place (x ∷ xs) (suc i) below = at_place xs i (omega arith)
+
+same_calm : (r : State) → IsNoWrite r.journal.verdict → IsNoWrite (passed_over r).journal.verdict
+same_calm r none = subst (λ (x : State). IsNoWrite x.journal.verdict) (sym (unpassed r none)) none
+
+calm_under : (v : Verdict) (r : State) → r.journal.verdict ≡ v → IsKeepableVerdict r.rules.harts v → length r.harts ≡ r.rules.harts → IsNoWrite (passed_over r).journal.verdict
+calm_under Running r is k number = same_calm r (subst IsNoWrite (sym is) tt)
+calm_under Shutdown r is k number = same_calm r (subst IsNoWrite (sym is) tt)
+calm_under (Stopped (Entry target) h turn) r is k number = same_calm r (subst IsNoWrite (sym is) tt)
+calm_under (Stopped (Write pc gpa) h turn) r is k number =
+    let there = at_place r.harts h (subst (λ (n : ℕ). h < n) (sym number) k.0) in
+    none_running (passed_over r).journal.verdict (moves_on_law r pc gpa h turn there.0 is there.1).running
+
+calm_after : (r : State) → IsKeepable r → IsSound r → IsNoWrite (passed_over r).journal.verdict
+calm_after r k s = calm_under r.journal.verdict r refl k.journal.last s.number
+
+-- ---- the survey so far
+
+-- the survey goes on: so far the machine has been surveyed over some of the events, and the others are left
+pub record SurveysOn (start : State) (all left : List Event) (m : Machine) (writes : Writes) (old new : SinkState) : Type 0 where
+  pub done : List Event
+  pub split : done ++ left ≡ all
+  pub surveyed : HasSurveyed start done m writes old new
+  pub calm : IsNoWrite (survey start done).journal.verdict
+
+start_runs : (s : State) → IsStart s → s.journal.verdict ≡ Running
+unfolding flat_start boot_start virtio_start begin
+start_runs s (inl k) = ap (λ (x : State). x.journal.verdict) k.same
+start_runs s (inr (inl k)) = ap (λ (x : State). x.journal.verdict) k.same
+start_runs s (inr (inr k)) = ap (λ (x : State). x.journal.verdict) k.same
+
+pub new_runs : (m : Machine) (s : State) → IsNew m s → IsStart s → m.journal.verdict ≡ Running
+new_runs m s new is_start = verdict_is m s new.stands ∙ start_runs s is_start
+
+pub surveys_none : (start : State) (all left : List Event) (m : Machine) (w : Writes) (sink : SinkState) → left ≡ all → IsNew m start → IsStart start → writes_view w ≡ no_writes →
+    SurveysOn start all left m w sink sink
+surveys_none start all left m w sink same new is_start none = record {
+  done = [];
+  split = same;
+  surveyed = record { cleared = []; stands = stands_new m start new; writes_are = none; taken = sym (after_taking-nil sink) };
+  calm = none_running start.journal.verdict (start_runs start is_start);
+}
+
+split_by : (all done left rest row : List Event) → left ≡ row ++ rest → done ++ left ≡ all → (done ++ row) ++ rest ≡ all
+split_by all done left rest row parts split = append_assoc done row rest ∙ ap (λ (events : List Event). done ++ events) (sym parts) ∙ split
+
+-- what a row of events, and a pass at its end, come to
+record HasMoved (start : State) (all rest : List Event) (m next passed : Machine) (done : List Event) (cleared : List ℕ) (n : ℕ) (e : Event) : Type 0 where
+  split : (done ++ replicate n e) ++ rest ≡ all
+  before : Stands next cleared (run (survey start done) (replicate n e))
+  row : passes (survey start done) (replicate n e) ≡ pass_of (run (survey start done) (replicate n e)).journal.verdict
+  reached : survey start (done ++ replicate n e) ≡ passed_over (run (survey start done) (replicate n e))
+  stands : Stands passed cleared (survey start (done ++ replicate n e))
+
+moved : (n : ℕ) (start : State) (all left rest : List Event) (m next passed : Machine) (w : Writes) (e : Event) (old now : SinkState) → 0 < n → m.journal.verdict ≡ Running →
+    (on : SurveysOn start all left m w old now) → left ≡ replicate n e ++ rest → Repeats n m e next → passed ≡ hw_passed_over next →
+    HasMoved start all rest m next passed on.done on.surveyed.cleared n e
+moved zero start all left rest m next passed w e old now some running on parts repeats is = absurd (omega arith)
+moved (suc k) start all left rest m next passed w e old now some running on parts repeats is =
+    let r : State = survey start on.done in
+    let row : List Event = replicate (suc k) e in
+    let it : IsRow r k e = row_of k m next e r on.surveyed.stands.stands running repeats in
+    let before : Stands next on.surveyed.cleared (run r row) = stands_row (suc k) m next e r on.surveyed.cleared on.surveyed.stands repeats in
+    let reached : survey start (on.done ++ row) ≡ passed_over (run r row) = survey_on start on.done row ∙ it.state in
+    record {
+      split = split_by all on.done left rest row parts on.split;
+      before = before;
+      row = it.passed;
+      reached = reached;
+      stands =
+          subst (λ (x : Machine). Stands x on.surveyed.cleared (survey start (on.done ++ row))) (sym is)
+          (subst (λ (x : State). Stands (hw_passed_over next) on.surveyed.cleared x) (sym reached) (stands_passed next on.surveyed.cleared (run r row) before));
+    }
+
+pub surveys_more : (n : ℕ) (start : State) (all left rest : List Event) (m next passed : Machine) (w after : Writes) (e : Event) (old now : SinkState) → IsStart start → 0 < n →
+    m.journal.verdict ≡ Running → SurveysOn start all left m w old now → left ≡ replicate n e ++ rest → Repeats n m e next → passed ≡ hw_passed_over next →
+    writes_view after ≡ with_passes (writes_view w) (pass_of next.journal.verdict) → SurveysOn start all rest passed after old now
+surveys_more n start all left rest m next passed w after e old now is_start some running on parts repeats is kept =
+    let r : State = survey start on.done in
+    let row : List Event = replicate n e in
+    let it : HasMoved start all rest m next passed on.done on.surveyed.cleared n e = moved n start all left rest m next passed w e old now some running on parts repeats is in
+    let first : IsSound start = reached_sound start [] is_start in
+    let keeps : IsKeepable r = survey_keeps start on.done (keepable_law start [] is_start) first in
+    record {
+      done = on.done ++ row;
+      split = it.split;
+      surveyed = record {
+        cleared = on.surveyed.cleared;
+        stands = it.stands;
+        writes_are =
+            kept ∙ ap (λ (x : PassedWrites). with_passes x (pass_of next.journal.verdict)) on.surveyed.writes_are
+            ∙ ap (λ (v : Verdict). with_passes (writes_in start on.done) (pass_of v)) (verdict_is next (run r row) it.before.stands)
+            ∙ ap (λ (ps : List Pass). with_passes (writes_in start on.done) ps) (sym it.row)
+            ∙ sym (writes_on start on.done row);
+        taken = on.surveyed.taken;
+      };
+      calm =
+          subst (λ (x : State). IsNoWrite x.journal.verdict) (sym it.reached)
+          (calm_after (run r row) (keeps_law r row on.surveyed.stands.stands.sound keeps) it.before.stands.sound);
+    }
+
+pub surveys_want : (n : ℕ) (start : State) (all left rest : List Event) (m next passed : Machine) (w : Writes) (e : Event) (old now : SinkState) → 0 < n →
+    m.journal.verdict ≡ Running → SurveysOn start all left m w old now → left ≡ replicate n e ++ rest → Repeats n m e next → passed ≡ hw_passed_over next →
+    SurveyWants start all passed old now
+surveys_want n start all left rest m next passed w e old now some running on parts repeats is =
+    let it : HasMoved start all rest m next passed on.done on.surveyed.cleared n e = moved n start all left rest m next passed w e old now some running on parts repeats is in
+    record {
+      among = record { done = on.done ++ replicate n e; left = rest; split = it.split; cleared = on.surveyed.cleared; stands = it.stands };
+      taken = on.surveyed.taken;
+    }
+
+abbrev among_on : (start : State) (all left : List Event) (m : Machine) (w : Writes) (old new : SinkState) → SurveysOn start all left m w old new → StandsAmong start all m
+among_on start all left m w old new on = record { done = on.done; left = left; split = on.split; cleared = on.surveyed.cleared; stands = on.surveyed.stands }
+
+pub surveys_break : (start : State) (all left : List Event) (m stays : Machine) (w : Writes) (old now new : SinkState) → SurveysOn start all left m w old now → stays ≡ m →
+    BreaksOff now new m.journal.printed → SurveyBroke start all stays old new
+surveys_break start all left m stays w old now new on same broke =
+    subst (λ (x : Machine). SurveyBroke start all x old new) (sym same)
+    (record { among = among_on start all left m w old now on; broke = subst (λ (k : SinkState). BreaksOff k new m.journal.printed) on.surveyed.taken broke })
+
+pub surveys_flush : (start : State) (all left : List Event) (m flushed : Machine) (w : Writes) (old now new : SinkState) → SurveysOn start all left m w old now → Flushed m flushed now new →
+    SurveysOn start all left flushed w old new
+surveys_flush start all left m flushed w old now new on f =
+    let c : List ℕ = on.surveyed.cleared in
+    record {
+      done = on.done;
+      split = on.split;
+      surveyed = record {
+        cleared = c ++ f.cleared;
+        stands = stands_away m flushed (survey start on.done) c f.cleared on.surveyed.stands f.away;
+        writes_are = on.surveyed.writes_are;
+        taken = f.taken ∙ ap (λ (s : SinkState). after_taking s f.cleared) on.surveyed.taken ∙ after_taking-append old c f.cleared;
+      };
+      calm = on.calm;
+    }
+
+-- ---- the end
+
+has_ended : (v : Verdict) → v ≢ Running → HasEnded v
+has_ended Running ended = absurd (ended refl)
+has_ended Shutdown ended = tt
+has_ended (Stopped rule hart at) ended = tt
+
+none_of : (v : Verdict) → IsNoWrite v → pass_of v ≡ []
+unfolding pass_of
+none_of Running none = refl
+none_of Shutdown none = refl
+none_of (Stopped (Entry target) h turn) none = refl
+none_of (Stopped (Write pc gpa) h turn) none = absurd none
+
+nothing_after : (r : State) (left : List Event) → HasEnded r.journal.verdict → IsNoWrite r.journal.verdict → passes r left ≡ []
+nothing_after r [] ended none = refl
+nothing_after r (e ∷ left) ended none =
+    let same : step r e ≡ r = ended_stays r (e ∷ []) ended in
+    ap (λ (x : State). pass_of x.journal.verdict ++ passes (passed_over x) left) same
+    ∙ ap (λ (ps : List Pass). ps ++ passes (passed_over r) left) (none_of r.journal.verdict none)
+    ∙ ap (λ (x : State). passes x left) (unpassed r none)
+    ∙ nothing_after r left ended none
+
+same_after : (r : State) (left : List Event) → HasEnded r.journal.verdict → IsNoWrite r.journal.verdict → survey r left ≡ r
+same_after r left ended none =
+    let same : run r left ≡ r = ended_stays r left ended in
+    same_run_law r left (subst (λ (x : State). IsNoWrite x.journal.verdict) (sym same) none) ∙ same
+
+-- the machine has ended: a survey of what is left changes nothing
+pub surveys_ended : (start : State) (all left : List Event) (m : Machine) (w : Writes) (old new : SinkState) → SurveysOn start all left m w old new → m.journal.verdict ≢ Running →
+    HasSurveyed start all m w old new
+surveys_ended start all left m w old new on ended =
+    let r : State = survey start on.done in
+    let over : HasEnded r.journal.verdict = has_ended r.journal.verdict (λ is. ended (stands_verdict m r on.surveyed.cleared on.surveyed.stands ∙ is)) in
+    let same : r ≡ survey start (on.done ++ left) = sym (same_after r left over on.calm) ∙ sym (survey_on start on.done left) in
+    let none : with_passes (writes_in start on.done) (passes r left) ≡ writes_in start on.done =
+    ap (λ (ps : List Pass). with_passes (writes_in start on.done) ps) (nothing_after r left over on.calm) in
+    subst (λ (es : List Event). HasSurveyed start es m w old new) on.split (record {
+      cleared = on.surveyed.cleared;
+      stands = subst (λ (x : State). Stands m on.surveyed.cleared x) same on.surveyed.stands;
+      writes_are = on.surveyed.writes_are ∙ sym none ∙ sym (writes_on start on.done left);
+      taken = on.surveyed.taken;
+    })
+
+-- none is left
+pub surveys_all : (start : State) (all left : List Event) (m : Machine) (w : Writes) (old new : SinkState) → SurveysOn start all left m w old new → left ≡ [] →
+    HasSurveyed start all m w old new
+surveys_all start all left m w old new on none =
+    subst (λ (es : List Event). HasSurveyed start es m w old new) (sym (append-nil on.done) ∙ ap (λ (es : List Event). on.done ++ es) (sym none) ∙ on.split) on.surveyed
+
+-- ---- counts and room, where the machine stands for some state
+
+pub state_passed : (n : ℕ) (m next passed : Machine) (e : Event) → HasState m → Repeats n m e next → passed ≡ hw_passed_over next → HasState passed
+state_passed n m next passed e has repeats is =
+    let r : State = run has.state (replicate n e) in
+    let there : StandsFor next r = repeats_stand n m next e repeats has.state has.stands in
+    subst HasState (sym is) (record { state = passed_over r; stands = hw_pass_law next r there })
+
+pub state_flushed : (m flushed : Machine) (now new : SinkState) → HasState m → Flushed m flushed now new → HasState flushed
+state_flushed m flushed now new has f = record { state = has.state; stands = clear_law m flushed has.state has.stands f.away.cleared }
+
+pub room_passed : (n : ℕ) (m next passed : Machine) (e : Event) → HasState m → Repeats n m e next → passed ≡ hw_passed_over next → length m.journal.printed < max_printed →
+    length passed.journal.printed ≤ max_printed
+room_passed n m next passed e has repeats is room =
+    let there = room_again n m next e has repeats room in
+    let same : passed.journal.printed ≡ next.journal.printed = ap (λ (x : Machine). x.journal.printed) is ∙ (pass_rest next).printed in
+    subst (λ (p : List ℕ). length p ≤ max_printed) (sym same) there
+
+pub counts_passed : (n most : ℕ) (next passed flushed : Machine) (now new : SinkState) → n ≤ most → CountsAtMost n next.journal.counts → passed ≡ hw_passed_over next →
+    Flushed passed flushed now new → CountsAtMost most flushed.journal.counts
+counts_passed n most next passed flushed now new within counts is f =
+    let same : passed.journal.counts ≡ next.journal.counts = ap (λ (x : Machine). x.journal.counts) is ∙ pass_counts next in
+    flushed_counts most passed flushed now new (counts_within n most passed.journal.counts within (subst (λ (c : Counts). CountsAtMost n c) (sym same) counts)) f

@@ -1,0 +1,82 @@
+-- A machine's survey with its console, while it goes on. This project's own.
+use Rattle.std.specs.Prelude.{◌≡◌, ℕ, List, [], ◌∷◌, ◌++◌, Bool, true, false, Result, Ok, Err}
+use Rattle.sv_types.specs.declared.event.Event.{Event}
+use Rattle.sv_types.specs.declared.event.Verdict.{Verdict}
+use Rattle.sv_types.specs.declared.event.Verdict.TheVariants.{Running, Shutdown, Stopped}
+use Rattle.spec_reference.specs.States.{State}
+use Rattle.spec_reference.specs.Start.{IsStart}
+use Rattle.spec_hardware.specs.Machine.{Machine}
+use Rattle.spec_hardware.specs.Reaches.{IsNew}
+use Rattle.laws_survey.specs.Passing.{survey}
+use Rattle.laws_survey.specs.Passes.{Pass, passes}
+use Rattle.host_io.specs.Outside.{SinkState, after_taking, BreaksOff}
+use Rattle.host_io.specs.declared.trouble.Trouble.{Trouble}
+use Rattle.host_io.specs.declared.trouble.Trouble.TheVariants.{Write, Memory}
+use Rattle.machine.specs.Console.{MayRun}
+use Rattle.machine.specs.Standing.{Stands}
+use Rattle.survey_findings.specs.Findings.{PassedWrites, no_writes, with_write}
+use Rattle.survey_findings.specs.Views.{writes_view}
+use Rattle.survey_findings.specs.declared.findings.Occurrence.{Occurrence}
+use Rattle.survey_findings.specs.declared.findings.Writes.{Writes}
+
+-- ---- what was passed over
+
+abbrev pub occurrence_of : Pass → Occurrence
+occurrence_of p = record { key = p.pc; address = p.gpa; hart = p.hart; turn = p.turn }
+
+abbrev pub with_passes : PassedWrites → List Pass → PassedWrites
+with_passes w [] = w
+with_passes w (p ∷ ps) = with_passes (with_write w (occurrence_of p)) ps
+
+-- the writes that a survey of these events passes over
+abbrev pub writes_in : State → List Event → PassedWrites
+writes_in start events = with_passes no_writes (passes start events)
+
+abbrev pub is_running : Verdict → Bool
+is_running Running = true
+is_running Shutdown = false
+is_running (Stopped rule h turn) = false
+
+-- ---- a survey so far
+
+-- The machine stands where the survey is after these events, but for console bytes that the sink took, and the writes are those
+-- that it passed over.
+pub record HasSurveyed (start : State) (done : List Event) (machine : Machine) (writes : Writes) (old new : SinkState) : Type 0 where
+  pub cleared : List ℕ
+  pub stands : Stands machine cleared (survey start done)
+  pub writes_are : writes_view writes ≡ writes_in start done
+  pub taken : new ≡ after_taking old cleared
+
+-- the machine stands where the survey is after some of these events, and console bytes were taken before
+pub record StandsAmong (start : State) (events : List Event) (machine : Machine) : Type 0 where
+  pub done : List Event
+  pub left : List Event
+  pub split : done ++ left ≡ events
+  pub cleared : List ℕ
+  pub stands : Stands machine cleared (survey start done)
+
+-- a write of the console failed after some of these events
+pub record SurveyBroke (start : State) (events : List Event) (machine : Machine) (old new : SinkState) : Type 0 where
+  pub among : StandsAmong start events machine
+  pub broke : BreaksOff (after_taking old among.cleared) new machine.journal.printed
+
+-- memory ran out after some of these events, and nothing was written since then
+pub record SurveyWants (start : State) (events : List Event) (machine : Machine) (old new : SinkState) : Type 0 where
+  pub among : StandsAmong start events machine
+  pub taken : new ≡ after_taking old among.cleared
+
+abbrev pub Surveyed : State → List Event → Machine → Writes → SinkState → SinkState → Result (Unit {0}) Trouble → Type 0
+Surveyed start events machine writes old new (Ok _) = HasSurveyed start events machine writes old new
+Surveyed start events machine writes old new (Err Write) = SurveyBroke start events machine old new
+Surveyed start events machine writes old new (Err Memory) = SurveyWants start events machine old new
+
+-- from every start that the first machine is new for
+abbrev pub SurveyedFromStart : Machine → List Event → Machine → Writes → SinkState → SinkState → Result (Unit {0}) Trouble → Type 0
+SurveyedFromStart first events machine writes old new result =
+    (start : State) → IsNew first start → IsStart start → Surveyed start events machine writes old new result
+
+-- a running machine may be surveyed over so many events, and nothing was passed over yet
+pub record MaySurvey (machine : Machine) (events : ℕ) (writes : Writes) (to : SinkState) : Type 0 where
+  pub run : MayRun machine events to
+  pub running : machine.journal.verdict ≡ Running
+  pub none : writes_view writes ≡ no_writes

@@ -1,0 +1,13 @@
+//! The command `survey`: a run that passes over each write that would stop it, and the lines of what was found.
+#![tactic(auto)]
+
+mod answer;
+mod ending;
+mod laws;
+mod ready;
+mod surveying;
+
+pub use answer::secvisor_survey;
+pub use laws::law_no_findings;
+pub use ready::{KernelFile, ReadySurvey};
+pub use surveying::survey;
