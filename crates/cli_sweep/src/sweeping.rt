@@ -8,7 +8,7 @@ ghost use Rattle.cli_sweep.specs.Sweeps as spec;
 use crate::numbers::{numbers_each, numbers_from};
 use crate::progress::Progress;
 use cli_plans::DrawnOrder;
-use machine_trials::{NoOutcome, Order, RunFiles, try_order};
+use machine_trials::{NoOutcome, Order, RunFiles, keep_memory, try_order};
 use run_tally::{Outcome, Tallies, tally_runs};
 use std::alloc::Global;
 use std::thread;
@@ -117,6 +117,7 @@ pub fn sweep_numbers<R: Threads + Sync, P: Progress + Sync>(
     let Ok(numbers) = numbers_from(alloc, first, count) else {
         return Err(NoOutcome::Memory);
     };
+    keep_memory(alloc);
     let outcomes = outcomes_of_all(rt, alloc, sweep, &numbers, progress)?;
     match tally_runs(alloc, first, &outcomes) {
         Ok(tallies) => Ok(tallies),
