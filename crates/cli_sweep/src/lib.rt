@@ -3,7 +3,6 @@
 
 mod answer;
 mod numbers;
-mod parts;
 mod progress;
 mod sweeping;
 
