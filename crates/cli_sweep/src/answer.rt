@@ -15,7 +15,7 @@ ghost use Rattle.run_tally.specs.Lines as lines;
 ghost use Rattle.cli_trials.specs.Writing.{WritesAll};
 ghost use Rattle.cli_sweep.specs.SweepAnswers.{SweepsFiles, Sweeps, SweepHeadline, MayAsk, entries_due, sweep_plan};
 
-use crate::progress::Quiet;
+use crate::progress::Progress;
 use crate::sweeping::{Sweep, sweep_numbers};
 use cli_plans::{DiskKind, DrawnOrder, Run, Source, Sweep as AskedSweep, Unread, ask_sweep};
 use cli_trials::{Parts, read_parts, refuse, write_text};
@@ -27,13 +27,15 @@ use std::thread::Threads;
 use sv_types::Status;
 
 /// Does all that `sweep` does: judges the words, reads the files that they name as `run` does, makes the run of each number, and
-/// writes how they end, or the line of the first refusal. It prints no console and saves nothing.
-pub fn secvisor_sweep<R: Threads + Sync, F: Files, O: Sink>(
+/// writes how they end, or the line of the first refusal. It prints no console and saves nothing. Each run that ends is counted for
+/// who watches.
+pub fn secvisor_sweep<R: Threads + Sync, F: Files, O: Sink, P: Progress + Sync>(
     rt: &R,
     alloc: Global,
     words: &[String],
     files: &mut F,
     out: &mut O,
+    progress: &P,
 ) -> Status
     // Nothing but what `run` reads for the first number may be asked for, in its order, each part once and up to its limit.
     requires permitted { MayAsk (sweep_judged (map string_bytes words.now)) (F.state files.old) }
@@ -55,16 +57,17 @@ pub fn secvisor_sweep<R: Threads + Sync, F: Files, O: Sink>(
     ensures reads { (F.state files.old).read_faults ≤ (F.state files.new).read_faults }
     ensures writes { (O.state out.old).faults ≤ (O.state out.new).faults }
 {
-    status_of_end(answer(rt, alloc, words, files, out))
+    status_of_end(answer(rt, alloc, words, files, out, progress))
 }
 
 // What the words ask for is carried out, or refused.
-fn answer<R: Threads + Sync, F: Files, O: Sink>(
+fn answer<R: Threads + Sync, F: Files, O: Sink, P: Progress + Sync>(
     rt: &R,
     alloc: Global,
     words: &[String],
     files: &mut F,
     out: &mut O,
+    progress: &P,
 ) -> Result<Status, Trouble>
     requires permitted { MayAsk (sweep_judged (map string_bytes words.now)) (F.state files.old) }
     requires sink { MayWrite (O.state out.old) }
@@ -72,7 +75,7 @@ fn answer<R: Threads + Sync, F: Files, O: Sink>(
     ensures { Sweeps (sweep_judged (map string_bytes words.now)) (F.state files.old) (F.state files.new) (O.state out.old) (O.state out.new) result }
 {
     match ask_sweep(alloc, words) {
-        Ok(asked) => sweep_files(rt, alloc, &asked, files, out),
+        Ok(asked) => sweep_files(rt, alloc, &asked, files, out, progress),
         Err(Unread::Refused(refusal)) => refuse(alloc, &refusal, out),
         Err(Unread::Memory) => Err(Trouble::Memory),
     }
@@ -98,12 +101,13 @@ fn first_run<'a>(asked: &AskedSweep<'a>) -> Run<'a>
 }
 
 // The files are read and swept, or one of them is refused.
-fn sweep_files<R: Threads + Sync, F: Files, O: Sink>(
+fn sweep_files<R: Threads + Sync, F: Files, O: Sink, P: Progress + Sync>(
     rt: &R,
     alloc: Global,
     asked: &AskedSweep<'_>,
     files: &mut F,
     out: &mut O,
+    progress: &P,
 ) -> Result<Status, Trouble>
     requires permitted { MayFollow (run_plan (first_run (sweep_value asked.now))) (F.state files.old) }
     requires numbers { AreNumbers asked.now }
@@ -113,19 +117,20 @@ fn sweep_files<R: Threads + Sync, F: Files, O: Sink>(
 {
     let first = first_run(asked);
     match read_parts(rt, alloc, &first, files) {
-        Ok(parts) => sweep_parts(rt, alloc, asked, &parts, out),
+        Ok(parts) => sweep_parts(rt, alloc, asked, &parts, out, progress),
         Err(Stop::Refused(refusal)) => refuse(alloc, &refusal, out),
         Err(Stop::Memory) => Err(Trouble::Memory),
     }
 }
 
 // The runs of all numbers. Their files were judged before, so that nothing but memory is left to fail.
-fn sweep_parts<R: Threads + Sync, O: Sink>(
+fn sweep_parts<R: Threads + Sync, O: Sink, P: Progress + Sync>(
     rt: &R,
     alloc: Global,
     asked: &AskedSweep<'_>,
     parts: &Parts,
     out: &mut O,
+    progress: &P,
 ) -> Result<Status, Trouble>
     requires numbers { AreNumbers asked.now }
     requires sectors { length parts.now.disk.items % sector_size ≡ 0 }
@@ -140,7 +145,7 @@ fn sweep_parts<R: Threads + Sync, O: Sink>(
         events: asked.events,
     };
     let (first, count) = (asked.first, asked.count as usize);
-    match sweep_numbers(rt, alloc, &sweep, first, count, &Quiet) {
+    match sweep_numbers(rt, alloc, &sweep, first, count, progress) {
         Ok(tallies) => write_tallies(alloc, &tallies, out),
         Err(_) => Err(Trouble::Memory),
     }

@@ -7,5 +7,5 @@ mod progress;
 mod sweeping;
 
 pub use answer::secvisor_sweep;
-pub use progress::{Progress, Quiet};
+pub use progress::Progress;
 pub use sweeping::{Sweep, sweep_numbers};

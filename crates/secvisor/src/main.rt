@@ -3,12 +3,13 @@
 
 mod again;
 mod version;
+mod watching;
 
 use again::PlainFiles;
 use cli_diagnostics::{Ending, MostBytes, WordRemark, help, remark, stop_remark, word_remark};
 use cli_dispatch::answer;
 use host_files::{Escaped, RealFiles, StdSink};
-use live_keys::{ReaderKeys, Still};
+use live_keys::ReaderKeys;
 use secvisor_cli::{
     Bench, MAX_DISK_BYTES, MAX_FLAT_BYTES, MAX_IMAGE_BYTES, MAX_OBJECT_BYTES, MAX_POLICY_BYTES,
     MAX_SCRIPT_BYTES, Status,
@@ -20,6 +21,7 @@ use std::io::{ErrorKind, IsTerminal};
 use std::process::ExitCode;
 use std::thread::Threads;
 use version::VERSION;
+use watching::Watching;
 
 // Every end has its status, out of memory before the program is called too.
 fn main(rt: HostRuntime) -> ExitCode {
@@ -32,6 +34,10 @@ fn main(rt: HostRuntime) -> ExitCode {
     let Ok(printing) = rt.clone() else {
         return ExitCode::from(Status::Memory.number());
     };
+    let Ok(counting) = rt.clone() else {
+        return ExitCode::from(Status::Memory.number());
+    };
+    let watching = Watching::new(counting, rt.stderr().is_terminal());
     let mut files = RealFiles::new(reading, rt.stderr().is_terminal());
     let mut keys = ReaderKeys::new(rt.reader());
     let mut out = StdSink::new(printing);
@@ -43,9 +49,10 @@ fn main(rt: HostRuntime) -> ExitCode {
         &mut files,
         &mut keys,
         &mut out,
-        &Still,
+        &watching,
         &mut bench,
     );
+    watching.end();
     explain(&rt, &rt, &words, status);
     if rt.stderr().is_terminal() {
         explain_ending(&rt, &words, &bench);
