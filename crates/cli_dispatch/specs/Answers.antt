@@ -15,7 +15,7 @@ use Rattle.cli_snap.specs.SnapReady.{out_of as snapshot_name}
 use Rattle.cli_snap.specs.SnapAnswers.{SnapHeadline}
 use Rattle.cli_survey.specs.SurveyAnswers.{SurveyHeadline}
 use Rattle.cli_resume.specs.ResumePlans.{resume_plan}
-use Rattle.cli_sweep.specs.SweepAnswers.{MayAsk as MaySweep, SweepHeadline}
+use Rattle.cli_sweep.specs.SweepAnswers.{MayAsk as MaySweep, SweepHeadline, sweep_plan}
 use Rattle.cli_shrink.specs.ShrinkAnswers.{MayAsk as MayShrink, ShrinkHeadline, out_of as small_script_name}
 use Rattle.cli_show.specs.Showing.{name_in, held_shown}
 use Rattle.cli_show.specs.Answers.{MayAsk, Headline as ShowHeadline, Answers as Shows}
@@ -79,6 +79,7 @@ pub record SnapOwed (words : List (List ℕ)) (old new : LiveOutside) (answer : 
 -- `sweep`
 pub record SweepOwed (words : List (List ℕ)) (old new : LiveOutside) (answer : Status) : Type 0 where
   pub headline : SweepHeadline (sweep_judged words) old.files new.files old.sink new.sink answer
+  pub read_fault : answer ≡ Status.ReadFault → FailsToRead (sweep_plan (sweep_judged words)) old.files new.files
   pub unread : is_ok (sweep_judged words) ≡ false → new.files ≡ old.files
   pub unsaved : SavesNothing old.files new.files
   pub keys : new.keys ≡ old.keys

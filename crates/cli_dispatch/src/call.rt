@@ -13,7 +13,7 @@ use cli_show::secvisor_show;
 use cli_shrink::secvisor_shrink;
 use cli_snap::secvisor_snap;
 use cli_survey::secvisor_survey;
-use cli_sweep::secvisor_sweep;
+use cli_sweep::{Progress, secvisor_sweep};
 use host_io::{Files, Sink};
 use live_keys::{Keys, Pace};
 use secvisor_cli::{Bench, Status, secvisor};
@@ -23,7 +23,13 @@ use std::thread::Threads;
 
 /// Does all that the program does with these words: that of the command that the first of them names. Each parameter is a
 /// thing of its own outside of the program.
-pub fn answer<R: Threads + Wait + Sync, F: Files, K: Keys + Send, O: Sink, P: Pace + Sync>(
+pub fn answer<
+    R: Threads + Wait + Sync,
+    F: Files,
+    K: Keys + Send,
+    O: Sink,
+    P: Pace + Progress + Sync,
+>(
     rt: &R,
     alloc: Global,
     words: &[String],
@@ -55,7 +61,7 @@ pub fn answer<R: Threads + Wait + Sync, F: Files, K: Keys + Send, O: Sink, P: Pa
         TopCall::Survey => secvisor_survey(rt, alloc, words, files, out, bench),
         TopCall::Live => secvisor_live(rt, alloc, words, files, keys, out, pace, bench),
         TopCall::Snap => secvisor_snap(rt, alloc, words, files, out, bench),
-        TopCall::Sweep => secvisor_sweep(rt, alloc, words, files, out),
+        TopCall::Sweep => secvisor_sweep(rt, alloc, words, files, out, pace),
         TopCall::Shrink => secvisor_shrink(rt, alloc, words, files, out),
         TopCall::Resume => secvisor_resume(rt, alloc, words, files, out, bench),
         TopCall::Show => secvisor_show(alloc, words, files, out),

@@ -109,7 +109,7 @@ fn shrink_files<R: Threads + Sync, F: Files, O: Sink>(
     }
 }
 
-// The run of files that were judged.
+// The run of files that were judged, so that nothing but memory is left to fail.
 fn shrink_parts<R: Threads + Sync, F: Files, O: Sink>(
     rt: &R,
     alloc: Global,

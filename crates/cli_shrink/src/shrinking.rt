@@ -7,7 +7,7 @@ ghost use Rattle.cli_shrink.specs.Shrinking.{IsShrunk, AreShrunk};
 
 use crate::trial::Trial;
 use delta_debugging::Stops;
-use machine_trials::{NoOutcome, Order, RunFiles, script_of_order, try_order};
+use machine_trials::{NoOutcome, Order, RunFiles, keep_memory, script_of_order, try_order};
 use script::EventRun;
 use script_lines::{script_text, shrink_lines, write_out};
 use std::alloc::Global;
@@ -52,6 +52,7 @@ pub fn shrink<R: Threads + Sync>(
     requires few { events ≤ max_events }
     ensures { IfOk result (IsShrunk files.now events order.now) }
 {
+    keep_memory(alloc);
     let ending = try_order(rt, alloc, files, order, events)?;
     if !ending.outcome.is_stop() {
         return Ok(Shrunk::NothingStopped);

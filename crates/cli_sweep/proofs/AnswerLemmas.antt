@@ -1,64 +1,53 @@
 -- What follows of an answer of `sweep`.
-use Rattle.std.proofs.Common.{◌≡◌, ◌≤◌, ℕ, List, [], ◌∷◌, map, IsTrue, false, refl, sym, ◌∙◌, ap, ap₂, subst, arith, inl, inr, Option, Some, None, Result, Ok, Err}
+use Rattle.std.proofs.Common.{◌≡◌, ◌≢◌, ◌≤◌, ◌==◌, ℕ, List, [], ◌∷◌, length, map, Bool, IsTrue, true, false, refl, sym, ◌∙◌, ap, ap₂, subst, arith, inl, inr, Option, Some, None, Result, Ok, Err, IsErrOf, if◌then◌else◌}
 use Rattle.std.specs.Result.{is_ok}
 use Rattle.std.proofs.lemmas.Option.{same_Some}
 use Rattle.sv_types.specs.ApprovedPages.{numbers_from}
 use Rattle.sv_types.specs.Policies.{Rules}
-use Rattle.sv_types.specs.Schedule.{Schedule, first_events}
 use Rattle.sv_types.specs.declared.status.Status.{Status}
-use Rattle.spec_reference.specs.Run.{run}
-use Rattle.spec_reference.specs.Start.{boot_start, start as begin}
-use Rattle.spec_reference.specs.States.{State}
+use Rattle.spec_reference.specs.Start.{boot_start}
 use Rattle.policy.specs.Refusals.{Judged}
 use Rattle.policy.specs.Text.{rules_of_text}
+use Rattle.host_io.specs.Endings.{status_of_end}
 use Rattle.host_io.specs.Outside.{FilesState, SinkState}
 use Rattle.host_io.specs.declared.trouble.Trouble.{Trouble}
 use Rattle.host_io.specs.declared.trouble.Trouble.TheVariants.{Write, Memory}
 use Rattle.cli_plans.specs.declared.refusal.Refusal.{Refusal}
 use Rattle.cli_plans.specs.declared.words.DrawnOrder.{DrawnOrder}
-use Rattle.cli_plans.specs.declared.words.DrawnOrder.TheVariants.{Auto, Bursts}
-use Rattle.cli_plans.specs.CommandLine.{SweepWords, first_run}
+use Rattle.cli_plans.specs.CommandLine.{SweepWords, first_run, sweep_judged}
 use Rattle.cli_plans.specs.Plans.{Due, Refuse, RunFrom, Make, run_plan}
-use Rattle.cli_plans.specs.Reading.{MayFollow}
+use Rattle.cli_plans.specs.Reading.{Follows, MayFollow}
 use Rattle.cli_plans.specs.Refusals.{refusal_line, refusal_status}
-use Rattle.cli_plans.proofs.PlanLemmas.{Keeps, follows_keeps, may_follow}
+use Rattle.cli_plans.proofs.FoundFaults.{run_found_faults}
+use Rattle.cli_plans.proofs.PlanLemmas.{HasFault, Keeps, follows_keeps, may_follow}
+use Rattle.cli_plans.proofs.WordLemmas.{NoReadFault, sweep_no_read_fault}
 use Rattle.secvisor_cli.specs.Ready.{IsReadyWhere, Prepares}
 use Rattle.secvisor_cli.specs.declared.ready.Stop.TheVariants.{Refused}
 use Rattle.secvisor_cli.specs.declared.ready.Stop.TheVariants as stop
 use Rattle.run_tally.specs.declared.outcome.Outcome.{Outcome}
 use Rattle.run_tally.specs.declared.tally.Tally.{Tally}
-use Rattle.run_tally.specs.Tallies.{outcome_of, tallies_of}
-use Rattle.machine_trials.specs.Trials.{end_from, end_under, schedule_of}
+use Rattle.run_tally.specs.declared.outcome.Outcome.TheVariants.{Ended}
+use Rattle.run_tally.specs.Lines.{stops_of, sweep_status, sweep_text}
+use Rattle.run_tally.specs.Tallies.{tallies_of, tally_in}
 use Rattle.cli_sweep.specs.declared.sweeping.Sweep.{Sweep}
-use Rattle.cli_sweep.specs.declared.parts.Parts.{Parts}
-use Rattle.cli_sweep.specs.Sweeps.{IsSwept, outcome_at, order_of}
-use Rattle.cli_sweep.specs.SweepAnswers.{schedule_at, AnswersDue, AnswersReached, BeginsFrom, Ends, MayAsk, Refuses, Sweeps, SweepsFiles, end_at, entries_due, first_due}
+use Rattle.cli_trials.specs.declared.parts.Parts.{Parts}
+use Rattle.cli_trials.specs.Orders.{order_schedule}
+use Rattle.cli_trials.specs.Reading.{BeginsFrom, run_due}
+use Rattle.cli_trials.specs.Writing.{Refuses}
+use Rattle.cli_trials.proofs.WritingLemmas.{refused_fault, same_rises, written_no_fault, written_rises}
+use Rattle.cli_sweep.specs.Sweeps.{IsSwept, end_at, outcome_at, outcome_under}
+use Rattle.cli_sweep.specs.SweepAnswers.{AnswersDue, AnswersReached, MayAsk, Sweeps, SweepsFiles, entries_due, sweep_plan}
 
 -- ---- the runs
 
-start_rules : (rules : Rules) (file disk : List ℕ) → (boot_start rules file disk).rules ≡ rules
-unfolding boot_start begin
-start_rules rules file disk = refl
-
-schedule_is : (order : DrawnOrder) (harts number : ℕ) → schedule_of (order_of order number) harts ≡ Some (schedule_at order harts number)
-schedule_is Auto harts number = refl
-schedule_is Bursts harts number = refl
-
-abbrev end_by : State → (events : ℕ) → DrawnOrder → (harts number : ℕ) → Outcome
-end_by start events order harts number = outcome_of (run start (first_events events (schedule_at order harts number))).journal.verdict
-
 -- a run of the files is a run from the start that they give
 end_same : (sweep : Sweep) (words : SweepWords) (rules : Rules) (number : ℕ) → words.order ≡ sweep.order → words.events ≡ sweep.events → rules_of_text sweep.files.policy.now ≡ Ok rules →
-    outcome_at sweep number ≡ Some (end_at words (boot_start rules sweep.files.image.now sweep.files.disk.now) number)
+    outcome_at sweep number ≡ Some (end_at words.events words.order (boot_start rules sweep.files.image.now sweep.files.disk.now) number)
 end_same sweep words rules number order few reads =
     let start = boot_start rules sweep.files.image.now sweep.files.disk.now in
-    let there : outcome_at sweep number ≡ end_from start sweep.events (schedule_of (order_of sweep.order number) rules.harts) =
-    ap (λ (j : Judged Rules). end_under j sweep.files.image.now sweep.files.disk.now sweep.events (schedule_of (order_of sweep.order number))) reads in
-    there
-    ∙ ap (λ (s : Option Schedule). end_from start sweep.events s) (schedule_is sweep.order rules.harts number)
-    ∙ ap (λ (n : ℕ). Some (end_by start n sweep.order rules.harts number)) (sym few)
-    ∙ ap (λ (o : DrawnOrder). Some (end_by start words.events o rules.harts number)) (sym order)
-    ∙ ap (λ (r : Rules). Some (end_by start words.events words.order r.harts number)) (sym (start_rules rules sweep.files.image.now sweep.files.disk.now))
+    ap (λ (j : Judged Rules). outcome_under j sweep number) reads
+    ∙ ap (λ (n : ℕ). Some (end_at n sweep.order start number)) (sym few)
+    ∙ ap (λ (o : DrawnOrder). Some (end_at words.events o start number)) (sym order)
 
 -- the bytes that a sweep borrows
 pub record Borrows (sweep : Sweep) (text file disk : List ℕ) : Type 0 where
@@ -86,15 +75,18 @@ entries_same sweep words rules text file disk entries order few borrows given sw
     ap₂ (λ (f d : List ℕ). entries_due words (boot_start rules f d)) borrows.file_is borrows.disk_is in
     swept.entries_are
     ∙ ap (tallies_of words.first)
-    (outcomes_same (outcome_at sweep) (end_at words (boot_start rules sweep.files.image.now sweep.files.disk.now)) (numbers_from words.first words.count) swept.outcomes
+    (outcomes_same (outcome_at sweep) (end_at words.events words.order (boot_start rules sweep.files.image.now sweep.files.disk.now)) (numbers_from words.first words.count) swept.outcomes
     (λ number. end_same sweep words rules number order few reads) swept.each)
     ∙ there
 
 -- ---- from what was read to the answer
 
-pub swept_files : (words : SweepWords) (parts : Parts) (files read : FilesState) (old new : SinkState) (result : Result Status Trouble) → (begins : BeginsFrom words parts files read) →
-    AnswersDue words (first_due words begins.rules parts.image.items parts.disk.items) old new result → SweepsFiles words files read old new result
-swept_files words parts files read old new result begins ends = record { reached = Some (first_due words begins.rules parts.image.items parts.disk.items); follows = begins.follows; answers = ends }
+abbrev due_of : SweepWords → Rules → Parts → Due
+due_of words rules parts = run_due (first_run words) rules parts.image.items parts.disk.items (order_schedule rules.harts parts.order)
+
+pub swept_files : (words : SweepWords) (parts : Parts) (files read : FilesState) (old new : SinkState) (result : Result Status Trouble) → (begins : BeginsFrom (first_run words) parts files read) →
+    AnswersDue words (due_of words begins.rules parts) old new result → SweepsFiles words files read old new result
+swept_files words parts files read old new result begins ends = record { reached = Some (due_of words begins.rules parts); follows = begins.follows; answers = ends }
 
 refused_where : (words : SweepWords) (reached : Option Due) (given : Refusal) (old new : SinkState) (result : Result Status Trouble) → IsReadyWhere reached (Err (Refused given)) →
     Refuses given old new result → AnswersReached words reached old new result
@@ -155,21 +147,50 @@ pub unread : (judged : Result SweepWords Refusal) (files read : FilesState) (old
 unread (Err why) files read old new result bad it = it.0
 unread (Ok words) files read old new result bad it = cc bad
 
-ends_writes : (due : Status) (bytes : List ℕ) (old new : SinkState) (result : Result Status Trouble) → Ends due bytes old new result → old.faults ≤ new.faults
-ends_writes due bytes old new (Ok status) ends = let same : new.faults ≡ old.faults = ap (λ (s : SinkState). s.faults) ends.1 in omega (arith, same)
-ends_writes due bytes old new (Err Write) ends = omega (arith, ends.faults)
-ends_writes due bytes old new (Err Memory) ends = let same : new.faults ≡ old.faults = ap (λ (s : SinkState). s.faults) ends in omega (arith, same)
-
 reached_writes : (words : SweepWords) (reached : Option Due) (old new : SinkState) (result : Result Status Trouble) → AnswersReached words reached old new result → old.faults ≤ new.faults
-reached_writes words None old new result it = let same : new.faults ≡ old.faults = ap (λ (s : SinkState). s.faults) it.1 in omega (arith, same)
-reached_writes words (Some (Refuse refusal)) old new result it = ends_writes (refusal_status refusal) (refusal_line refusal) old new result it.ends
-reached_writes words (Some (RunFrom start events save)) old new result it = ends_writes _ _ old new result it
+reached_writes words None old new result it = same_rises old new it.1
+reached_writes words (Some (Refuse refusal)) old new result it = written_rises (refusal_status refusal) (refusal_line refusal) old new result it.writes
+reached_writes words (Some (RunFrom start events save)) old new result it = written_rises _ _ old new result it
 reached_writes words (Some (Make name rules line)) old new result it = absurd it
 
 pub writes : (judged : Result SweepWords Refusal) (files read : FilesState) (old new : SinkState) (result : Result Status Trouble) → Sweeps judged files read old new result → old.faults ≤ new.faults
-writes (Err why) files read old new result it = ends_writes (refusal_status why) (refusal_line why) old new result it.1.ends
-writes (Ok words) files read old new result (inl wants) = let same : new.faults ≡ old.faults = ap (λ (s : SinkState). s.faults) wants.2 in omega (arith, same)
+writes (Err why) files read old new result it = written_rises (refusal_status why) (refusal_line why) old new result it.1.writes
+writes (Ok words) files read old new result (inl wants) = same_rises old new wants.2
 writes (Ok words) files read old new result (inr it) = reached_writes words it.reached old new result it.answers
+
+-- ---- a read fault
+
+wants_no_fault : (result : Result Status Trouble) → IsErrOf result Memory → status_of_end result ≢ Status.ReadFault
+wants_no_fault (Ok status) it = absurd (cc it)
+wants_no_fault (Err Write) it = λ is. cc is
+wants_no_fault (Err Memory) it = λ is. cc is
+
+no_fault_by : (none_stopped none_ended : Bool) → (if none_stopped then (if none_ended then Status.Done else Status.Ended) else Status.Stopped) ≢ Status.ReadFault
+no_fault_by true true = λ is. cc is
+no_fault_by true false = λ is. cc is
+no_fault_by false none_ended = λ is. cc is
+
+swept_no_fault : (entries : List (Outcome × Tally)) → sweep_status entries ≢ Status.ReadFault
+swept_no_fault entries = no_fault_by (length (stops_of entries) == 0) ((tally_in Ended entries).runs == 0)
+
+reached_fault : (words : SweepWords) (reached : Option Due) (files read : FilesState) (old new : SinkState) (result : Result Status Trouble) → Follows (run_plan (first_run words)) files read reached →
+    AnswersReached words reached old new result → status_of_end result ≡ Status.ReadFault → HasFault (run_plan (first_run words)) files read
+reached_fault words None files read old new result follows it is = absurd (wants_no_fault result it.0 is)
+reached_fault words (Some (Refuse refusal)) files read old new result follows it is =
+    refused_fault (run_plan (first_run words)) refusal files read old new result (run_found_faults (first_run words)) follows it.writes is
+reached_fault words (Some (RunFrom start events save)) files read old new result follows it is =
+    absurd (written_no_fault (sweep_status (entries_due words start)) (sweep_text (entries_due words start)) old new result (swept_no_fault (entries_due words start)) it is)
+reached_fault words (Some (Make name rules line)) files read old new result follows it is = absurd it
+
+judged_fault : (judged : Result SweepWords Refusal) (files read : FilesState) (old new : SinkState) (result : Result Status Trouble) → NoReadFault judged → Sweeps judged files read old new result →
+    status_of_end result ≡ Status.ReadFault → HasFault (sweep_plan judged) files read
+judged_fault (Err why) files read old new result never it is = absurd (written_no_fault (refusal_status why) (refusal_line why) old new result never it.1.writes is)
+judged_fault (Ok words) files read old new result never (inl wants) is = absurd (wants_no_fault result wants.0 is)
+judged_fault (Ok words) files read old new result never (inr it) is = reached_fault words it.reached files read old new result it.follows it.answers is
+
+pub sweep_fault : (words : List (List ℕ)) (files read : FilesState) (old new : SinkState) (result : Result Status Trouble) → Sweeps (sweep_judged words) files read old new result →
+    status_of_end result ≡ Status.ReadFault → HasFault (sweep_plan (sweep_judged words)) files read
+sweep_fault words files read old new result it is = judged_fault (sweep_judged words) files read old new result (sweep_no_read_fault words) it is
 
 -- where all names may be asked for
 pub may_ask : (judged : Result SweepWords Refusal) (files : FilesState) → ((asked : List (List ℕ × ℕ)) → IsTrue (files.permits asked)) →

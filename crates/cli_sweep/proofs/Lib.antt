@@ -1,3 +1,3 @@
 pub mod AnswerLemmas
 mod Chunks
-pub mod PartLemmas
+mod Outcomes

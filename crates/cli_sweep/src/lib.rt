@@ -3,10 +3,9 @@
 
 mod answer;
 mod numbers;
-mod parts;
 mod progress;
 mod sweeping;
 
 pub use answer::secvisor_sweep;
-pub use progress::{Progress, Quiet};
+pub use progress::Progress;
 pub use sweeping::{Sweep, sweep_numbers};

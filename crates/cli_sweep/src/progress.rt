@@ -1,4 +1,6 @@
-// Who watches a sweep.
+// Who watches a sweep. No clause speaks of it.
+
+use live_keys::Still;
 
 /// Watches a sweep, whose runs end in any order and in several threads.
 pub trait Progress {
@@ -6,10 +8,6 @@ pub trait Progress {
     fn count_run(&self);
 }
 
-/// Watches nothing.
-#[derive(Clone, Copy, Drop)]
-pub struct Quiet;
-
-impl Progress for Quiet {
+impl Progress for Still {
     fn count_run(&self) {}
 }

@@ -1,14 +1,15 @@
 // The runs of many numbers.
-ghost use Rattle.std.specs.Prelude.{◌≡◌, ◌+◌, ◌^◌, ◌≤◌, ◌%◌, ◌<◌, IfOk, length};
+ghost use Rattle.std.specs.Prelude.{◌≡◌, ◌+◌, ◌^◌, ◌≤◌, ◌%◌, ◌<◌, ℕ, IfOk, Some, length};
 ghost use Rattle.sv_types.specs.Limits.{max_events};
 ghost use Rattle.sv_types.specs.ApprovedPages as pages;
 ghost use Rattle.spec_reference.specs.BlockDisk.{sector_size};
+ghost use Rattle.machine_trials.specs.Trials.{schedule_of};
 ghost use Rattle.cli_sweep.specs.Sweeps as spec;
 
 use crate::numbers::{numbers_each, numbers_from};
 use crate::progress::Progress;
 use cli_plans::DrawnOrder;
-use machine_trials::{NoOutcome, Order, RunFiles, try_order};
+use machine_trials::{NoOutcome, Order, RunFiles, keep_memory, try_order};
 use run_tally::{Outcome, Tallies, tally_runs};
 use std::alloc::Global;
 use std::thread;
@@ -23,6 +24,16 @@ pub struct Sweep<'a> {
     pub events: u64,
 }
 
+// The order that a number draws.
+fn order_of<'a>(order: DrawnOrder, number: u64) -> Order<'a>
+    ensures { (harts : ℕ) → schedule_of result harts ≡ Some (spec.schedule_at order harts number) }
+{
+    match order {
+        DrawnOrder::Auto => Order::Auto(number),
+        DrawnOrder::Bursts => Order::Bursts(number),
+    }
+}
+
 fn outcome_of_number<R: Threads + Sync>(
     rt: &R,
     alloc: Global,
@@ -30,12 +41,9 @@ fn outcome_of_number<R: Threads + Sync>(
     number: u64,
 ) -> Result<Outcome, NoOutcome>
     requires may { spec.MaySweep sweep.now }
-    ensures { IfOk result (spec.Ends sweep.now number) }
+    ensures { IfOk result (λ outcome. spec.outcome_at sweep.now number ≡ Some outcome) }
 {
-    let order = match sweep.order {
-        DrawnOrder::Auto => Order::Auto(number),
-        DrawnOrder::Bursts => Order::Bursts(number),
-    };
+    let order = order_of(sweep.order, number);
     let ending = try_order(rt, alloc, &sweep.files, &order, sweep.events)?;
     Ok(ending.outcome)
 }
@@ -117,6 +125,7 @@ pub fn sweep_numbers<R: Threads + Sync, P: Progress + Sync>(
     let Ok(numbers) = numbers_from(alloc, first, count) else {
         return Err(NoOutcome::Memory);
     };
+    keep_memory(alloc);
     let outcomes = outcomes_of_all(rt, alloc, sweep, &numbers, progress)?;
     match tally_runs(alloc, first, &outcomes) {
         Ok(tallies) => Ok(tallies),

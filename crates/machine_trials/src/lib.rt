@@ -4,11 +4,13 @@
 mod beginning;
 mod ending;
 mod files;
+mod keeping;
 mod order;
 mod silent;
 mod trial;
 
 pub use ending::Ending;
 pub use files::{NoOutcome, RunFiles};
+pub use keeping::keep_memory;
 pub use order::Order;
 pub use trial::{script_of_order, try_order};

@@ -2,8 +2,8 @@
 #![tactic(auto)]
 
 mod again;
-mod telling;
 mod version;
+mod watching;
 
 use again::PlainFiles;
 use cli_diagnostics::{
@@ -22,8 +22,8 @@ use std::env;
 use std::io::{ErrorKind, IsTerminal};
 use std::process::ExitCode;
 use std::thread::Threads;
-use telling::Telling;
 use version::VERSION;
+use watching::Watching;
 
 // Every end has its status, out of memory before the program is called too.
 fn main(rt: HostRuntime) -> ExitCode {
@@ -36,10 +36,14 @@ fn main(rt: HostRuntime) -> ExitCode {
     let Ok(printing) = rt.clone() else {
         return ExitCode::from(Status::Memory.number());
     };
+    let Ok(counting) = rt.clone() else {
+        return ExitCode::from(Status::Memory.number());
+    };
     let is_watched = rt.stderr().is_terminal();
     if is_watched {
         explain_script(&rt, &words);
     }
+    let watching = Watching::new(counting, is_watched);
     let mut files = RealFiles::new(reading, is_watched);
     let mut keys = ReaderKeys::new(rt.reader());
     let mut out = StdSink::new(printing, is_watched);
@@ -51,9 +55,10 @@ fn main(rt: HostRuntime) -> ExitCode {
         &mut files,
         &mut keys,
         &mut out,
-        &Telling::new(&rt, is_watched),
+        &watching,
         &mut bench,
     );
+    watching.end();
     explain(&rt, &rt, &words, status);
     if is_watched {
         explain_ending(&rt, &words, &bench);

@@ -3,6 +3,7 @@ ghost use Rattle.std.specs.Prelude.{◌<◌, ◌-◌};
 ghost use Rattle.spec_processor.specs.Counters.{CanCount};
 
 use crate::memory::Answer;
+use cli_dispatch::Progress;
 use host_io::{MemFiles, MemSink};
 use live_keys::{Keys, MemKeys, Pace, Still};
 use secvisor_cli::Bench;
@@ -11,7 +12,7 @@ use std::sync::Wait;
 use std::thread::Threads;
 
 /// What the program's call answers to these words. Each parameter is a thing of its own outside of the program.
-pub fn answer_with<R: Threads + Wait + Sync, K: Keys + Send, P: Pace + Sync>(
+pub fn answer_with<R: Threads + Wait + Sync, K: Keys + Send, P: Pace + Progress + Sync>(
     rt: &R,
     alloc: Global,
     line: &[String],

@@ -7,6 +7,7 @@ use crate::calls::{is_same, line, make_call, print_lines, tell};
 use crate::case::Case;
 use crate::memory::{GOOD, Left, PRINTED_ROOM, hold, left_behind};
 use crate::values::{first_word, number};
+use cli_dispatch::Progress;
 use host_io::{Failed, MemFiles, MemSink};
 use live_keys::{Keys, MemKeys, Pace, Still};
 use std::alloc::{AllocError, Global};
@@ -16,7 +17,7 @@ use std::sync::atomic::{AtomicU64, Ordering};
 use std::thread::Threads;
 
 // The live run of a case.
-fn live<R: Threads + Wait + Sync, K: Keys + Send, P: Pace + Sync>(
+fn live<R: Threads + Wait + Sync, K: Keys + Send, P: Pace + Progress + Sync>(
     rt: &R,
     alloc: Global,
     case: &Case,
@@ -138,6 +139,10 @@ impl Pace for HeldPace<'_> {
             wait(&self.gate.sent, 1, &self.gate.event_came);
         }
     }
+}
+
+impl Progress for HeldPace<'_> {
+    fn count_run(&self) {}
 }
 
 // How many events stand before the first key, in a script that has one.

@@ -28,6 +28,7 @@ pub returns-in-Sweep-clause-owed : goal.returns-in-Sweep-clause-owed
 returns-in-Sweep-clause-owed g c = owed_of Sweep _ _ _ _ _ (sym c.in-Sweep.is ∙ c.top_call_of.ensures)
     (record {
       headline = c.secvisor_sweep.ensures.headline;
+      read_fault = c.secvisor_sweep.ensures.read_fault;
       unread = c.secvisor_sweep.ensures.unread;
       unsaved = c.secvisor_sweep.ensures.same;
       keys = refl;

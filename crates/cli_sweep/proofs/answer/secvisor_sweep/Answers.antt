@@ -1,6 +1,6 @@
-use Rattle.std.proofs.Common.{map, string_bytes}
+use Rattle.std.proofs.Common.{sym, ◌∙◌, map, string_bytes}
 use Rattle.cli_plans.specs.CommandLine.{sweep_judged}
-use Rattle.cli_sweep.proofs.AnswerLemmas.{keeps_files, unread, writes}
+use Rattle.cli_sweep.proofs.AnswerLemmas.{keeps_files, sweep_fault, unread, writes}
 use Rattle.cli_sweep.proofs.answer.secvisor_sweep.Goals as goal
 
 pub returns-clause-headline : goal.returns-clause-headline
@@ -17,3 +17,6 @@ returns-clause-reads g c = (keeps_files (sweep_judged (map string_bytes c.args.w
 
 pub returns-clause-writes : goal.returns-clause-writes
 returns-clause-writes g c = writes (sweep_judged (map string_bytes c.args.words.now)) _ _ _ _ _ c.answer.ensures
+
+pub returns-clause-read_fault : goal.returns-clause-read_fault
+returns-clause-read_fault g c = λ is. sweep_fault (map string_bytes c.args.words.now) _ _ _ _ _ c.answer.ensures (sym c.status_of_end.ensures ∙ is)

@@ -3,7 +3,7 @@ use Rattle.run_tally.specs.declared.outcome.Outcome.{Outcome}
 use Rattle.run_tally.specs.declared.tally.Tally.{Tally}
 use Rattle.run_tally.specs.Lines as lines
 use Rattle.cli_plans.specs.Words.{sweep_value}
-use Rattle.cli_sweep.specs.SweepAnswers.{Ends}
+use Rattle.cli_trials.specs.Writing.{WritesAll}
 use Rattle.cli_sweep.proofs.AnswerLemmas.{Borrows, entries_same}
 use Rattle.cli_sweep.proofs.answer.sweep_parts.Goals as goal
 
@@ -11,6 +11,6 @@ pub returns-in-Ok : goal.returns-in-Ok
 returns-in-Ok g c = λ rules reads.
     let parts = c.args.parts.now in
     let borrows : Borrows _ parts.policy.items parts.image.items parts.disk.items =
-    record { text_is = c.deref.ensures.value; file_is = c.deref-2.ensures.value; disk_is = c.deref-3.ensures.value } in
-    subst (λ (entries : List (Outcome × Tally)). Ends (lines.sweep_status entries) (lines.sweep_text entries) (g.O.Sink.state c.args.out.now) (g.O.Sink.state c.write_tallies.new.out) c.write_tallies.result)
+    record { text_is = c.files.ensures.policy; file_is = c.files.ensures.image; disk_is = c.files.ensures.disk } in
+    subst (λ (entries : List (Outcome × Tally)). WritesAll (lines.sweep_status entries) (lines.sweep_text entries) (g.O.Sink.state c.args.out.now) (g.O.Sink.state c.write_tallies.new.out) c.write_tallies.result)
     (entries_same _ (sweep_value c.args.asked.now) rules _ _ _ _ refl refl borrows reads c.in-Ok.ensures) c.write_tallies.ensures
