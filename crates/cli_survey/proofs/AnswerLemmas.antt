@@ -1,9 +1,8 @@
 -- From what is ready of `survey` to what is answered, and what follows of that.
-use Rattle.std.proofs.Common.{◌≡◌, ◌≤◌, ℕ, List, [], ◌∷◌, IsTrue, false, refl, sym, ◌∙◌, ap, subst, arith, inl, inr, Option, Some, None, Result, Ok, Err, IsErrOf}
+use Rattle.std.proofs.Common.{◌≡◌, ◌≤◌, ℕ, List, [], IsTrue, false, refl, sym, ◌∙◌, ap, subst, arith, inl, inr, Option, Some, None, Result, Ok, Err, IsErrOf}
 use Rattle.std.specs.Result.{is_ok}
 use Rattle.sv_types.specs.Limits.{max_events}
 use Rattle.sv_types.specs.Schedule.{first_events}
-use Rattle.sv_types.specs.declared.event.Event.{Event}
 use Rattle.sv_types.specs.declared.status.Status.{Status}
 use Rattle.spec_reference.specs.Start.{IsStart}
 use Rattle.spec_reference.specs.States.{State}

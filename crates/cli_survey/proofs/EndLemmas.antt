@@ -10,12 +10,11 @@ use Rattle.spec_reference.specs.Run.{step}
 use Rattle.spec_reference.specs.States.{State}
 use Rattle.spec_hardware.specs.Machine.{Machine}
 use Rattle.spec_hardware.specs.StandsFor.{StandsFor, machine_of}
-use Rattle.laws_survey.specs.Passing.{passed_over, survey_step, survey}
-use Rattle.host_io.specs.Outside.{SinkState, after_taking, BreaksOff, MayWrite, TookPrefix}
+use Rattle.laws_survey.specs.Passing.{survey_step, survey}
+use Rattle.host_io.specs.Outside.{SinkState, after_taking, BreaksOff, MayWrite}
 use Rattle.host_io.proofs.SinkLemmas.{after_taking-append, breaks_after, prefix_after, prefix_of_front, prefix_same, prefix_whole}
 use Rattle.host_io.specs.declared.trouble.Trouble.{Trouble}
 use Rattle.host_io.specs.declared.trouble.Trouble.TheVariants.{Write, Memory}
-use Rattle.machine.specs.Standing.{Stands}
 use Rattle.machine.proofs.Standing.{prints_after, stands_printed, stands_verdict}
 use Rattle.secvisor_cli.specs.Answers.{Writes, is_answer}
 use Rattle.secvisor_cli.proofs.EndLemmas.{broken_writes, run_is_answer}

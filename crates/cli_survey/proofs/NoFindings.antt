@@ -1,6 +1,6 @@
 -- A survey without a line passed over nothing.
-use Rattle.std.proofs.Common.{◌≡◌, ◌<◌, ◌+◌, ℕ, zero, suc, Bool, true, false, List, [], ◌∷◌, ◌++◌, refl, sym, ◌∙◌, ap, subst, arith, codes}
-use Rattle.std.specs.Prelude.{◌==◌, ◌^◌, ◌-◌, if◌then◌else◌, min}
+use Rattle.std.proofs.Common.{◌≡◌, ◌<◌, ℕ, Bool, true, false, List, [], ◌∷◌, ◌++◌, refl, ◌∙◌, ap, subst, arith, codes}
+use Rattle.std.specs.Prelude.{◌==◌, if◌then◌else◌}
 use Rattle.std.specs.Fmt.{decimal}
 use Rattle.std.proofs.lemmas.Bool.{eqb-true}
 use Rattle.std.proofs.lemmas.Bool.Decides.{nat_tests}
@@ -14,16 +14,16 @@ use Rattle.sv_types.specs.Kernel.{kernel_segments}
 use Rattle.spec_reference.specs.Report.{output, report}
 use Rattle.spec_reference.specs.Run.{run, step}
 use Rattle.spec_reference.specs.States.{State}
-use Rattle.laws_survey.specs.Passing.{passed_over, survey_step, survey}
+use Rattle.laws_survey.specs.Passing.{survey_step, survey}
 use Rattle.laws_survey.specs.Passes.{Pass, pass_of, passes}
 use Rattle.laws_survey.specs.SurveyLaws.{IsNoWrite}
 use Rattle.laws_survey.proofs.SurveysHold.{unpassed}
 use Rattle.elf64_symbols.specs.Names.{KernelNames, names_in}
-use Rattle.survey_findings.specs.Findings.{PassedWrites, demotions, denied_moves, no_writes, raised, with_write}
-use Rattle.survey_findings.specs.Lines.{denied_lines, fetch_lines, survey_lines, total_line, write_lines}
-use Rattle.cli_survey.specs.NoFindings.{IsThatRun, NoFindingsLaw}
+use Rattle.survey_findings.specs.Findings.{PassedWrites, demotions, denied_moves, no_writes, raised, refused_loads, with_write}
+use Rattle.survey_findings.specs.Lines.{denied_lines, fetch_lines, load_lines, survey_lines, total_line, write_lines}
+use Rattle.cli_survey.specs.NoFindings.{NoFindingsLaw}
 use Rattle.cli_survey.specs.Surveys.{occurrence_of, with_passes, writes_in}
-use Rattle.cli_survey.specs.SurveyAnswers.{lines_due, set_apart, survey_status}
+use Rattle.cli_survey.specs.SurveyAnswers.{set_apart, survey_status}
 
 -- ---- lists of two parts
 
@@ -54,8 +54,10 @@ unfolding survey_lines
 no_total names w notes e =
     let writes = write_lines names w.findings ++ total_line w.total in
     let fetches = fetch_lines names (demotions [] notes) in
+    let loads = load_lines (refused_loads [] notes) in
     total_none w.total
-    (second_none (write_lines names w.findings) (total_line w.total) (first_none writes fetches (first_none (writes ++ fetches) (denied_lines (denied_moves [] notes)) e)))
+    (second_none (write_lines names w.findings) (total_line w.total)
+    (first_none writes fetches (first_none (writes ++ fetches) loads (first_none ((writes ++ fetches) ++ loads) (denied_lines (denied_moves [] notes)) e))))
 
 -- ---- no pass
 

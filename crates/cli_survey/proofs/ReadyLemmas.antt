@@ -1,5 +1,5 @@
 -- What is made ready of `survey`, from what is made ready of a run.
-use Rattle.std.proofs.Common.{◌≡◌, ◌∙◌, ℕ, List, [], Bool, true, false, refl, sym, ap, subst, inl, inr, IsTrue, Option, Some, None, Result, Ok, Err}
+use Rattle.std.proofs.Common.{◌≡◌, ◌∙◌, ℕ, List, [], Bool, true, false, refl, sym, ap, subst, inl, inr, IsTrue, Option, Some, None, Ok}
 use Rattle.std.specs.Prelude.{if◌then◌else◌}
 use Rattle.std.specs.Str.{bytes_eq}
 use Rattle.std.proofs.lemmas.Option.{same_Some}
@@ -16,7 +16,7 @@ use Rattle.spec_hardware.specs.Reaches.{IsNew}
 use Rattle.host_io.specs.Outside.{FilesState}
 use Rattle.script.specs.AutoScripts.{events_of_text, first_refused}
 use Rattle.cli_plans.specs.CommandLine.{RunWords, Source, Rounds, Auto, Bursts, Text}
-use Rattle.cli_plans.specs.Plans.{Due, Refuse, RunFrom, Make, Plan, End, Read, Judge, Found, Faulty, Missing, Longer, Held, found_plan, policy_part, part_judged, kernel_part, disk_refusal, disk_part, text_part, script_part, image_measure, start_with, boot_judged, boot_plan, image_plan, max_image_bytes, run_plan}
+use Rattle.cli_plans.specs.Plans.{Due, Refuse, RunFrom, Make, Plan, End, Read, Judge, Found, Faulty, Missing, Longer, Held, found_plan, policy_part, part_judged, kernel_part, disk_refusal, disk_part, text_part, script_part, image_measure, boot_judged, boot_plan, image_plan, max_image_bytes, run_plan}
 use Rattle.cli_plans.specs.Reading.{Follows, FoundAs}
 use Rattle.cli_plans.proofs.PlanLemmas.{follows_keeps}
 use Rattle.cli_plans.specs.declared.file_fault.FileFault.{FileFault}

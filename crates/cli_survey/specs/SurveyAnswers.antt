@@ -8,7 +8,6 @@ use Rattle.sv_types.specs.Schedule.{first_events, line_feed}
 use Rattle.sv_types.specs.declared.event.Event.{Event}
 use Rattle.sv_types.specs.declared.event.Note.{Note}
 use Rattle.sv_types.specs.declared.event.Verdict.{Verdict}
-use Rattle.sv_types.specs.declared.event.Verdict.TheVariants.{Running}
 use Rattle.sv_types.specs.declared.status.Status.{Status}
 use Rattle.spec_reference.specs.Report.{report}
 use Rattle.spec_reference.specs.Start.{IsBootable, IsStart, boot_start}

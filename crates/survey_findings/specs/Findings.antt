@@ -5,6 +5,7 @@ use Rattle.std.specs.List.{list_any, position}
 use Rattle.spec_processor.specs.Bytes.{page_size}
 use Rattle.sv_types.specs.declared.event.Note.{Note}
 use Rattle.sv_types.specs.declared.event.Note.TheVariants.{Demote, Denied, Load, Unload, Retire}
+use Rattle.sv_types.specs.declared.sbi.SbiCode.{SbiCode}
 use Rattle.survey_findings.specs.declared.findings.Occurrence.{Occurrence}
 use Rattle.survey_findings.specs.declared.findings.Finding.{Finding}
 
@@ -80,9 +81,25 @@ after_denied fs (Load h turn id code) = fs
 after_denied fs (Unload h turn id code) = fs
 after_denied fs (Retire h turn code) = fs
 
+-- a load that was refused, since the text isn't the one that the policy permits: by the module's number
+abbrev pub refused_by_code : List Finding → SbiCode → Occurrence → List Finding
+refused_by_code fs SbiCode.RefusedByMeasure o = after_occurrence fs o
+refused_by_code fs _ o = fs
+
+unfoldable pub after_load : List Finding → Note → List Finding
+after_load fs (Demote h turn pc gpa) = fs
+after_load fs (Denied gpa) = fs
+after_load fs (Load h turn id code) = refused_by_code fs code (record { key = id; address = 0; hart = h; turn = turn })
+after_load fs (Unload h turn id code) = fs
+after_load fs (Retire h turn code) = fs
+
 abbrev pub demotions : List Finding → List Note → List Finding
 demotions fs [] = fs
 demotions fs (note ∷ notes) = demotions (after_demotion fs note) notes
+
+abbrev pub refused_loads : List Finding → List Note → List Finding
+refused_loads fs [] = fs
+refused_loads fs (note ∷ notes) = refused_loads (after_load fs note) notes
 
 abbrev pub denied_moves : List Finding → List Note → List Finding
 denied_moves fs [] = fs

@@ -6,7 +6,7 @@ use Rattle.elf64_symbols.specs.Symbols.{Location}
 use Rattle.elf64_symbols.specs.Names.{KernelNames, name_of_gpa, name_of_pc}
 use Rattle.elf64_symbols.specs.Printed.{location_text}
 use Rattle.sv_types.specs.declared.event.Note.{Note}
-use Rattle.survey_findings.specs.Findings.{PassedWrites, demotions, denied_moves}
+use Rattle.survey_findings.specs.Findings.{PassedWrites, demotions, denied_moves, refused_loads}
 use Rattle.survey_findings.specs.declared.findings.Finding.{Finding}
 
 -- the name of an address, or a dash
@@ -55,6 +55,12 @@ fetch_line names f = joined_fetch (fetch_head f) (fetch_first f) (name_text (nam
 unfoldable pub fetch_lines : KernelNames → List Finding → List ℕ
 fetch_lines names findings = flat_map (fetch_line names) findings
 
+unfoldable pub load_line : Finding → List ℕ
+load_line f = codes "load id " ++ (decimal f.key ++ (codes " times " ++ (decimal f.times ++ (codes " hart " ++ (decimal f.hart ++ (codes " turn " ++ (decimal f.turn ++ line_end)))))))
+
+unfoldable pub load_lines : List Finding → List ℕ
+load_lines findings = flat_map load_line findings
+
 unfoldable pub denied_line : Finding → List ℕ
 denied_line f = codes "denied gpa " ++ (address_text f.key ++ (codes " times " ++ (decimal f.times ++ line_end)))
 
@@ -65,4 +71,5 @@ denied_lines findings = flat_map denied_line findings
 
 unfoldable pub survey_lines : KernelNames → PassedWrites → List Note → List ℕ
 survey_lines names writes notes =
-    ((write_lines names writes.findings ++ total_line writes.total) ++ fetch_lines names (demotions [] notes)) ++ denied_lines (denied_moves [] notes)
+    (((write_lines names writes.findings ++ total_line writes.total) ++ fetch_lines names (demotions [] notes)) ++ load_lines (refused_loads [] notes))
+    ++ denied_lines (denied_moves [] notes)

@@ -6,7 +6,7 @@ ghost use Rattle.elf64_symbols.specs.Views.{location_view};
 ghost use Rattle.survey_findings.specs.Lines as spec;
 ghost use Rattle.survey_findings.specs.Views.{writes_view};
 
-use crate::findings::{Finding, Writes, demotions, denied_moves};
+use crate::findings::{Finding, Writes, demotions, denied_moves, refused_loads};
 use elf64_symbols::{KernelNames, Location, location_text};
 use std::alloc::{AllocError, Global};
 use sv_types::Note;
@@ -176,6 +176,33 @@ fn push_fetch_lines(
     Ok(())
 }
 
+#[tactic(auto, unfolding(crate::specs::Lines::load_line))]
+fn load_line(alloc: Global, finding: &Finding) -> Result<String, AllocError>
+    ensures { IfOk result (λ t. string_bytes t ≡ spec.load_line finding.now) }
+{
+    let id = finding.key;
+    let times = finding.times;
+    let hart = finding.hart;
+    let turn = finding.turn;
+    format!(in alloc; "load id {id} times {times} hart {hart} turn {turn}\n")
+}
+
+// The lines of the modules whose loads were refused for their text.
+#[tactic(auto, unfolding(crate::specs::Lines::load_lines))]
+fn push_load_lines(
+    alloc: Global,
+    text: &mut Vec<u8>,
+    findings: &[Finding],
+) -> Result<(), AllocError>
+    ensures { OnOk result (text.new.items ≡ text.old.items ++ spec.load_lines findings.now) }
+{
+    'findings: for finding in findings {
+        let line = load_line(alloc, finding)?;
+        text.extend_from_slice(line.as_str().as_bytes())?;
+    }
+    Ok(())
+}
+
 #[tactic(auto, unfolding(crate::specs::Lines::denied_line))]
 fn denied_line(alloc: Global, finding: &Finding) -> Result<String, AllocError>
     ensures { IfOk result (λ t. string_bytes t ≡ spec.denied_line finding.now) }
@@ -203,7 +230,7 @@ fn push_denied_lines(
 
 /// The lines of a survey's findings. First those of the writes that it passed over, in the order of their first turns: of each pc how
 /// often it wrote, the first hart and turn, the lowest and highest address, and the names of the pc and of the lowest address, or a
-/// dash, and then how many writes there were in all, where there were any. Then by the notes those of the pages at which kernel mode was left, with the first hart, turn and pc, and of the pages that
+/// dash, and then how many writes there were in all, where there were any. Then by the notes those of the pages at which kernel mode was left, with the first hart, turn and pc, of the modules whose loads were refused for their text, and of the pages that
 /// devices were kept from. Fails where memory runs out.
 #[tactic(auto, unfolding(crate::specs::Lines::survey_lines))]
 pub fn survey_lines(
@@ -220,6 +247,8 @@ pub fn survey_lines(
     text.extend_from_slice(total.as_str().as_bytes())?;
     let demotions = demotions(alloc, notes)?;
     push_fetch_lines(alloc, &mut text, names, &demotions)?;
+    let loads = refused_loads(alloc, notes)?;
+    push_load_lines(alloc, &mut text, &loads)?;
     let denied = denied_moves(alloc, notes)?;
     push_denied_lines(alloc, &mut text, &denied)?;
     Ok(text)

@@ -5,7 +5,7 @@ use crate::lines::survey_lines;
 use elf64_symbols::KernelNames;
 use std::alloc::{AllocError, Global};
 use std::test::Fail;
-use sv_types::Note;
+use sv_types::{Note, SbiCode};
 
 /// A pc, where it writes, the hart and the turn.
 static WRITES: [(u64, u64, u8, u64); 4] = [
@@ -15,7 +15,7 @@ static WRITES: [(u64, u64, u8, u64); 4] = [
     (0x8000_1004, 0x8000_2018, 0, 15),
 ];
 
-static NOTES: [Note; 3] = [
+static NOTES: [Note; 5] = [
     Note::Demote {
         hart: 0,
         turn: 20,
@@ -23,6 +23,18 @@ static NOTES: [Note; 3] = [
         gpa: 0x8000_3004,
     },
     Note::Denied { gpa: 0x8000_1FF8 },
+    Note::Load {
+        hart: 0,
+        turn: 18,
+        id: 3,
+        code: SbiCode::RefusedByMeasure,
+    },
+    Note::Load {
+        hart: 0,
+        turn: 19,
+        id: 3,
+        code: SbiCode::Success,
+    },
     Note::Demote {
         hart: 1,
         turn: 21,
@@ -36,6 +48,7 @@ const LINES: &str =
 write pc 0x0000000080001008 times 1 hart 1 turn 9 gpa 0x0000000080002000 to 0x0000000080002000 by - at -
 writes 4
 fetch gpa 0x0000000080003000 times 2 hart 0 turn 20 pc 0x0000000080003004 by -
+load id 3 times 1 hart 0 turn 18
 denied gpa 0x0000000080001000 times 1
 ";
 

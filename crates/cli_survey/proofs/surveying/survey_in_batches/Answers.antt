@@ -1,4 +1,4 @@
-use Rattle.std.proofs.Common.{◌≡◌, ◌≢◌, ◌<◌, ◌≤◌, ◌-◌, ◌+◌, ◌++◌, replicate, ap, sym, ◌∙◌, length, arith}
+use Rattle.std.proofs.Common.{◌≡◌, ◌≤◌, ◌-◌, ◌+◌, ◌++◌, replicate, ap, sym, ◌∙◌, length, arith}
 use Rattle.sv_types.specs.Limits.{max_events}
 use Rattle.sv_types.specs.Schedule.{first_events}
 use Rattle.host_io.specs.declared.trouble.Trouble.TheVariants.{Write, Memory}
