@@ -1,0 +1,5 @@
+pub mod Digits
+pub mod Framing
+pub mod Reading
+pub mod Readers
+pub mod FrameLaws
