@@ -1,6 +1,6 @@
 -- The reading of frames.
-use Rattle.std.proofs.Common.{◌≡◌, ℕ, ◌+◌, ◌-◌, ◌*◌, ◌/◌, ◌%◌, ◌<◌, ◌≤◌, Bool, true, false, not, ◌==◌, ◌&&◌, cond, if◌then◌else◌, List, [], ◌∷◌, ◌++◌, length, refl, sym, ◌∙◌, ap, subst, arith, Option, Some, None}
-use Rattle.std.specs.Prelude.{◌||◌, nat_lt, bit_xor, flat_map}
+use Rattle.std.proofs.Common.{◌≡◌, ℕ, ◌+◌, ◌/◌, ◌%◌, ◌<◌, ◌≤◌, Bool, true, false, not, ◌==◌, if◌then◌else◌, List, [], ◌∷◌, ◌++◌, length, refl, sym, ◌∙◌, ap, subst, arith, Some, None}
+use Rattle.std.specs.Prelude.{◌||◌, nat_lt, bit_xor}
 use Rattle.std.specs.List.{list_all}
 use Rattle.std.specs.Cmp.{first_so, second_so}
 use Rattle.std.proofs.lemmas.Bool.{ltb-true, ltb-false, lt-ltb, le-ltb, eqb-true, eq-eqb}
@@ -8,12 +8,10 @@ use Rattle.std.proofs.lemmas.Bool.Decides.{nat_tests}
 use Rattle.std.proofs.lemmas.List.{append-nil, append_assoc, length-append}
 use Rattle.std.proofs.lemmas.Nat.{div-add-mod', mod_below, div_below}
 use Rattle.gdb_protocol.specs.Digits.{digit, digit_value, pair_value, byte_digits}
-use Rattle.gdb_protocol.specs.Framing.{packet_start, packet_end, escape, escape_bit, is_reserved, repeat_mark, escaped_byte, escaped, sum_onto, checksum, framed, frame}
-use Rattle.gdb_protocol.specs.Reading.{Reading, Arrived, at, at_start, kept, summed, next_inside, next_at, arrival_at, arrivals, between, is_sum, ended, with_arrival, payload_of, max_payload, plus, minus, interrupt}
+use Rattle.gdb_protocol.specs.Framing.{packet_start, packet_end, escape, escape_bit, is_reserved, repeat_mark, escaped_byte, escaped, sum_onto, checksum, frame}
+use Rattle.gdb_protocol.specs.Reading.{Reading, Arrived, at, at_start, next_inside, next_at, arrival_at, arrivals, between, is_sum, ended, with_arrival, max_payload, plus, minus, interrupt}
 use Rattle.gdb_protocol.specs.FrameLaws.{arrivals_of, is_plain, is_noise, read_with, FramesAreRead, PlainFrames, LongFrames, Noise}
-use Rattle.gdb_protocol.specs.declared.arrival.Arrival.{Arrival}
 use Rattle.gdb_protocol.specs.declared.arrival.Arrival.TheVariants as kind
-use Rattle.gdb_protocol.specs.declared.place.Place.{Place}
 use Rattle.gdb_protocol.specs.declared.place.Place.TheVariants.{Outside, Inside, Escaped, Ended, AtLastDigit}
 
 -- ---- digits
@@ -27,7 +25,7 @@ digit_back n small = elim (nat_lt n 10) as (λ b. nat_lt n 10 ≡ b → digit_va
 pair_back : (n : ℕ) → n < 256 → pair_value (digit (n / 16)) (digit (n % 16)) ≡ Some n
 pair_back n small =
     rw (digit_back (n / 16) (div_below n 16 16 (omega arith) (omega arith)), digit_back (n % 16) (mod_below n 16 (omega arith)))
-      (ap Some (omega (arith, div-add-mod' n 16)))
+    (ap Some (omega (arith, div-add-mod' n 16)))
 
 -- ---- sums
 
@@ -50,16 +48,16 @@ outside payload total long = record { place = Outside; payload = payload; sum = 
 between_told : (b : ℕ) (r s : Reading) (rest : List Arrived) → with_arrival (between b) r rest ≡ with_arrival (between b) s rest
 between_told b r s rest =
     elim (b == plus) as (λ t. with_arrival (if t then Some kind.Received else if b == minus then Some kind.Again else if b == interrupt then Some kind.Interrupt else None) r rest
-      ≡ with_arrival (if t then Some kind.Received else if b == minus then Some kind.Again else if b == interrupt then Some kind.Interrupt else None) s rest) [
+    ≡ with_arrival (if t then Some kind.Received else if b == minus then Some kind.Again else if b == interrupt then Some kind.Interrupt else None) s rest) [
       | true ↦ refl
       | false ↦ elim (b == minus) as (λ t. with_arrival (if t then Some kind.Again else if b == interrupt then Some kind.Interrupt else None) r rest
           ≡ with_arrival (if t then Some kind.Again else if b == interrupt then Some kind.Interrupt else None) s rest) [
-          | true ↦ refl
-          | false ↦ elim (b == interrupt) as (λ t. with_arrival (if t then Some kind.Interrupt else None) r rest ≡ with_arrival (if t then Some kind.Interrupt else None) s rest) [
+            | true ↦ refl
+            | false ↦ elim (b == interrupt) as (λ t. with_arrival (if t then Some kind.Interrupt else None) r rest ≡ with_arrival (if t then Some kind.Interrupt else None) s rest) [
               | true ↦ refl
               | false ↦ refl
             ]
-        ]
+          ]
     ]
 
 next_outside : (starts : Bool) (p : List ℕ) (total : ℕ) (long : Bool) (bytes : List ℕ) → arrivals (outside p total long) bytes ≡ arrivals_of bytes →
@@ -78,7 +76,7 @@ outside_same p total long (b ∷ bytes) =
 
 noise_by : (s p m i : Bool) (bytes : List ℕ) → not (s || p || m || i) ≡ true →
     with_arrival (if p then Some kind.Received else if m then Some kind.Again else if i then Some kind.Interrupt else None) (at_start Outside)
-      (arrivals (if s then at_start Inside else at_start Outside) bytes) ≡ arrivals_of bytes
+    (arrivals (if s then at_start Inside else at_start Outside) bytes) ≡ arrivals_of bytes
 noise_by true p m i bytes h = absurd (cc)
 noise_by false true m i bytes h = absurd (cc)
 noise_by false false true i bytes h = absurd (cc)
@@ -100,9 +98,9 @@ inside payload total long = record { place = Inside; payload = payload; sum = to
 -- a byte of the data that stands for itself, by its tests and whether there is room
 plain_by : (s e x room : Bool) (b : ℕ) (p : List ℕ) (total : ℕ) (long : Bool) → not (s || e || x) ≡ true →
     (if s then at_start Inside
-     else if e then record { place = Ended; payload = p; sum = total; long = long }
-     else if x then record { place = Escaped; payload = p; sum = (total + b) % 256; long = long }
-     else if room then inside (p ++ b ∷ []) ((total + b) % 256) long else inside p ((total + b) % 256) true)
+    else if e then record { place = Ended; payload = p; sum = total; long = long }
+    else if x then record { place = Escaped; payload = p; sum = (total + b) % 256; long = long }
+    else if room then inside (p ++ b ∷ []) ((total + b) % 256) long else inside p ((total + b) % 256) true)
     ≡ (if room then inside (p ++ b ∷ []) ((total + b) % 256) long else inside p ((total + b) % 256) true)
 plain_by true e x room b p total long h = absurd (cc)
 plain_by false true x room b p total long h = absurd (cc)
@@ -187,8 +185,8 @@ long_by b text tail p total long plain further false room =
     record {
       first = p;
       read =
-        full_step b p total long (text ++ tail) (first_so (is_plain b) (list_all is_plain text) plain) (ltb-false _ _ room)
-        ∙ full_read text tail p ((total + b) % 256) (second_so (is_plain b) (list_all is_plain text) plain) (ltb-false _ _ room);
+          full_step b p total long (text ++ tail) (first_so (is_plain b) (list_all is_plain text) plain) (ltb-false _ _ room)
+          ∙ full_read text tail p ((total + b) % 256) (second_so (is_plain b) (list_all is_plain text) plain) (ltb-false _ _ room);
     }
 
 long_read : (text tail p : List ℕ) (total : ℕ) (long : Bool) → list_all is_plain text ≡ true → max_payload < length p + length text → length p ≤ max_payload →
@@ -196,9 +194,9 @@ long_read : (text tail p : List ℕ) (total : ℕ) (long : Bool) → list_all is
 long_read [] tail p total long plain many few = absurd (omega arith)
 long_read (b ∷ text) tail p total long plain many few =
     long_by b text tail p total long plain
-      (λ room. long_read text tail (p ++ b ∷ []) ((total + b) % 256) long (second_so (is_plain b) (list_all is_plain text) plain)
-        (omega (arith, many, length-append p (b ∷ []))) (omega (arith, room, length-append p (b ∷ []))))
-      (nat_lt (length p) max_payload) refl
+    (λ room. long_read text tail (p ++ b ∷ []) ((total + b) % 256) long (second_so (is_plain b) (list_all is_plain text) plain)
+    (omega (arith, many, length-append p (b ∷ []))) (omega (arith, room, length-append p (b ∷ []))))
+    (nat_lt (length p) max_payload) refl
 
 pub long_frames : LongFrames
 unfolding arrivals next_at arrival_at
@@ -232,7 +230,7 @@ escape_step : (b : ℕ) (p : List ℕ) (total : ℕ) (long : Bool) (bytes : List
 unfolding arrivals next_at next_inside arrival_at
 escape_step b p total long bytes room back =
     ap (λ t. arrivals (at Inside (if t then mid (p ++ bit_xor (bit_xor b escape_bit) escape_bit ∷ []) (((total + escape) % 256 + bit_xor b escape_bit) % 256) long
-      else mid p (((total + escape) % 256 + bit_xor b escape_bit) % 256) true)) bytes) (lt-ltb (length p) max_payload room)
+    else mid p (((total + escape) % 256 + bit_xor b escape_bit) % 256) true)) bytes) (lt-ltb (length p) max_payload room)
     ∙ ap (λ c. arrivals (inside (p ++ c ∷ []) (((total + escape) % 256 + bit_xor b escape_bit) % 256) long) bytes) back
 
 byte_read : (b : ℕ) (p : List ℕ) (total : ℕ) (long : Bool) (bytes : List ℕ) → length p < max_payload →
@@ -240,8 +238,8 @@ byte_read : (b : ℕ) (p : List ℕ) (total : ℕ) (long : Bool) (bytes : List �
 unfolding sum_onto
 byte_read b p total long bytes room =
     elim (is_reserved b) as (λ t. is_reserved b ≡ t →
-      arrivals (inside p total long) ((if t then escape ∷ bit_xor b escape_bit ∷ [] else b ∷ []) ++ bytes)
-      ≡ arrivals (inside (p ++ b ∷ []) (sum_onto total (if t then escape ∷ bit_xor b escape_bit ∷ [] else b ∷ [])) long) bytes) [
+    arrivals (inside p total long) ((if t then escape ∷ bit_xor b escape_bit ∷ [] else b ∷ []) ++ bytes)
+    ≡ arrivals (inside (p ++ b ∷ []) (sum_onto total (if t then escape ∷ bit_xor b escape_bit ∷ [] else b ∷ [])) long) bytes) [
       | true ↦ λ h. escape_step b p total long bytes room
           (reserved_by b (b == packet_end) (b == packet_start) (b == escape) (b == repeat_mark) refl refl refl refl h)
       | false ↦ λ h. kept_step b p total long bytes (unreserved_by (b == packet_end) (b == packet_start) (b == escape) (b == repeat_mark) h) room

@@ -1,1 +1,2 @@
 pub mod FrameReading
+pub mod Cutting

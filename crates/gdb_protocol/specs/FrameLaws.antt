@@ -29,14 +29,14 @@ read_with text right =
 abbrev pub PlainFrames : Type 0
 PlainFrames = (text rest : List ℕ) (first last : ℕ) → list_all is_plain text ≡ true → length text ≤ max_payload →
     arrivals_of (packet_start ∷ (text ++ packet_end ∷ first ∷ last ∷ rest)) ≡
-      read_with text (is_sum (checksum text) (pair_value first last)) ∷ arrivals_of rest
+    read_with text (is_sum (checksum text) (pair_value first last)) ∷ arrivals_of rest
 
 -- ---- too many bytes are no packet, whatever the checksum
 
 abbrev pub LongFrames : Type 0
 LongFrames = (text rest : List ℕ) (first last : ℕ) → list_all is_plain text ≡ true → max_payload < length text →
     arrivals_of (packet_start ∷ (text ++ packet_end ∷ first ∷ last ∷ rest)) ≡
-      record { kind = kind.TooLong; payload = [] } ∷ arrivals_of rest
+    record { kind = kind.TooLong; payload = [] } ∷ arrivals_of rest
 
 -- ---- other bytes between packets are passed over
 

@@ -1,5 +1,5 @@
 -- What contracts see of a reader.
-use Rattle.std.specs.Prelude.{ℕ, ◌≤◌, length, vec_capacity}
+use Rattle.std.specs.Prelude.{◌≤◌, length, vec_capacity}
 use Rattle.gdb_protocol.specs.Reading.{Reading, max_payload}
 use Rattle.gdb_protocol.specs.declared.reader.PacketReader.TheInside.{Inside}
 
