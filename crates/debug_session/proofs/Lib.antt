@@ -1,1 +1,2 @@
 pub mod SeenBytes
+pub mod Motions
