@@ -7,7 +7,7 @@ use crate::target::Target;
 use std::alloc::{AllocError, Global};
 use sv_types::Verdict;
 
-fn has_number(numbers: &[u64], number: u64) -> bool
+pub(crate) fn has_number(numbers: &[u64], number: u64) -> bool
     ensures { result ≡ has_number numbers.now number }
 {
     numbers.iter().any(|n| *n == number)
