@@ -1,2 +1,3 @@
 pub mod SeenBytes
 pub mod Motions
+pub mod Threads

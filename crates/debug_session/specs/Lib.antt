@@ -5,3 +5,4 @@ pub mod Description
 pub mod Sessions
 pub mod Desks
 pub mod Halts
+pub mod Performing

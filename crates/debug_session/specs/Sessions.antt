@@ -1,5 +1,5 @@
 -- A debugging session: what each packet does, and what it is answered. This project's own, over GDB's remote serial protocol.
-use Rattle.std.specs.Prelude.{ℕ, zero, suc, ◌+◌, ◌-◌, ◌%◌, max, Bool, true, false, not, ◌&&◌, ◌==◌, nat_lt, nat_le, if◌then◌else◌, List, [], ◌∷◌, ◌++◌, length, drop, map, filter, codes, is_some, unwrap_or, option_map, slice_get, Option, Some, None}
+use Rattle.std.specs.Prelude.{ℕ, zero, suc, ◌+◌, ◌-◌, ◌%◌, max, Bool, true, false, not, ◌&&◌, ◌==◌, nat_lt, nat_le, if◌then◌else◌, List, [], ◌∷◌, ◌++◌, length, drop, filter, flat_map, codes, is_some, unwrap_or, option_map, slice_get, Option, Some, None}
 use Rattle.sv_types.specs.declared.event.Verdict.{Verdict}
 use Rattle.sv_types.specs.declared.event.Verdict.TheVariants.{Running, Shutdown, Stopped}
 use Rattle.spec_reference.specs.States.{State, has_number}
@@ -111,8 +111,7 @@ more_threads hart (suc count) = codes "," ++ thread_digits hart ++ more_threads 
 
 -- all threads
 unfoldable pub threads_text : ℕ → List ℕ
-threads_text zero = codes "m"
-threads_text (suc count) = codes "m" ++ thread_digits 0 ++ more_threads 1 count
+threads_text count = if count == 0 then codes "m" else codes "m" ++ thread_digits 0 ++ more_threads 1 (count - 1)
 
 abbrev pub of_hart : (SavedHart → List ℕ) → Option SavedHart → List ℕ
 of_hart text None = error_text
@@ -205,23 +204,83 @@ told_now told printed = if nat_lt told (length printed) then console_text (drop 
 abbrev pub standing : Halt → Run → Desk → Desk
 standing halt run desk = record desk { looks = halt.hart; moves = halt.hart; told = max desk.told (length (state run).journal.printed) }
 
--- ---- any packet
+-- ---- what a packet leads to
 
--- what it leads to, and its answers one after the other
+-- a run, what is kept, and the answers one after the other
 pub record Outcome : Type 0 where
   pub run : Run
   pub desk : Desk
   pub answers : List (List ℕ)
 
+abbrev pub error_outcome : Run → Desk → Outcome
+error_outcome run desk = record { run = run; desk = desk; answers = error_text ∷ [] }
+
+abbrev pub motion_outcome : Motion → (hart : ℕ) → Run → Desk → Outcome
+motion_outcome motion hart run desk = record {
+  run = moved motion desk.breaks hart run;
+  desk = standing (halt_after motion desk.breaks hart run) (moved motion desk.breaks hart run) desk;
+  answers =
+    told_now desk.told (state (moved motion desk.breaks hart run)).journal.printed ++ halt_text (halt_after motion desk.breaks hart run) ∷ [];
+}
+
 abbrev pub by_motion : Motion → Option ℕ → Run → Desk → Outcome
-by_motion motion None run desk = record { run = run; desk = desk; answers = error_text ∷ [] }
-by_motion motion (Some hart) run desk =
-    let there = moved motion desk.breaks hart run in
-    let halt = halt_after motion desk.breaks hart run in
-    record { run = there; desk = standing halt there desk; answers = told_now desk.told (state there).journal.printed ++ halt_text halt ∷ [] }
+by_motion motion None run desk = error_outcome run desk
+by_motion motion (Some hart) run desk = motion_outcome motion hart run desk
+
+abbrev pub still_outcome : Packet → Run → Desk → Outcome
+still_outcome packet run desk = record { run = run; desk = desk_after run desk packet; answers = reply run desk packet ∷ [] }
 
 -- `k` has no answer
 abbrev pub by_packet : Packet → Run → Desk → Outcome
 by_packet (asks.Resume motion thread) run desk = by_motion motion (hart_of (hart_count run) desk.moves thread) run desk
-by_packet asks.Kill run desk = record { run = run; desk = desk_after run desk asks.Kill; answers = [] }
-by_packet packet run desk = record { run = run; desk = desk_after run desk packet; answers = reply run desk packet ∷ [] }
+by_packet asks.Kill run desk = record { run = run; desk = record desk { goes_on = false }; answers = [] }
+by_packet packet run desk = still_outcome packet run desk
+
+-- ---- whatever arrives
+
+abbrev pub with_answers : List (List ℕ) → Run → Desk → Outcome
+with_answers answers run desk = record { run = run; desk = desk; answers = answers }
+
+-- a packet with a wrong checksum is asked for once more by an acknowledgment; where there are none it is answered as an error
+abbrev pub by_arrival : Arrival → (payload : List ℕ) → Run → Desk → Outcome
+by_arrival kind.Packet payload run desk = by_packet (packet_of payload) run desk
+by_arrival kind.Broken payload run desk = with_answers (if desk.acks then [] else error_text ∷ []) run desk
+by_arrival kind.TooLong payload run desk = with_answers (error_text ∷ []) run desk
+by_arrival kind.Interrupt payload run desk = with_answers (halt_text (halt_of desk.breaks desk.looks run) ∷ []) run desk
+by_arrival kind.Received payload run desk = with_answers [] run desk
+by_arrival kind.Again payload run desk = with_answers (desk.last ∷ []) run desk
+
+-- the acknowledgment of what arrived
+abbrev pub acknowledgment : Arrival → List ℕ
+acknowledgment kind.Packet = plus ∷ []
+acknowledgment kind.Broken = minus ∷ []
+acknowledgment kind.TooLong = plus ∷ []
+acknowledgment kind.Interrupt = []
+acknowledgment kind.Received = []
+acknowledgment kind.Again = []
+
+abbrev pub acknowledged : Arrival → Desk → List ℕ
+acknowledged arrival desk = if desk.acks then acknowledgment arrival else []
+
+-- the last answer is kept
+abbrev pub last_of : List (List ℕ) → List ℕ → List ℕ
+last_of [] before = before
+last_of (answer ∷ answers) before = last_of answers answer
+
+abbrev pub remembered : Outcome → Desk
+remembered o = record o.desk { last = last_of o.answers o.desk.last }
+
+-- the bytes of answers
+abbrev pub frames : List (List ℕ) → List ℕ
+frames answers = flat_map frame answers
+
+-- ---- a session
+
+-- the bytes that are written on what arrives, one after the other, as long as it goes on
+unfoldable pub written : Run → Desk → List Arrived → List ℕ
+written run desk [] = []
+written run desk (arrived ∷ rest) =
+    if desk.goes_on
+    then acknowledged arrived.kind desk ++ frames (by_arrival arrived.kind arrived.payload run desk).answers
+        ++ written (by_arrival arrived.kind arrived.payload run desk).run (remembered (by_arrival arrived.kind arrived.payload run desk)) rest
+    else []

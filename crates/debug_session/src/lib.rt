@@ -7,6 +7,7 @@ mod desk;
 mod harts;
 mod memory;
 mod motion;
+mod performing;
 mod registers;
 mod replies;
 mod target;

@@ -119,6 +119,7 @@ fn push_more_threads(out: &mut Vec<u8>, harts: u8) -> Result<(), AllocError>
     Ok(())
 }
 
+#[tactic(auto, unfolding(crate::specs::Sessions::threads_text))]
 fn push_threads(out: &mut Vec<u8>, harts: u8) -> Result<(), AllocError>
     ensures { OnOk result (out.new.items ≡ out.old.items ++ spec.threads_text harts) }
 {
