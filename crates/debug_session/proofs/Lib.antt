@@ -1,3 +1,4 @@
 pub mod SeenBytes
 pub mod Motions
 pub mod Threads
+pub mod ServingSteps

@@ -6,3 +6,4 @@ pub mod Sessions
 pub mod Desks
 pub mod Halts
 pub mod Performing
+pub mod Serving

@@ -1,6 +1,7 @@
 //! A debugging session by gdb's protocol.
 #![tactic(auto)]
 
+mod breakdown;
 mod breaks;
 mod description;
 mod desk;
@@ -10,10 +11,13 @@ mod motion;
 mod performing;
 mod registers;
 mod replies;
+mod serving;
 mod target;
 
+pub use breakdown::Breakdown;
 pub use desk::Desk;
 pub use harts::hart_words;
 pub use memory::push_seen_bytes;
 pub use registers::{push_register, push_registers};
+pub use serving::serve;
 pub use target::Target;

@@ -1,5 +1,5 @@
 // The reader of a stream.
-ghost use Rattle.std.specs.Prelude.{◌≡◌, ◌≤◌, length, IfOk};
+ghost use Rattle.std.specs.Prelude.{◌≡◌, ◌≤◌, length, IfOk, IfSome};
 ghost use Rattle.gdb_protocol.specs.declared.place.Place.TheVariants.{Inside, Outside};
 ghost use Rattle.gdb_protocol.specs.Reading as spec;
 
@@ -63,6 +63,8 @@ impl PacketReader {
     pub fn take(&mut self, byte: u8) -> Option<Arrival>
         ensures next { self.new ≡ spec.next byte self.old }
         ensures arrival { result ≡ spec.arrival byte self.old }
+        // What arrived is still there.
+        ensures payload { IfSome result (λ kind. spec.payload_of kind self.new ≡ spec.payload_of kind self.old) }
     {
         match self.place {
             Place::Outside => {
