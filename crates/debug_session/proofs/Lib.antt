@@ -2,3 +2,4 @@ pub mod SeenBytes
 pub mod Motions
 pub mod Threads
 pub mod ServingSteps
+pub mod ServingLoop
