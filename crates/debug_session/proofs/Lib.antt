@@ -3,3 +3,4 @@ pub mod Motions
 pub mod Threads
 pub mod ServingSteps
 pub mod ServingLoop
+pub mod RunLawsHold

@@ -7,3 +7,4 @@ pub mod Desks
 pub mod Halts
 pub mod Performing
 pub mod Serving
+pub mod RunLaws
