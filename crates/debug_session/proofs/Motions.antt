@@ -1,14 +1,14 @@
 -- A run under way: forwards to a halt, and once more up to a place.
 use Rattle.std.proofs.Common.{◌≡◌, ℕ, zero, suc, ◌+◌, ◌-◌, ◌<◌, ◌≤◌, Bool, true, false, if◌then◌else◌, List, length, refl, sym, ◌∙◌, ap, Option, Some, None, arith}
 use Rattle.std.specs.Prelude.{unwrap_or}
-use Rattle.debug_session.specs.Runs.{Run, after, events_left, next_turn, halts, halts_after, first_halt, ahead, is_target, is_step, meets_break, last_below}
+use Rattle.debug_session.specs.Runs.{Run, after, events_left, next_turn, halts, halts_after, first_halt, is_target, last_below}
 
--- n events more are made of so many that were left, and the halt is still ahead
-pub record Underway {T : Type 0} (stands : T → Run → Type 0) (breaks : List ℕ) (steps : Option ℕ) (first : T) (left n : ℕ) (now : T) : Type 0 where
-  pub left_is : (run : Run) → stands first run → left ≡ events_left run
+-- n events more are made of at most so many that were left, and the halt is still ahead
+pub record Underway {T : Type 0} (stands : T → Run → Type 0) (breaks : List ℕ) (steps : Option ℕ) (first : T) (most n : ℕ) (now : T) : Type 0 where
+  pub few : (run : Run) → stands first run → events_left run ≤ most
   pub here : (run : Run) → stands first run → stands now (after run (run.made + n))
   pub still : (run : Run) → stands first run →
-      first_halt (halts_after breaks steps run) run.made (events_left run) ≡ first_halt (halts_after breaks steps run) (run.made + n) (left - n)
+      first_halt (halts_after breaks steps run) run.made (events_left run) ≡ first_halt (halts_after breaks steps run) (run.made + n) (events_left run - n)
 
 pub first_halt_none : (h : ℕ → Bool) (n left : ℕ) → left ≡ 0 → first_halt h n left ≡ n
 unfolding first_halt

@@ -1,7 +1,7 @@
 -- Where a run halts.
-use Rattle.std.proofs.Common.{◌≡◌, ℕ, zero, suc, ◌+◌, ◌-◌, ◌<◌, ◌≤◌, ◌⊎◌, inl, inr, Bool, true, false, if◌then◌else◌, List, length, refl, sym, ◌∙◌, ap, subst, Option, Some, None, arith}
-use Rattle.debug_session.specs.Runs.{Run, after, ahead, events_left, first_halt, halts_after, back_number, is_target, last_below}
-use Rattle.debug_session.specs.RunLaws.{IsAhead, IsLastBelow, IsBehind, AheadLaw, BehindLaw}
+use Rattle.std.proofs.Common.{◌≡◌, ℕ, zero, suc, ◌+◌, ◌-◌, ◌<◌, ◌≤◌, inl, inr, Bool, true, false, if◌then◌else◌, length, refl, subst, Option, Some, None, arith}
+use Rattle.debug_session.specs.Runs.{ahead, events_left, first_halt, halts_after, back_number, is_target, last_below}
+use Rattle.debug_session.specs.RunLaws.{IsAhead, IsBehind, AheadLaw, BehindLaw}
 
 -- ---- forwards
 

@@ -1,8 +1,8 @@
 -- A session under way, and its ends.
-use Rattle.std.proofs.Common.{◌≡◌, ℕ, ◌<◌, Bool, List, [], ◌∷◌, ◌++◌, refl, sym, ◌∙◌, ap, subst, Option, Some, None, Result, Ok, Err}
+use Rattle.std.proofs.Common.{◌≡◌, ℕ, ◌<◌, List, [], ◌∷◌, ◌++◌, refl, sym, ◌∙◌, ap, subst, Option, Some, None, Ok}
 use Rattle.std.proofs.lemmas.List.{append-nil, append_assoc}
 use Rattle.spec_processor.specs.Counters.{CanCount}
-use Rattle.host_io.specs.Outside.{SinkState, MayWrite, after_taking, append_bytes, BreaksOff, TookPrefix}
+use Rattle.host_io.specs.Outside.{SinkState, MayWrite, after_taking, append_bytes, BreaksOff}
 use Rattle.live_keys.specs.Keys.{KeysState, NextGives, ReadFails, before_taking, with_front}
 use Rattle.gdb_protocol.specs.Reading.{Reading, at_start, arrivals}
 use Rattle.gdb_protocol.specs.declared.place.Place.TheVariants.{Outside}

@@ -1,5 +1,5 @@
 -- One byte of a session.
-use Rattle.std.proofs.Common.{◌≡◌, ℕ, Bool, true, false, if◌then◌else◌, List, [], ◌∷◌, ◌++◌, refl, sym, ◌∙◌, ap, subst, Option, Some, None}
+use Rattle.std.proofs.Common.{◌≡◌, ℕ, true, if◌then◌else◌, List, [], ◌∷◌, ◌++◌, refl, sym, ◌∙◌, ap, Some, None}
 use Rattle.std.proofs.lemmas.List.{append-nil, append_assoc}
 use Rattle.gdb_protocol.specs.Reading.{Reading, arrival, arrivals, next, payload_of, with_arrival}
 use Rattle.gdb_protocol.specs.declared.arrival.Arrival.{Arrival}

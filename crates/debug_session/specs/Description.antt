@@ -1,9 +1,9 @@
 -- What this side tells gdb of itself. GDB manual, "General Query Packets" (qSupported) and "Target Descriptions".
-use Rattle.std.specs.Prelude.{ℕ, List, [], ◌∷◌, ◌++◌, codes}
+use Rattle.std.specs.Prelude.{ℕ, List, ◌++◌, codes}
 
 -- what is supported
 abbrev pub supported_text : List ℕ
-supported_text = codes "PacketSize=4000;QStartNoAckMode+;qXfer:features:read+;ReverseStep+;ReverseContinue+;vContSupported+;swbreak-;hwbreak+"
+supported_text = codes "PacketSize=4000;ReverseStep+;ReverseContinue+;qXfer:features:read+;hwbreak+;swbreak+;vContSupported+;QStartNoAckMode+"
 
 -- the registers, in the order of their numbers
 unfoldable pub description : List ℕ

@@ -1,8 +1,8 @@
 -- What a session owes to the bytes that come in, whatever they are. This project's own.
-use Rattle.std.specs.Prelude.{◌≡◌, ℕ, List, [], ◌∷◌, ◌++◌, Result, Ok, Err}
+use Rattle.std.specs.Prelude.{◌≡◌, ℕ, List, ◌∷◌, ◌++◌, Result, Ok, Err}
 use Rattle.host_io.specs.Outside.{SinkState, after_taking, BreaksOff, TookPrefix}
 use Rattle.live_keys.specs.Keys.{KeysState, before_taking, with_front}
-use Rattle.gdb_protocol.specs.Reading.{Reading, at_start, arrivals}
+use Rattle.gdb_protocol.specs.Reading.{Reading, arrivals}
 use Rattle.gdb_protocol.specs.FrameLaws.{arrivals_of}
 use Rattle.debug_session.specs.Runs.{Run}
 use Rattle.debug_session.specs.Sessions.{Desk, first_desk, written}

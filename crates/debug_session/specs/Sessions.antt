@@ -2,7 +2,7 @@
 use Rattle.std.specs.Prelude.{ℕ, zero, suc, ◌+◌, ◌-◌, ◌%◌, max, Bool, true, false, not, ◌&&◌, ◌==◌, nat_lt, nat_le, if◌then◌else◌, List, [], ◌∷◌, ◌++◌, length, drop, filter, flat_map, codes, is_some, unwrap_or, option_map, slice_get, Option, Some, None}
 use Rattle.sv_types.specs.declared.event.Verdict.{Verdict}
 use Rattle.sv_types.specs.declared.event.Verdict.TheVariants.{Running, Shutdown, Stopped}
-use Rattle.spec_reference.specs.States.{State, has_number}
+use Rattle.spec_reference.specs.States.{has_number}
 use Rattle.spec_saved_machine.specs.SavedStates.{saved_hart}
 use Rattle.spec_saved_machine.specs.declared.harts.SavedHart.{SavedHart}
 use Rattle.gdb_protocol.specs.Answers.{stop_text, console_text, part_text}

@@ -14,6 +14,8 @@ mod registers;
 mod replies;
 mod serving;
 mod target;
+#[cfg(test)]
+mod tests;
 
 pub use breakdown::Breakdown;
 pub use desk::Desk;

@@ -60,8 +60,11 @@ pub(crate) fn go_ahead<T: Target>(
 ) -> Result<(), AllocError>
     ensures { OnOk result ((run : spec.Run) → T.stands target.old run → T.stands target.new (spec.ahead breaks.now steps run)) }
 {
-    let left = target.events_left();
-    'events: for _ in 0..left {
+    let most = target.most_left();
+    'events: for _ in 0..most {
+        if !target.is_left() {
+            return Ok(());
+        }
         let turn = target.next_turn();
         target.advance()?;
         if halts(target, breaks, steps, turn) {

@@ -1,5 +1,5 @@
 // What is debugged.
-ghost use Rattle.std.specs.Prelude.{◌≡◌, ◌<◌, ◌≤◌, ◌+◌, ℕ, OnOk, option_map, slice_get, length};
+ghost use Rattle.std.specs.Prelude.{◌≡◌, ◌<◌, ◌≤◌, ◌+◌, ℕ, OnOk, option_map, slice_get, length, nat_lt};
 ghost use Rattle.spec_saved_machine.specs.SavedStates.{saved_hart};
 ghost use Rattle.debug_session.specs.Runs.{Run, after, events_left, next_turn, place_of, state};
 
@@ -12,9 +12,13 @@ pub trait Target {
     /// It stands where a run is.
     ghost stands: { Self → Run → Type 0 };
 
-    /// The events that aren't made.
-    fn events_left(&self) -> u64
-        ensures { (run : Run) → stands self.now run → result ≡ events_left run };
+    /// No more events than these are left.
+    fn most_left(&self) -> u64
+        ensures { (run : Run) → stands self.now run → events_left run ≤ result };
+
+    /// Whether an event is left.
+    fn is_left(&self) -> bool
+        ensures { (run : Run) → stands self.now run → result ≡ nat_lt run.made (length run.events) };
 
     /// The events that are made.
     fn events_made(&self) -> u64

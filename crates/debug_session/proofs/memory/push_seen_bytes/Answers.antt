@@ -1,5 +1,4 @@
-use Rattle.std.proofs.Common.{rules, ◌≡◌, ◌+◌, ◌-◌, ◌*◌, ◌<◌, ◌≤◌, ◌^◌, ◌++◌, ◌∷◌, [], sym, ◌∙◌, ap, Some, arith}
-use Rattle.std.proofs.lemmas.Bool.Decides.{nat_tests}
+use Rattle.std.proofs.Common.{rules, ◌≡◌, ◌+◌, ◌-◌, ◌<◌, ◌≤◌, ◌^◌, ◌++◌, ◌∷◌, [], sym, ◌∙◌, ap, arith}
 use Rattle.debug_session.specs.Memory.{seen_byte, seen_bytes}
 use Rattle.debug_session.proofs.SeenBytes.{none_left, past_the_end, unseen, seen, all_put, one_put}
 use Rattle.debug_session.proofs.memory.push_seen_bytes.Goals as goal

@@ -1,6 +1,6 @@
-use Rattle.std.proofs.Common.{rules, ◌≡◌, ℕ, ◌+◌, ◌<◌, ◌≤◌, length, sym, ◌∙◌, ap, subst, arith}
+use Rattle.std.proofs.Common.{◌≡◌, ◌+◌, ◌≤◌, length, ◌∙◌, ap, subst, arith}
 use Rattle.std.specs.Prelude.{unwrap_or}
-use Rattle.debug_session.specs.Runs.{Run, after, behind, back_number, is_target, last_below}
+use Rattle.debug_session.specs.Runs.{after, behind, back_number, is_target, last_below}
 use Rattle.debug_session.proofs.Motions.{last_small}
 use Rattle.debug_session.proofs.motion.go_back.Goals as goal
 

@@ -1,4 +1,4 @@
-use Rattle.std.proofs.Common.{rules, ◌≡◌, ℕ, ◌+◌, ◌<◌, ◌≤◌, length, true, false, if◌then◌else◌, Some, refl, sym, ◌∙◌, ap, arith}
+use Rattle.std.proofs.Common.{rules, ◌≡◌, ◌<◌, ◌≤◌, length, if◌then◌else◌, Some, sym, ◌∙◌, ap, arith}
 use Rattle.debug_session.specs.Runs.{Run, after, is_target, last_below}
 use Rattle.debug_session.proofs.Motions.{same_target, last_below_none, last_below_next}
 use Rattle.debug_session.proofs.motion.last_target.Goals.{then-is_target, else-is_target}

@@ -1,4 +1,4 @@
-use Rattle.std.proofs.Common.{rules, ◌≡◌, ℕ, ◌+◌, ◌-◌, ◌<◌, List, ◌++◌, codes, ◌∙◌, ap, arith}
+use Rattle.std.proofs.Common.{rules, ◌≡◌, ◌+◌, ◌-◌, ◌<◌, ◌++◌, codes, ◌∙◌, ap, arith}
 use Rattle.debug_session.specs.Sessions.{more_threads, thread_digits}
 use Rattle.debug_session.proofs.Threads.{no_more_threads, one_thread_more}
 use Rattle.debug_session.proofs.replies.push_more_threads.Goals as goal

@@ -1,4 +1,4 @@
-use Rattle.std.proofs.Common.{rules, ◌≡◌, List, [], ◌∷◌, sym, ◌∙◌, ap, subst, Err, Ok}
+use Rattle.std.proofs.Common.{rules, ◌≡◌, sym, subst, Err}
 use Rattle.debug_session.specs.Serving.{Serves, ServesAll}
 use Rattle.debug_session.specs.declared.breakdown.Breakdown.TheVariants.{Memory, Write}
 use Rattle.debug_session.proofs.ServingLoop.{serves_all, serves_up_to_read, serves_some, serves_up_to_write, goes_on, ended, taken_byte, from_nothing}
