@@ -178,4 +178,4 @@ pub from_nothing : {T : Type 0} (stands : T → Run → Type 0) (target after : 
     (run : Run) → stands target run → Steps stands run desk reading byte [] after kept read seen
 from_nothing stands target after desk kept reading read byte before more seen none is steps run here =
     subst (λ m. Steps stands run desk reading byte [] after kept read m) (sym is)
-      (subst (λ b. Steps stands run desk reading byte b after kept read more) none (steps run here))
+    (subst (λ b. Steps stands run desk reading byte b after kept read more) none (steps run here))

@@ -38,7 +38,7 @@ written_step : (run : Run) (desk : Desk) (some : Arrival) (r after : Reading) (r
 unfolding written
 written_step run desk some r after rest goes same o is =
     ap (λ b. if b then acknowledged some desk ++ frames (by_arrival some (payload_of some r) run desk).answers
-        ++ written (by_arrival some (payload_of some r) run desk).run (remembered (by_arrival some (payload_of some r) run desk)) (arrivals after rest) else []) goes
+    ++ written (by_arrival some (payload_of some r) run desk).run (remembered (by_arrival some (payload_of some r) run desk)) (arrivals after rest) else []) goes
     ∙ ap (λ (p : Outcome). acknowledged some desk ++ frames p.answers ++ written p.run (remembered p) (arrivals after rest)) (payload_there some r after same run desk ∙ is)
 
 pub something_arrives : {T : Type 0} (stands : T → Run → Type 0) (run : Run) (desk : Desk) (r : Reading) (byte : ℕ) (some : Arrival) (before : List ℕ) (target : T) (kept : Desk) (bytes : List ℕ) →

@@ -220,7 +220,7 @@ motion_outcome motion hart run desk = record {
   run = moved motion desk.breaks hart run;
   desk = standing (halt_after motion desk.breaks hart run) (moved motion desk.breaks hart run) desk;
   answers =
-    told_now desk.told (state (moved motion desk.breaks hart run)).journal.printed ++ halt_text (halt_after motion desk.breaks hart run) ∷ [];
+      told_now desk.told (state (moved motion desk.breaks hart run)).journal.printed ++ halt_text (halt_after motion desk.breaks hart run) ∷ [];
 }
 
 abbrev pub by_motion : Motion → Option ℕ → Run → Desk → Outcome
@@ -282,5 +282,5 @@ written run desk [] = []
 written run desk (arrived ∷ rest) =
     if desk.goes_on
     then acknowledged arrived.kind desk ++ frames (by_arrival arrived.kind arrived.payload run desk).answers
-        ++ written (by_arrival arrived.kind arrived.payload run desk).run (remembered (by_arrival arrived.kind arrived.payload run desk)) rest
+    ++ written (by_arrival arrived.kind arrived.payload run desk).run (remembered (by_arrival arrived.kind arrived.payload run desk)) rest
     else []

@@ -3,7 +3,8 @@ ghost use Rattle.std.specs.Prelude.{◌≡◌};
 ghost use Rattle.debug_session.specs.Description as spec;
 
 /// What is supported.
-pub(crate) const SUPPORTED: &[u8] = b"PacketSize=4000;ReverseStep+;ReverseContinue+;qXfer:features:read+;hwbreak+;swbreak+;vContSupported+;QStartNoAckMode+";
+pub(crate) const SUPPORTED: &[u8] =
+    b"PacketSize=4000;ReverseStep+;ReverseContinue+;qXfer:features:read+;hwbreak+;swbreak+;vContSupported+;QStartNoAckMode+";
 
 /// The registers, in the order of their numbers.
 #[tactic(auto, unfolding(crate::specs::Description::description))]

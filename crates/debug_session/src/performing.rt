@@ -118,7 +118,12 @@ fn give_error(alloc: Global, desk: &mut Desk, out: &mut Vec<u8>) -> Result<(), A
 }
 
 // What the console printed beyond what was told.
-fn tell_console(alloc: Global, told: usize, printed: &[u8], out: &mut Vec<u8>) -> Result<(), AllocError>
+fn tell_console(
+    alloc: Global,
+    told: usize,
+    printed: &[u8],
+    out: &mut Vec<u8>,
+) -> Result<(), AllocError>
     ensures { OnOk result (out.new.items ≡ out.old.items ++ spec.frames (spec.told_now told printed.now)) }
 {
     if told < printed.len() {
@@ -129,7 +134,12 @@ fn tell_console(alloc: Global, told: usize, printed: &[u8], out: &mut Vec<u8>) -
     Ok(())
 }
 
-fn give_halt(alloc: Global, desk: &mut Desk, halt: Halt, out: &mut Vec<u8>) -> Result<(), AllocError>
+fn give_halt(
+    alloc: Global,
+    desk: &mut Desk,
+    halt: Halt,
+    out: &mut Vec<u8>,
+) -> Result<(), AllocError>
     ensures bytes { OnOk result (out.new.items ≡ out.old.items ++ spec.frames (spec.halt_text (halt_value halt) ∷ [])) }
     ensures desk { OnOk result (desk.new ≡ record desk.old { last = spec.halt_text (halt_value halt) }) }
 {

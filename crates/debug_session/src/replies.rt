@@ -150,7 +150,11 @@ fn push_all_registers(out: &mut Vec<u8>, hart: Option<SavedHart>) -> Result<(), 
     }
 }
 
-fn push_one_register(out: &mut Vec<u8>, hart: Option<SavedHart>, number: u64) -> Result<(), AllocError>
+fn push_one_register(
+    out: &mut Vec<u8>,
+    hart: Option<SavedHart>,
+    number: u64,
+) -> Result<(), AllocError>
     ensures { OnOk result (out.new.items ≡ out.old.items ++ spec.of_hart (λ h. look.register_text h number) hart) }
 {
     match hart {
@@ -191,7 +195,11 @@ fn push_memory(
     push_bytes(out, &bytes)
 }
 
-fn push_words_about(alloc: Global, out: &mut Vec<u8>, hart: Option<SavedHart>) -> Result<(), AllocError>
+fn push_words_about(
+    alloc: Global,
+    out: &mut Vec<u8>,
+    hart: Option<SavedHart>,
+) -> Result<(), AllocError>
     ensures { OnOk result (out.new.items ≡ out.old.items ++ spec.of_hart (λ h. byte_digits (look.hart_words h)) hart) }
 {
     match hart {
@@ -235,7 +243,13 @@ fn push_about_run<T: Target>(
         Packet::StopReason => push_halt(out, halt_of(target, &desk.breaks, desk.looks)),
         Packet::Registers => push_all_registers(out, target.hart(desk.looks)),
         Packet::Register(number) => push_one_register(out, target.hart(desk.looks), number),
-        Packet::Memory(range) => push_memory(alloc, out, target.hart(desk.looks), target.ram(), range),
+        Packet::Memory(range) => push_memory(
+            alloc,
+            out,
+            target.hart(desk.looks),
+            target.ram(),
+            range,
+        ),
         Packet::Choose(thread) | Packet::IsAlive(thread) => {
             push_if(out, hart_of(harts, desk.looks, thread).is_some())
         }

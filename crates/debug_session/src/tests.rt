@@ -117,7 +117,13 @@ fn looks(rt: HostRuntime) -> Result<(), Fail> {
 fn motions(rt: HostRuntime) -> Result<(), Fail> {
     let alloc = rt.alloc();
     assert!(rt; is_answered(alloc, b"$vCont;s:2;c#c2", b"+$T05thread:02;#08")?);
-    assert!(rt; is_answered(alloc, b"$Z0,80000008,4#a6$vCont;c#a8", b"+$OK#9a+$T05thread:02;hwbreak:;#61")?);
+    assert!(rt;
+        is_answered(
+            alloc,
+            b"$Z0,80000008,4#a6$vCont;c#a8",
+            b"+$OK#9a+$T05thread:02;hwbreak:;#61"
+        )?
+    );
     assert!(rt; is_answered(alloc, b"$bc#c5", b"+$T05thread:01;replaylog:begin;#50")?);
     Ok(())
 }

@@ -14,9 +14,9 @@ returns-in_default-seen_byte c =
     let within : c.args.va + c.bytes.i < 2 ^ 64 = search rules in
     let some : 0 < c.args.count - c.bytes.i = search rules in
     all_put c.bytes.out.items _ _
-      (unseen c.args.ram.now c.args.satp (c.args.va + c.bytes.i) (c.args.count - c.bytes.i) some within
-        (ap (λ a. seen_byte c.args.ram.now c.args.satp a) (sym at) ∙ sym c.seen_byte.ensures ∙ c.in_default-seen_byte.is))
-      c.bytes.invariant
+    (unseen c.args.ram.now c.args.satp (c.args.va + c.bytes.i) (c.args.count - c.bytes.i) some within
+    (ap (λ a. seen_byte c.args.ram.now c.args.satp a) (sym at) ∙ sym c.seen_byte.ensures ∙ c.in_default-seen_byte.is))
+    c.bytes.invariant
 
 pub bytes-preserved : goal.bytes-preserved
 bytes-preserved c =
@@ -27,7 +27,7 @@ bytes-preserved c =
     let place : c.args.va + (c.bytes.i + 1) ≡ c.args.va + c.bytes.i + 1 = omega arith in
     let left : c.args.count - (c.bytes.i + 1) ≡ c.args.count - c.bytes.i - 1 = omega arith in
     let more = seen c.args.ram.now c.args.satp (c.args.va + c.bytes.i) (c.args.count - c.bytes.i) c.in-Some-seen_byte.byte some within
-        (ap (λ a. seen_byte c.args.ram.now c.args.satp a) (sym at) ∙ sym c.seen_byte.ensures ∙ c.in-Some-seen_byte.is) in
+    (ap (λ a. seen_byte c.args.ram.now c.args.satp a) (sym at) ∙ sym c.seen_byte.ensures ∙ c.in-Some-seen_byte.is) in
     ap (λ xs. xs ++ seen_bytes c.args.ram.now c.args.satp (c.args.va + (c.bytes.i + 1)) (c.args.count - (c.bytes.i + 1))) pushed
     ∙ ap (λ va. c.bytes.out.items ++ c.in-Some-seen_byte.byte ∷ [] ++ seen_bytes c.args.ram.now c.args.satp va (c.args.count - (c.bytes.i + 1))) place
     ∙ ap (λ n. c.bytes.out.items ++ c.in-Some-seen_byte.byte ∷ [] ++ seen_bytes c.args.ram.now c.args.satp (c.args.va + c.bytes.i + 1) n) left

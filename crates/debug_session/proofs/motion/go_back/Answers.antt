@@ -13,7 +13,7 @@ returns-clause-moved g c = λ run stands.
     let few : c.events_made-made.result ≤ length run.events = omega (arith, made, within) in
     let anew = c.in_ok-restart.ensures run stands in
     let number : c.unwrap_or.result ≡ unwrap_or (last_below p run.made) 0 =
-        c.unwrap_or.ensures ∙ ap (λ o. unwrap_or o 0) (c.in_ok-number.ensures.found run anew few ∙ ap (last_below p) made) in
+    c.unwrap_or.ensures ∙ ap (λ o. unwrap_or o 0) (c.in_ok-number.ensures.found run anew few ∙ ap (last_below p) made) in
     let small : unwrap_or (last_below p run.made) 0 ≤ run.made = last_small p run.made in
     let again = c.in_ok-restart-2.ensures (after run c.events_made-made.result) (c.in_ok-number.ensures.moved run anew few) in
     let there = c.in_ok-advance_by.ensures (after run 0) again (omega (arith, number, small, within)) in

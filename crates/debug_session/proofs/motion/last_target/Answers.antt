@@ -13,8 +13,8 @@ events-init g c = record {
 pub events-preserved : goal.events-preserved
 events-preserved g c =
     let test : (run : Run) → g.T.Target.stands c.args.target.now (after run 0) → c.args.count ≤ length run.events →
-        c.is_target.result ≡ is_target c.args.breaks.now c.args.steps run c.events.n = λ run stands few.
-        c.is_target.ensures (after run c.events.n) (c.events.invariant.here run stands few) ∙ same_target c.args.breaks.now c.args.steps run c.events.n in
+    c.is_target.result ≡ is_target c.args.breaks.now c.args.steps run c.events.n = λ run stands few.
+    c.is_target.ensures (after run c.events.n) (c.events.invariant.here run stands few) ∙ same_target c.args.breaks.now c.args.steps run c.events.n in
     let some : c.events.n < c.args.count = search rules in
     record {
       here = λ run stands few. c.in_ok-advance.ensures (after run c.events.n) (c.events.invariant.here run stands few) (omega (arith, some, few));
