@@ -106,7 +106,8 @@ next_at stands run target after desk kept reading read input bytes more byte at 
       ∙ sym (append_assoc bytes more (written steps.now kept (arrivals read rest)));
 }
 
-pub goes_on : {T : Type 0} (stands : T → Run → Type 0) (first target after : T) (keys left next : KeysState) (old new later : SinkState) (desk kept : Desk) (reading read : Reading) (byte : ℕ) (more : List ℕ) →
+pub goes_on : {T : Type 0} (stands : T → Run → Type 0)
+    (first target after : T) (keys left next : KeysState) (old new later : SinkState) (desk kept : Desk) (reading read : Reading) (byte : ℕ) (more : List ℕ) →
     Underway stands first target keys left old new desk reading → left ≡ before_taking (byte ∷ []) next → later ≡ after_taking new more →
     ((run : Run) → stands target run → Steps stands run desk reading byte [] after kept read more) →
     Underway stands first after keys next old later kept read
@@ -139,7 +140,8 @@ serves_some stands first target keys left next old new desk reading byte u one =
 }
 
 -- a write failed on a byte
-pub serves_up_to_write : {T : Type 0} (stands : T → Run → Type 0) (first target after : T) (keys left next : KeysState) (old new later : SinkState) (desk kept : Desk) (reading read : Reading) (byte : ℕ) (more : List ℕ) →
+pub serves_up_to_write : {T : Type 0} (stands : T → Run → Type 0)
+    (first target after : T) (keys left next : KeysState) (old new later : SinkState) (desk kept : Desk) (reading read : Reading) (byte : ℕ) (more : List ℕ) →
     Underway stands first target keys left old new desk reading → left ≡ before_taking (byte ∷ []) next → BreaksOff new later more →
     ((run : Run) → stands target run → Steps stands run desk reading byte [] after kept read more) →
     ServesUpToWrite stands first keys next old later

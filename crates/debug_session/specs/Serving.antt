@@ -54,7 +54,8 @@ pub record StandsAt {T : Type 0} (stands : T → Run → Type 0) (run : Run) (ta
   pub still : (rest : List ℕ) → answered run (input ++ rest) ≡ bytes ++ written now desk (arrivals reading rest)
 
 -- after one byte: what was put is what is written on it
-pub record Steps {T : Type 0} (stands : T → Run → Type 0) (run : Run) (desk : Desk) (reading : Reading) (byte : ℕ) (before : List ℕ) (target : T) (kept : Desk) (read : Reading) (bytes : List ℕ) : Type 0 where
+pub record Steps {T : Type 0} (stands : T → Run → Type 0) (run : Run) (desk : Desk) (reading : Reading) (byte : ℕ) (before : List ℕ)
+    (target : T) (kept : Desk) (read : Reading) (bytes : List ℕ) : Type 0 where
   pub now : Run
   pub stands_there : stands target now
   pub more : List ℕ

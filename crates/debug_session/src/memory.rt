@@ -48,7 +48,8 @@ fn entry_at(ram: &[u8], gpa: u64) -> Option<u64>
 fn last_level(ram: &[u8], regime: &Regime, table: u64, va: u64) -> Option<u64>
     requires table { table < 2 ^ 57 }
     requires canonical { is_canonical va ≡ true }
-    ensures { result ≡ spec.address_in (walk (entry_in_ram ram.now) (permits_access (settings_of regime.now) regime.now.mode Access.Load) (indices_of 1 va) table va) }
+    ensures { result ≡ spec.address_in (walk (entry_in_ram ram.now) (permits_access (settings_of regime.now) regime.now.mode Access.Load) (indices_of 1 va)
+        table va) }
 {
     let entry = PteBits(entry_at(ram, table + ENTRY_BYTES * index(va, 0))?);
     if is_pointer(entry) {
@@ -61,7 +62,8 @@ fn last_level(ram: &[u8], regime: &Regime, table: u64, va: u64) -> Option<u64>
 fn middle_level(ram: &[u8], regime: &Regime, table: u64, va: u64) -> Option<u64>
     requires table { table < 2 ^ 57 }
     requires canonical { is_canonical va ≡ true }
-    ensures { result ≡ spec.address_in (walk (entry_in_ram ram.now) (permits_access (settings_of regime.now) regime.now.mode Access.Load) (indices_of 2 va) table va) }
+    ensures { result ≡ spec.address_in (walk (entry_in_ram ram.now) (permits_access (settings_of regime.now) regime.now.mode Access.Load) (indices_of 2 va)
+        table va) }
 {
     let entry = PteBits(entry_at(ram, table + ENTRY_BYTES * index(va, 1))?);
     if is_pointer(entry) {
@@ -74,7 +76,8 @@ fn middle_level(ram: &[u8], regime: &Regime, table: u64, va: u64) -> Option<u64>
 fn first_level(ram: &[u8], regime: &Regime, table: u64, va: u64) -> Option<u64>
     requires table { table < 2 ^ 57 }
     requires canonical { is_canonical va ≡ true }
-    ensures { result ≡ spec.address_in (walk (entry_in_ram ram.now) (permits_access (settings_of regime.now) regime.now.mode Access.Load) (indices_of 3 va) table va) }
+    ensures { result ≡ spec.address_in (walk (entry_in_ram ram.now) (permits_access (settings_of regime.now) regime.now.mode Access.Load) (indices_of 3 va)
+        table va) }
 {
     let entry = PteBits(entry_at(ram, table + ENTRY_BYTES * index(va, 2))?);
     if is_pointer(entry) {

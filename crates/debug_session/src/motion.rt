@@ -87,7 +87,8 @@ fn is_target<T: Target>(target: &T, breaks: &[u64], steps: Option<u8>) -> bool
 
 // So many events more are made.
 fn advance_by<T: Target>(target: &mut T, count: u64) -> Result<(), AllocError>
-    ensures { OnOk result ((run : spec.Run) → T.stands target.old run → run.made + count ≤ length run.events → T.stands target.new (spec.after run (run.made + count))) }
+    ensures { OnOk result ((run : spec.Run) → T.stands target.old run → run.made + count ≤ length run.events →
+        T.stands target.new (spec.after run (run.made + count))) }
 {
     'events: for _ in 0..count {
         target.advance()?;
@@ -102,8 +103,10 @@ fn last_target<T: Target>(
     steps: Option<u8>,
     count: u64,
 ) -> Result<Option<u64>, AllocError>
-    ensures found { IfOk result (λ number. (run : spec.Run) → T.stands target.old (spec.after run 0) → count ≤ length run.events → number ≡ spec.last_below (spec.is_target breaks.now steps run) count) }
-    ensures moved { OnOk result ((run : spec.Run) → T.stands target.old (spec.after run 0) → count ≤ length run.events → T.stands target.new (spec.after run count)) }
+    ensures found { IfOk result (λ number. (run : spec.Run) → T.stands target.old (spec.after run 0) → count ≤ length run.events →
+        number ≡ spec.last_below (spec.is_target breaks.now steps run) count) }
+    ensures moved { OnOk result ((run : spec.Run) → T.stands target.old (spec.after run 0) → count ≤ length run.events →
+        T.stands target.new (spec.after run count)) }
 {
     let mut last = None;
     'events: for n in 0..count {

@@ -158,7 +158,8 @@ fn answer_motion<T: Target>(
     hart: u8,
     out: &mut Vec<u8>,
 ) -> Result<(), AllocError>
-    ensures { OnOk result ((run : Run) → T.stands target.old run → Performs T.stands (spec.motion_outcome motion hart run desk.old) out.old.items target.new desk.new out.new.items) }
+    ensures { OnOk result ((run : Run) → T.stands target.old run →
+        Performs T.stands (spec.motion_outcome motion hart run desk.old) out.old.items target.new desk.new out.new.items) }
 {
     let halt = move_run(alloc, target, &desk.breaks, motion, hart)?;
     tell_console(alloc, desk.told, target.console(), out)?;
@@ -173,7 +174,8 @@ fn answer_still<T: Target>(
     packet: Packet,
     out: &mut Vec<u8>,
 ) -> Result<(), AllocError>
-    ensures { OnOk result ((run : Run) → T.stands target.now run → Performs T.stands (spec.still_outcome packet run desk.old) out.old.items target.now desk.new out.new.items) }
+    ensures { OnOk result ((run : Run) → T.stands target.now run →
+        Performs T.stands (spec.still_outcome packet run desk.old) out.old.items target.now desk.new out.new.items) }
 {
     let mut answer = Vec::new(alloc);
     push_reply(alloc, &mut answer, target, desk, packet)?;
@@ -188,7 +190,8 @@ fn answer_packet<T: Target>(
     packet: Packet,
     out: &mut Vec<u8>,
 ) -> Result<(), AllocError>
-    ensures { OnOk result ((run : Run) → T.stands target.old run → Performs T.stands (spec.by_packet packet run desk.old) out.old.items target.new desk.new out.new.items) }
+    ensures { OnOk result ((run : Run) → T.stands target.old run →
+        Performs T.stands (spec.by_packet packet run desk.old) out.old.items target.new desk.new out.new.items) }
 {
     match packet {
         Packet::Resume(motion, thread) => {
@@ -220,7 +223,8 @@ fn answer<T: Target>(
     payload: &[u8],
     out: &mut Vec<u8>,
 ) -> Result<(), AllocError>
-    ensures { OnOk result ((run : Run) → T.stands target.old run → Performs T.stands (spec.by_arrival arrival payload.now run desk.old) out.old.items target.new desk.new out.new.items) }
+    ensures { OnOk result ((run : Run) → T.stands target.old run →
+        Performs T.stands (spec.by_arrival arrival payload.now run desk.old) out.old.items target.new desk.new out.new.items) }
 {
     match arrival {
         Arrival::Packet => answer_packet(alloc, target, desk, packet_of(payload), out),
@@ -259,7 +263,8 @@ pub(crate) fn take_arrival<T: Target>(
     out: &mut Vec<u8>,
 ) -> Result<(), AllocError>
     ensures { OnOk result ((run : Run) → T.stands target.old run →
-        Performs T.stands (spec.by_arrival arrival payload.now run desk.old) (out.old.items ++ spec.acknowledged arrival desk.old) target.new desk.new out.new.items) }
+        Performs T.stands (spec.by_arrival arrival payload.now run desk.old) (out.old.items ++ spec.acknowledged arrival desk.old) target.new desk.new
+        out.new.items) }
 {
     acknowledge(out, desk.acks, arrival)?;
     answer(alloc, target, desk, arrival, payload, out)

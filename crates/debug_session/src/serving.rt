@@ -25,7 +25,8 @@ fn take_byte<T: Target>(
     out: &mut Vec<u8>,
 ) -> Result<(), AllocError>
     requires goes_on { desk.old.goes_on ≡ true }
-    ensures { OnOk result ((run : Run) → T.stands target.old run → Steps T.stands run desk.old reader.old byte out.old.items target.new desk.new reader.new out.new.items) }
+    ensures { OnOk result ((run : Run) → T.stands target.old run →
+        Steps T.stands run desk.old reader.old byte out.old.items target.new desk.new reader.new out.new.items) }
 {
     match reader.take(byte) {
         Some(arrival) => take_arrival(alloc, target, desk, arrival, reader.payload(), out),

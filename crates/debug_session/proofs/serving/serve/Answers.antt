@@ -31,7 +31,8 @@ returns-in_err-write_all g c =
     let failed : c.from_residual-in_err-write_all.result ≡ Err Write = search rules in
     record {
       headline =
-          subst (λ r. Serves g.T.Target.stands c.args.target.now (g.K.Keys.state c.args.keys.now) (g.K.Keys.state c.next.new.self) (g.O.Sink.state c.args.out.now) (g.O.Sink.state c.write_all.new.out) r)
+          subst (λ r. Serves g.T.Target.stands c.args.target.now (g.K.Keys.state c.args.keys.now) (g.K.Keys.state c.next.new.self) (g.O.Sink.state c.args.out.now) (g.O.Sink.state
+          c.write_all.new.out) r)
           (sym failed) (serves_up_to_write _ _ _ _ _ _ _ _ _ _ _ _ _ _ c.in-Some.byte _ c.bytes.invariant (taken_byte _ _ c.in-Ok.next c.in-Some.byte c.in-Ok.ensures c.in-Some.is)
           c.in_err-write_all.ensures.failed
           (from_nothing _ _ _ _ _ _ _ _ _ _ _ c.clear.ensures.items c.deref.ensures.value c.in_ok-take_byte.ensures));
