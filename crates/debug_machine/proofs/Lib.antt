@@ -1,0 +1,3 @@
+pub mod OneEvent
+pub mod Drawing
+pub mod Standings

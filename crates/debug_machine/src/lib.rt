@@ -1,0 +1,9 @@
+//! The machine as what is debugged: its run over a script, from its beginning as often as asked.
+#![tactic(auto)]
+
+mod beginning;
+mod debugged;
+mod stepping;
+
+pub use beginning::Beginning;
+pub use debugged::DebuggedMachine;
