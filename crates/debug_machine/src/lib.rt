@@ -3,7 +3,9 @@
 
 mod beginning;
 mod debugged;
+mod debugging;
 mod stepping;
 
 pub use beginning::Beginning;
 pub use debugged::DebuggedMachine;
+pub use debugging::debug;

@@ -122,7 +122,6 @@ fn seen_byte(ram: &[u8], satp: u64, va: u64) -> Option<u8>
 
 /// So many bytes from a virtual address on are put at the end: those before the first that isn't seen, or before the end of
 /// addresses.
-#[tactic(auto, using(crate::proofs::SeenBytes::past_the_end, crate::proofs::SeenBytes::unseen, crate::proofs::SeenBytes::seen, crate::proofs::SeenBytes::none_left))]
 pub fn push_seen_bytes(
     out: &mut Vec<u8>,
     ram: &[u8],
