@@ -31,7 +31,7 @@ reservation_kept : (tables : ℕ) (reservation : Option ℕ) → option_map (gpa
 reservation_kept tables None = refl
 reservation_kept tables (Some place) = let same : tables + place - tables ≡ place = omega arith in ap (λ (p : ℕ). Some (gpa_at p)) same
 
-hart_kept : (tables : ℕ) (exits : HypervisorRegisters) (clock : Clock) (h : ℕ) (hart : Hart)
+pub hart_kept : (tables : ℕ) (exits : HypervisorRegisters) (clock : Clock) (h : ℕ) (hart : Hart)
     → kept_hart tables (timer_of clock h) (hw_hart tables exits hart) ≡ saved_hart clock h hart
 hart_kept tables exits clock h hart =
     rw (same_mode hart.mode hart.entry, enabled_kept hart.supervisor.sie, software_kept hart.supervisor.software, reservation_kept tables hart.reservation) refl

@@ -16,3 +16,4 @@ pub mod Standing
 pub mod DrawnBatches
 pub mod ConsoleLemmas
 pub mod Passes
+pub mod Looking

@@ -10,6 +10,7 @@ mod machine_start;
 mod resume;
 mod running;
 mod saved;
+mod seen;
 mod start;
 mod text;
 

@@ -97,7 +97,7 @@ fn saved_harts(
     Ok(harts)
 }
 
-fn saved_hart(slot: &HartSlot, timer: u64, tables: usize) -> SavedHart
+pub(crate) fn saved_hart(slot: &HartSlot, timer: u64, tables: usize) -> SavedHart
     requires { IsKeepable tables slot.now.hart.core.reservation }
     ensures { result ≡ kept_hart tables timer (hw_at slot.now) }
 {

@@ -1,0 +1,4 @@
+pub mod OneEvent
+pub mod Drawing
+pub mod Standings
+pub mod OneRun

@@ -1,0 +1,28 @@
+// Where a run begins.
+ghost use Rattle.std.specs.Prelude.{◌≡◌, IfOk};
+ghost use Rattle.sv_types.specs.Schedule.{Schedule};
+ghost use Rattle.spec_reference.specs.States.{State};
+ghost use Rattle.spec_hardware.specs.Reaches.{IsNew};
+ghost use Rattle.laws_standing.specs.Starts.{journal_at_boot};
+
+use machine::Machine;
+use script::Script;
+use std::alloc::{AllocError, Global};
+
+/// Where a run begins, as often as asked.
+pub trait Beginning {
+    /// The state that it begins from.
+    ghost start: { Self → State };
+
+    /// The events that it may make.
+    ghost schedule: { Self → Schedule };
+
+    /// A machine before its first event.
+    fn machine(&self, alloc: Global) -> Result<Machine, AllocError>
+        ensures new { IfOk result (λ m. IsNew m (start self.now)) }
+        ensures journal { IfOk result (λ m. m.journal ≡ journal_at_boot) };
+
+    /// Its events, from the first on.
+    fn script(&self, alloc: Global) -> Result<Script, AllocError>
+        ensures { IfOk result (λ s. s ≡ schedule self.now) };
+}

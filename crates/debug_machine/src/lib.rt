@@ -1,0 +1,11 @@
+//! The machine as what is debugged: its run over a script, from its beginning as often as asked.
+#![tactic(auto)]
+
+mod beginning;
+mod debugged;
+mod debugging;
+mod stepping;
+
+pub use beginning::Beginning;
+pub use debugged::DebuggedMachine;
+pub use debugging::debug;

@@ -1,0 +1,10 @@
+pub mod Memory
+pub mod Looks
+pub mod Runs
+pub mod Description
+pub mod Sessions
+pub mod Desks
+pub mod Halts
+pub mod Performing
+pub mod Serving
+pub mod RunLaws

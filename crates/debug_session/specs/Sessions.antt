@@ -1,0 +1,286 @@
+-- A debugging session: what each packet does, and what it is answered. This project's own, over GDB's remote serial protocol.
+use Rattle.std.specs.Prelude.{ℕ, zero, suc, ◌+◌, ◌-◌, ◌%◌, max, Bool, true, false, not, ◌&&◌, ◌==◌, nat_lt, nat_le, if◌then◌else◌, List, [], ◌∷◌, ◌++◌, length, drop, filter, flat_map, codes, is_some, unwrap_or, option_map, slice_get, Option, Some, None}
+use Rattle.sv_types.specs.declared.event.Verdict.{Verdict}
+use Rattle.sv_types.specs.declared.event.Verdict.TheVariants.{Running, Shutdown, Stopped}
+use Rattle.spec_reference.specs.States.{has_number}
+use Rattle.spec_saved_machine.specs.SavedStates.{saved_hart}
+use Rattle.spec_saved_machine.specs.declared.harts.SavedHart.{SavedHart}
+use Rattle.gdb_protocol.specs.Answers.{stop_text, console_text, part_text}
+use Rattle.gdb_protocol.specs.Digits.{byte_digits}
+use Rattle.gdb_protocol.specs.Framing.{frame}
+use Rattle.gdb_protocol.specs.Reading.{Arrived, plus, minus}
+use Rattle.gdb_protocol.specs.Packets.{packet_of}
+use Rattle.gdb_protocol.specs.declared.arrival.Arrival.{Arrival}
+use Rattle.gdb_protocol.specs.declared.arrival.Arrival.TheVariants as kind
+use Rattle.gdb_protocol.specs.declared.packet.Thread.{Thread}
+use Rattle.gdb_protocol.specs.declared.packet.Thread.TheVariants.{Any, Number}
+use Rattle.gdb_protocol.specs.declared.packet.Range.{Range}
+use Rattle.gdb_protocol.specs.declared.packet.Motion.{Motion}
+use Rattle.gdb_protocol.specs.declared.packet.Motion.TheVariants.{Continue, Step, ContinueBack, StepBack}
+use Rattle.gdb_protocol.specs.declared.packet.Packet.{Packet}
+use Rattle.gdb_protocol.specs.declared.packet.Packet.TheVariants as asks
+use Rattle.gdb_protocol.specs.declared.stop.Stop.{Stop}
+use Rattle.gdb_protocol.specs.declared.stop.Stop.TheVariants as by
+use Rattle.debug_session.specs.Description.{description, supported_text}
+use Rattle.debug_session.specs.Looks.{error_text, hart_words, register_text, registers_text}
+use Rattle.debug_session.specs.Memory.{seen_bytes}
+use Rattle.debug_session.specs.Runs.{Run, state, ahead, behind, back_number, meets_break, next_turn}
+
+-- what is kept between packets
+pub record Desk : Type 0 where
+  -- the hart whose registers and memory are asked for, and the one that goes on
+  pub looks : ℕ
+  pub moves : ℕ
+  pub breaks : List ℕ
+  -- how many of the console's bytes were told
+  pub told : ℕ
+  -- whether packets are acknowledged
+  pub acks : Bool
+  -- the last answer
+  pub last : List ℕ
+  pub goes_on : Bool
+
+-- nothing is set, and packets are acknowledged
+abbrev pub first_desk : Desk
+first_desk = record { looks = 0; moves = 0; breaks = []; told = 0; acks = true; last = []; goes_on = true }
+
+-- ---- harts
+
+abbrev pub hart_count : Run → ℕ
+hart_count run = length (state run).harts
+
+-- a hart as a snapshot keeps it
+abbrev pub hart_at : Run → ℕ → Option SavedHart
+hart_at run hart = option_map (saved_hart (state run).devices.clock hart) (slice_get (state run).harts hart)
+
+-- threads are harts, numbered from 1 on. Any thread is the one that was chosen before
+abbrev pub hart_of : (harts chosen : ℕ) → Thread → Option ℕ
+hart_of harts chosen Any = Some chosen
+hart_of harts chosen (Number number) = if nat_lt 0 number && nat_le number harts then Some (number - 1) else None
+
+-- a byte; a machine has few harts
+abbrev pub thread_of_hart : ℕ → ℕ
+thread_of_hart hart = (hart + 1) % 256
+
+-- ---- breaks
+
+abbrev pub with_break : List ℕ → ℕ → List ℕ
+with_break breaks place = if has_number breaks place then breaks else breaks ++ place ∷ []
+
+abbrev pub without_break : List ℕ → ℕ → List ℕ
+without_break breaks place = filter (λ b. not (b == place)) breaks
+
+-- ---- why a run stands where it does
+
+pub record Halt : Type 0 where
+  pub stop : Stop
+  pub hart : ℕ
+
+abbrev pub running_halt : (breaks : List ℕ) → (hart : ℕ) → Run → Halt
+running_halt breaks hart run =
+    if meets_break breaks run then record { stop = by.Break; hart = unwrap_or (next_turn run) hart } else record { stop = by.Step; hart = hart }
+
+-- a broken rule is the fault of the hart that broke it
+abbrev pub halt_by : Verdict → (breaks : List ℕ) → (hart : ℕ) → Run → Halt
+halt_by Running breaks hart run = running_halt breaks hart run
+halt_by Shutdown breaks hart run = record { stop = by.End; hart = hart }
+halt_by (Stopped rule broke turn) breaks hart run = record { stop = by.Fault; hart = broke }
+
+unfoldable pub halt_of : (breaks : List ℕ) → (hart : ℕ) → Run → Halt
+halt_of breaks hart run = halt_by (state run).journal.verdict breaks hart run
+
+abbrev pub halt_text : Halt → List ℕ
+halt_text halt = stop_text halt.stop (thread_of_hart halt.hart)
+
+-- ---- answers of packets that move nothing
+
+abbrev pub ok_text : List ℕ
+ok_text = codes "OK"
+
+abbrev pub ok_or_error : Bool → List ℕ
+ok_or_error true = ok_text
+ok_or_error false = error_text
+
+abbrev pub thread_digits : ℕ → List ℕ
+thread_digits hart = byte_digits (thread_of_hart hart ∷ [])
+
+-- so many threads from one on, a comma before each
+unfoldable pub more_threads : (hart count : ℕ) → List ℕ
+more_threads hart zero = []
+more_threads hart (suc count) = codes "," ++ thread_digits hart ++ more_threads (hart + 1) count
+
+-- all threads
+unfoldable pub threads_text : ℕ → List ℕ
+threads_text count = if count == 0 then codes "m" else codes "m" ++ thread_digits 0 ++ more_threads 1 (count - 1)
+
+abbrev pub of_hart : (SavedHart → List ℕ) → Option SavedHart → List ℕ
+of_hart text None = error_text
+of_hart text (Some hart) = text hart
+
+abbrev pub of_thread : (ℕ → List ℕ) → Option ℕ → List ℕ
+of_thread text None = error_text
+of_thread text (Some hart) = text hart
+
+abbrev pub bytes_text : List ℕ → List ℕ
+bytes_text [] = error_text
+bytes_text (byte ∷ bytes) = byte_digits (byte ∷ bytes)
+
+-- the most bytes of memory in an answer
+abbrev pub max_bytes : ℕ
+max_bytes = 8000
+
+abbrev pub at_most : ℕ → ℕ → ℕ
+at_most most n = if nat_lt n most then n else most
+
+unfoldable pub memory_text : List ℕ → Range → SavedHart → List ℕ
+memory_text ram range hart = bytes_text (seen_bytes ram hart.satp range.start (at_most max_bytes range.length))
+
+-- about the harts of a run
+abbrev pub reply_about : Run → Desk → Packet → List ℕ
+reply_about run desk asks.StopReason = halt_text (halt_of desk.breaks desk.looks run)
+reply_about run desk asks.Registers = of_hart registers_text (hart_at run desk.looks)
+reply_about run desk (asks.Register number) = of_hart (λ hart. register_text hart number) (hart_at run desk.looks)
+reply_about run desk (asks.Memory range) = of_hart (memory_text (state run).ram range) (hart_at run desk.looks)
+reply_about run desk (asks.Choose thread) = ok_or_error (is_some (hart_of (hart_count run) desk.looks thread))
+reply_about run desk (asks.ChooseToMove thread) = ok_or_error (is_some (hart_of (hart_count run) desk.moves thread))
+reply_about run desk (asks.IsAlive thread) = ok_or_error (is_some (hart_of (hart_count run) desk.looks thread))
+reply_about run desk asks.FirstThreads = threads_text (hart_count run)
+reply_about run desk (asks.ThreadText thread) =
+    of_thread (λ hart. of_hart (λ h. byte_digits (hart_words h)) (hart_at run hart)) (hart_of (hart_count run) desk.looks thread)
+reply_about run desk packet = []
+
+-- and about this side; others get the empty answer
+abbrev pub reply : Run → Desk → Packet → List ℕ
+reply run desk asks.Malformed = error_text
+reply run desk asks.Changes = error_text
+reply run desk (asks.Resume motion thread) = error_text
+reply run desk asks.Supported = supported_text
+reply run desk (asks.Description part) = part_text description part
+reply run desk asks.CurrentThread = codes "QC" ++ thread_digits desk.looks
+reply run desk asks.NextThreads = codes "l"
+reply run desk asks.IsAttached = codes "1"
+reply run desk asks.StartNoAcks = ok_text
+reply run desk (asks.SetBreak place) = ok_text
+reply run desk (asks.ClearBreak place) = ok_text
+reply run desk asks.Detach = ok_text
+reply run desk asks.MotionsAsked = codes "vCont;c;C;s;S"
+reply run desk packet = reply_about run desk packet
+
+-- what is kept after such a packet
+abbrev pub desk_after : Run → Desk → Packet → Desk
+desk_after run desk (asks.Choose thread) = record desk { looks = unwrap_or (hart_of (hart_count run) desk.looks thread) desk.looks }
+desk_after run desk (asks.ChooseToMove thread) = record desk { moves = unwrap_or (hart_of (hart_count run) desk.moves thread) desk.moves }
+desk_after run desk (asks.SetBreak place) = record desk { breaks = with_break desk.breaks place.start }
+desk_after run desk (asks.ClearBreak place) = record desk { breaks = without_break desk.breaks place.start }
+desk_after run desk asks.StartNoAcks = record desk { acks = false }
+desk_after run desk asks.Detach = record desk { goes_on = false }
+desk_after run desk asks.Kill = record desk { goes_on = false }
+desk_after run desk _ = desk
+
+-- ---- packets that move a run
+
+-- where a motion of a hart leads
+abbrev pub moved : Motion → (breaks : List ℕ) → (hart : ℕ) → Run → Run
+moved Continue breaks hart run = ahead breaks None run
+moved Step breaks hart run = ahead breaks (Some hart) run
+moved ContinueBack breaks hart run = behind breaks None run
+moved StepBack breaks hart run = behind breaks (Some hart) run
+
+abbrev pub halt_back : Bool → (breaks : List ℕ) → (hart : ℕ) → Run → Halt
+halt_back true breaks hart run = halt_of breaks hart run
+halt_back false breaks hart run = record { stop = by.Beginning; hart = hart }
+
+-- why it halts there
+abbrev pub halt_after : Motion → (breaks : List ℕ) → (hart : ℕ) → Run → Halt
+halt_after Continue breaks hart run = halt_of breaks hart (ahead breaks None run)
+halt_after Step breaks hart run = halt_of breaks hart (ahead breaks (Some hart) run)
+halt_after ContinueBack breaks hart run = halt_back (is_some (back_number breaks None run)) breaks hart (behind breaks None run)
+halt_after StepBack breaks hart run = halt_back (is_some (back_number breaks (Some hart) run)) breaks hart (behind breaks (Some hart) run)
+
+-- bytes of the console that weren't told yet
+abbrev pub told_now : (told : ℕ) → (printed : List ℕ) → List (List ℕ)
+told_now told printed = if nat_lt told (length printed) then console_text (drop told printed) ∷ [] else []
+
+abbrev pub standing : Halt → Run → Desk → Desk
+standing halt run desk = record desk { looks = halt.hart; moves = halt.hart; told = max desk.told (length (state run).journal.printed) }
+
+-- ---- what a packet leads to
+
+-- a run, what is kept, and the answers one after the other
+pub record Outcome : Type 0 where
+  pub run : Run
+  pub desk : Desk
+  pub answers : List (List ℕ)
+
+abbrev pub error_outcome : Run → Desk → Outcome
+error_outcome run desk = record { run = run; desk = desk; answers = error_text ∷ [] }
+
+abbrev pub motion_outcome : Motion → (hart : ℕ) → Run → Desk → Outcome
+motion_outcome motion hart run desk = record {
+  run = moved motion desk.breaks hart run;
+  desk = standing (halt_after motion desk.breaks hart run) (moved motion desk.breaks hart run) desk;
+  answers =
+      told_now desk.told (state (moved motion desk.breaks hart run)).journal.printed ++ halt_text (halt_after motion desk.breaks hart run) ∷ [];
+}
+
+abbrev pub by_motion : Motion → Option ℕ → Run → Desk → Outcome
+by_motion motion None run desk = error_outcome run desk
+by_motion motion (Some hart) run desk = motion_outcome motion hart run desk
+
+abbrev pub still_outcome : Packet → Run → Desk → Outcome
+still_outcome packet run desk = record { run = run; desk = desk_after run desk packet; answers = reply run desk packet ∷ [] }
+
+-- `k` has no answer
+abbrev pub by_packet : Packet → Run → Desk → Outcome
+by_packet (asks.Resume motion thread) run desk = by_motion motion (hart_of (hart_count run) desk.moves thread) run desk
+by_packet asks.Kill run desk = record { run = run; desk = record desk { goes_on = false }; answers = [] }
+by_packet packet run desk = still_outcome packet run desk
+
+-- ---- whatever arrives
+
+abbrev pub with_answers : List (List ℕ) → Run → Desk → Outcome
+with_answers answers run desk = record { run = run; desk = desk; answers = answers }
+
+-- a packet with a wrong checksum is asked for once more by an acknowledgment; where there are none it is answered as an error
+abbrev pub by_arrival : Arrival → (payload : List ℕ) → Run → Desk → Outcome
+by_arrival kind.Packet payload run desk = by_packet (packet_of payload) run desk
+by_arrival kind.Broken payload run desk = with_answers (if desk.acks then [] else error_text ∷ []) run desk
+by_arrival kind.TooLong payload run desk = with_answers (error_text ∷ []) run desk
+by_arrival kind.Interrupt payload run desk = with_answers (halt_text (halt_of desk.breaks desk.looks run) ∷ []) run desk
+by_arrival kind.Received payload run desk = with_answers [] run desk
+by_arrival kind.Again payload run desk = with_answers (desk.last ∷ []) run desk
+
+-- the acknowledgment of what arrived
+abbrev pub acknowledgment : Arrival → List ℕ
+acknowledgment kind.Packet = plus ∷ []
+acknowledgment kind.Broken = minus ∷ []
+acknowledgment kind.TooLong = plus ∷ []
+acknowledgment kind.Interrupt = []
+acknowledgment kind.Received = []
+acknowledgment kind.Again = []
+
+abbrev pub acknowledged : Arrival → Desk → List ℕ
+acknowledged arrival desk = if desk.acks then acknowledgment arrival else []
+
+-- the last answer is kept
+abbrev pub last_of : List (List ℕ) → List ℕ → List ℕ
+last_of [] before = before
+last_of (answer ∷ answers) before = last_of answers answer
+
+abbrev pub remembered : Outcome → Desk
+remembered o = record o.desk { last = last_of o.answers o.desk.last }
+
+-- the bytes of answers
+abbrev pub frames : List (List ℕ) → List ℕ
+frames answers = flat_map frame answers
+
+-- ---- a session
+
+-- the bytes that are written on what arrives, one after the other, as long as it goes on
+unfoldable pub written : Run → Desk → List Arrived → List ℕ
+written run desk [] = []
+written run desk (arrived ∷ rest) =
+    if desk.goes_on
+    then acknowledged arrived.kind desk ++ frames (by_arrival arrived.kind arrived.payload run desk).answers
+    ++ written (by_arrival arrived.kind arrived.payload run desk).run (remembered (by_arrival arrived.kind arrived.payload run desk)) rest
+    else []

@@ -1,0 +1,27 @@
+//! A debugging session by gdb's protocol.
+#![tactic(auto)]
+
+mod breakdown;
+mod breaks;
+mod description;
+mod desk;
+mod harts;
+mod laws;
+mod memory;
+mod motion;
+mod performing;
+mod registers;
+mod replies;
+mod serving;
+mod target;
+#[cfg(test)]
+mod tests;
+
+pub use breakdown::Breakdown;
+pub use desk::Desk;
+pub use harts::hart_words;
+pub use laws::{law_ahead, law_behind};
+pub use memory::push_seen_bytes;
+pub use registers::{push_register, push_registers};
+pub use serving::serve;
+pub use target::Target;

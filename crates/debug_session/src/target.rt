@@ -1,0 +1,63 @@
+// What is debugged.
+ghost use Rattle.std.specs.Prelude.{◌≡◌, ◌<◌, ◌≤◌, ◌+◌, ℕ, OnOk, option_map, slice_get, length, nat_lt};
+ghost use Rattle.spec_saved_machine.specs.SavedStates.{saved_hart};
+ghost use Rattle.debug_session.specs.Runs.{Run, after, events_left, next_turn, place_of, state};
+
+use spec_saved_machine::SavedHart;
+use std::alloc::{AllocError, Global};
+use sv_types::Verdict;
+
+/// A run that is debugged. It can begin anew.
+pub trait Target {
+    /// It stands where a run is.
+    ghost stands: { Self → Run → Type 0 };
+
+    /// No more events than these are left.
+    fn most_left(&self) -> u64
+        ensures { (run : Run) → stands self.now run → events_left run ≤ result };
+
+    /// Whether an event is left.
+    fn is_left(&self) -> bool
+        ensures { (run : Run) → stands self.now run → result ≡ nat_lt run.made (length run.events) };
+
+    /// The events that are made.
+    fn events_made(&self) -> u64
+        ensures made { (run : Run) → stands self.now run → result ≡ run.made }
+        ensures within { (run : Run) → stands self.now run → run.made ≤ length run.events };
+
+    /// The hart whose turn is next.
+    fn next_turn(&self) -> Option<u8>
+        ensures { (run : Run) → stands self.now run → result ≡ next_turn run };
+
+    /// Where a hart is about to fetch. None where it is stopped or there is none.
+    fn fetch_place(&self, hart: u8) -> Option<u64>
+        ensures { (run : Run) → stands self.now run → result ≡ place_of run hart };
+
+    /// How the run stands.
+    fn verdict(&self) -> Verdict
+        ensures { (run : Run) → stands self.now run → result ≡ (state run).journal.verdict };
+
+    /// The number of harts.
+    fn hart_count(&self) -> u8
+        ensures { (run : Run) → stands self.now run → result ≡ length (state run).harts };
+
+    /// A hart as plain data.
+    fn hart(&self, hart: u8) -> Option<SavedHart>
+        ensures { (run : Run) → stands self.now run → result ≡ option_map (saved_hart (state run).devices.clock hart) (slice_get (state run).harts hart) };
+
+    /// The bytes of guest RAM.
+    fn ram(&self) -> &[u8]
+        ensures { (run : Run) → stands self.now run → result.now ≡ (state run).ram };
+
+    /// The bytes that the console printed so far.
+    fn console(&self) -> &[u8]
+        ensures { (run : Run) → stands self.now run → result.now ≡ (state run).journal.printed };
+
+    /// Makes the next event, where one is left.
+    fn advance(&mut self) -> Result<(), AllocError>
+        ensures { OnOk result ((run : Run) → stands self.old run → run.made < length run.events → stands self.new (after run (run.made + 1))) };
+
+    /// Begins anew.
+    fn restart(&mut self, alloc: Global) -> Result<(), AllocError>
+        ensures { OnOk result ((run : Run) → stands self.old run → stands self.new (after run 0)) };
+}
