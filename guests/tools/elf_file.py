@@ -5,7 +5,9 @@ from typing import NamedTuple
 PAGE = 4096
 ALLOCATED, EXECUTABLE = 2, 4
 SYMBOL_TABLE, STRING_TABLE, RELOCATIONS, NO_BITS = 2, 3, 4, 8
-GLOBAL, WEAK = 1, 2
+LOCAL, GLOBAL, WEAK = 0, 1, 2
+FUNCTION = 2
+PROGRAM_BITS = 1
 ABSOLUTE = 0xfff1
 
 HEADER = struct.Struct('<16sHHIQQQIHHHHHH')
@@ -117,23 +119,42 @@ def exports(symbols):
             for symbol in symbols if symbol.binding in (GLOBAL, WEAK) and symbol.section]
 
 
+def functions(symbols):
+    """The functions that their file alone sees, for the names of addresses."""
+    return [symbol._replace(section=ABSOLUTE)
+            for symbol in symbols if symbol.binding == LOCAL and symbol.kind == FUNCTION and symbol.section]
+
+
+def _section_of(segments, symbol):
+    """The section of the segment that the symbol lies in, after the tables of symbols and strings."""
+    for number, segment in enumerate(segments, 3):
+        if segment.virtual <= symbol.value < segment.virtual + segment.length:
+            return number
+    return symbol.section
+
+
 def image(entry, segments, symbols):
-    """A kernel image: program headers, the segments' bytes, and a symbol table."""
+    """A kernel image: program headers, the segments' bytes, each a section too, and a symbol table, local symbols first."""
     first = -(-(HEADER.size + PROGRAM.size * len(segments)) // PAGE) * PAGE
-    programs, body = bytearray(), bytearray()
+    programs, body, contents = bytearray(), bytearray(), bytearray()
     for segment in segments:
+        contents += SECTION.pack(0, PROGRAM_BITS, ALLOCATED | (EXECUTABLE if segment.executable else 1), segment.virtual,
+                                 first + len(body), len(segment.content), 0, 0, 1, 0)
         programs += PROGRAM.pack(1, 5 if segment.executable else 6, first + len(body), segment.virtual, segment.physical,
                                  len(segment.content), segment.length, PAGE)
         body += segment.content + bytes(-len(segment.content) % 16)
     table, strings = bytearray(SYMBOL.size), bytearray(1)
     for symbol in symbols:
-        table += SYMBOL.pack(len(strings), symbol.binding << 4 | symbol.kind, 0, symbol.section, symbol.value, symbol.size)
+        table += SYMBOL.pack(len(strings), symbol.binding << 4 | symbol.kind, 0, _section_of(segments, symbol),
+                             symbol.value, symbol.size)
         strings += symbol.name.encode() + b'\0'
     place = first + len(body)
+    local = 1 + sum(symbol.binding == LOCAL for symbol in symbols)
     sections = bytes(SECTION.size)
-    sections += SECTION.pack(0, SYMBOL_TABLE, 0, 0, place, len(table), 2, 1, 8, SYMBOL.size)
+    sections += SECTION.pack(0, SYMBOL_TABLE, 0, 0, place, len(table), 2, local, 8, SYMBOL.size)
     sections += SECTION.pack(0, STRING_TABLE, 0, 0, place + len(table), len(strings), 0, 0, 1, 0)
+    sections += contents
     strings += bytes(-(len(table) + len(strings)) % 16)
     header = HEADER.pack(b'\x7fELF\x02\x01\x01', 2, 243, 1, entry, HEADER.size, place + len(table) + len(strings), 0,
-                         HEADER.size, PROGRAM.size, len(segments), SECTION.size, 3, 0)
+                         HEADER.size, PROGRAM.size, len(segments), SECTION.size, 3 + len(segments), 0)
     return (header + programs).ljust(first, b'\0') + body + table + strings + sections

@@ -5,7 +5,7 @@ RAM HARTS ENTRIES INIT.
 SecVisor's machine boots hart 0 at the image's entry with every register 0, and no loader comes before the kernel. So the
 image holds, besides the kernel's sections at their places (text in executable segments, all else in others), a stub at
 the start of RAM, which loads the device tree's address into a1 and jumps to the kernel; the device tree in the last
-64 KiB of RAM; and the initial file system below it. Its symbol table has the kernel's global and weak symbols."""
+64 KiB of RAM; and the initial file system below it. Its symbol table has the kernel's global and weak symbols, and its functions."""
 import argparse
 import struct
 import sys
@@ -95,13 +95,14 @@ def main(arguments):
     shift = (words.physical or 0) - (words.virtual or 0)
     symbols = elf_file.exports(kernel.symbols())
     values = {symbol.name: symbol.value for symbol in symbols}
+    names = elf_file.functions(kernel.symbols())
     start = (values[words.start] if words.start else kernel.entry) + shift
     segments = layout(kernel, shift, start, archive, words)
     both = overlap(segments)
     if both:
         sys.exit('segments at 0x%x and 0x%x touch: more RAM?' % (both[0].physical, both[1].physical))
     with open(words.out, 'wb') as out:
-        out.write(elf_file.image(RAM, segments, symbols))
+        out.write(elf_file.image(RAM, segments, names + symbols))
     print(policy_words(values, shift, words))
 
 
