@@ -14,7 +14,7 @@ use Rattle.host_io.specs.declared.trouble.Trouble.{Trouble}
 use Rattle.host_io.specs.declared.trouble.Trouble.TheVariants.{Memory}
 use Rattle.cli_words.specs.declared.command.DiskKind.{DiskKind}
 use Rattle.cli_plans.specs.declared.refusal.Refusal.{Refusal}
-use Rattle.cli_plans.specs.CommandLine.{SnapWords, shrink_judged}
+use Rattle.cli_plans.specs.CommandLine.{SnapWords}
 use Rattle.cli_plans.specs.Plans.{Due, Refuse, RunFrom, Make, run_plan, start_with}
 use Rattle.cli_plans.specs.Reading.{MayFollow, Follows}
 use Rattle.cli_plans.proofs.PlanLemmas.{follows_keeps, follows_permits, may_follow}

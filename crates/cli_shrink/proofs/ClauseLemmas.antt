@@ -1,9 +1,7 @@
 -- From what `shrink` answered to each of its clauses.
-use Rattle.std.proofs.Common.{◌≡◌, ◌≢◌, ◌≤◌, ◌<◌, ℕ, List, false, refl, sym, ◌∙◌, ap, subst, arith, inl, inr, Option, Some, None, Result, Ok, Err, IsErrOf}
+use Rattle.std.proofs.Common.{◌≡◌, ◌≢◌, ◌≤◌, ℕ, List, false, refl, ap, arith, inl, inr, Option, Some, None, Result, Ok, Err}
 use Rattle.std.specs.Result.{is_ok}
-use Rattle.sv_types.specs.declared.event.Event.{Event}
 use Rattle.sv_types.specs.declared.status.Status.{Status}
-use Rattle.spec_reference.specs.States.{State}
 use Rattle.host_io.specs.Endings.{status_of_end}
 use Rattle.host_io.specs.Outside.{FilesState, SinkState}
 use Rattle.host_io.specs.declared.trouble.Trouble.{Trouble}
@@ -20,11 +18,10 @@ use Rattle.secvisor_cli.specs.Answers.{SavesAndWrites}
 use Rattle.secvisor_cli.proofs.SaveLemmas.{ChangesOut, changes_none}
 use Rattle.secvisor_cli.proofs.TopLemmas.{EffectOut, effect_out, fault_at, made_changes}
 use Rattle.cli_trials.proofs.WritingLemmas.{same_rises, written_rises, written_no_fault, refused_fault}
-use Rattle.cli_shrink.specs.declared.shrinking.Script.{Script}
 use Rattle.cli_shrink.specs.declared.shrinking.Shrunk.{Shrunk}
 use Rattle.cli_shrink.specs.declared.shrinking.Shrunk.TheVariants.{NothingStopped, Made}
 use Rattle.cli_shrink.specs.Lines.{shrunk_line}
-use Rattle.cli_shrink.specs.ShrinkAnswers.{AnswersReached, AnswersRun, AnswersShrunk, Shrinks, ShrinksFiles, Wants, out_of, script_saving}
+use Rattle.cli_shrink.specs.ShrinkAnswers.{AnswersReached, AnswersShrunk, Shrinks, Wants, out_of, script_saving}
 
 -- ---- the sink
 

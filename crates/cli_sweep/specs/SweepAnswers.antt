@@ -1,5 +1,5 @@
 -- What `sweep` owes to what is asked of it: how the runs of all numbers end, counted. This project's own.
-use Rattle.std.specs.Prelude.{◌≡◌, ◌⊎◌, ℕ, List, map, Option, Some, None, Result, Ok, Err, IsErrOf}
+use Rattle.std.specs.Prelude.{◌≡◌, ◌⊎◌, List, map, Option, Some, None, Result, Ok, Err, IsErrOf}
 use Rattle.sv_types.specs.ApprovedPages.{numbers_from}
 use Rattle.sv_types.specs.declared.status.Status.{Status}
 use Rattle.spec_reference.specs.States.{State}

@@ -9,7 +9,6 @@ use Rattle.sv_types.specs.Schedule.{Schedule, first_events}
 use Rattle.sv_types.specs.declared.event.Event.{Event}
 use Rattle.sv_types.specs.declared.image_fault.ImageFault.{ImageFault}
 use Rattle.spec_reference.specs.States.{has_number}
-use Rattle.script.specs.AutoScripts.{events_of_text}
 use Rattle.elf64_load.specs.Images.{segments_of}
 use Rattle.elf64_load.specs.declared.image.KernelImage.{KernelImage}
 use Rattle.machine.specs.Boot.{IsImageOf}
@@ -21,7 +20,7 @@ use Rattle.cli_plans.specs.CommandLine.{RunWords, Text}
 use Rattle.cli_plans.specs.Plans.{Due, Refuse, RunFrom, Plan, End, Judge, Held, max_script_bytes, part_judged, kernel_part, disk_part, text_part, script_part, image_measure, boot_judged, boot_plan, start_with}
 use Rattle.cli_plans.specs.Reading.{FoundAs, Follows}
 use Rattle.secvisor_cli.specs.declared.ready.Stop.{Stop}
-use Rattle.secvisor_cli.specs.Ready.{Passes, Prepares, Staged, IsScript}
+use Rattle.secvisor_cli.specs.Ready.{Passes, Staged, IsScript}
 use Rattle.secvisor_cli.proofs.ReadyLemmas.{bytes_eq-same}
 use Rattle.secvisor_cli.proofs.StageLemmas.{text_staged}
 use Rattle.cli_trials.specs.declared.order.OwnOrder.{OwnOrder}

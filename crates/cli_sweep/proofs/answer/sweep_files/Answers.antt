@@ -1,5 +1,5 @@
 use Rattle.std.proofs.Common.{subst, sym, Ok, Err}
-use Rattle.cli_plans.specs.CommandLine.{RunWords, first_run}
+use Rattle.cli_plans.specs.CommandLine.{RunWords}
 use Rattle.cli_plans.specs.Plans.{run_plan}
 use Rattle.cli_plans.specs.Reading.{MayFollow}
 use Rattle.cli_plans.specs.Words.{sweep_value}

@@ -1,4 +1,4 @@
-use Rattle.std.proofs.Common.{rules, ◌≡◌, ◌≤◌, ◌<◌, ◌+◌, ◌*◌, ◌/◌, ◌%◌, ◌++◌, min, List, take, drop, length, ap, sym, ◌∙◌, subst, arith}
+use Rattle.std.proofs.Common.{rules, ◌≡◌, ◌≤◌, ◌+◌, ◌*◌, ◌/◌, ◌%◌, ◌++◌, min, List, take, drop, length, sym, subst}
 use Rattle.run_tally.specs.declared.outcome.Outcome.{Outcome}
 use Rattle.cli_sweep.specs.Sweeps.{AreOutcomes}
 use Rattle.cli_sweep.proofs.Chunks.{chunk_more, all_chunks, all_taken}

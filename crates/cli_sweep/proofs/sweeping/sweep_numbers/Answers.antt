@@ -1,4 +1,4 @@
-use Rattle.std.proofs.Common.{rules, ◌≡◌, ◌+◌, ◌≤◌, ◌^◌, length, subst, sym, arith}
+use Rattle.std.proofs.Common.{rules, ◌≡◌, length, arith}
 use Rattle.sv_types.specs.ApprovedPages.{numbers_from}
 use Rattle.cli_sweep.specs.Sweeps.{AreOutcomes}
 use Rattle.cli_sweep.proofs.Chunks.{as_many}

@@ -1,4 +1,3 @@
-use Rattle.std.proofs.Common.{refl}
 use Rattle.sv_types.specs.Policies.{rules_of}
 use Rattle.sv_types.specs.Schedule.{first_events}
 use Rattle.machine.specs.declared.boot.BootRefusal.{BootRefusal}
