@@ -1,5 +1,4 @@
 // A session with a target of two harts and a page of RAM, over bytes that gdb sends and bytes that it never sends.
-ghost use Rattle.std.specs.Prelude.{⊥};
 
 use crate::serving::serve;
 use crate::target::Target;
@@ -121,7 +120,7 @@ fn motions(rt: HostRuntime) -> Result<(), Fail> {
         is_answered(
             alloc,
             b"$Z0,80000008,4#a6$vCont;c#a8",
-            b"+$OK#9a+$T05thread:02;hwbreak:;#61"
+            b"+$OK#9a+$T05thread:01;hwbreak:;#60"
         )?
     );
     assert!(rt; is_answered(alloc, b"$bc#c5", b"+$T05thread:01;replaylog:begin;#50")?);
