@@ -23,7 +23,7 @@ LISTS = [
         'cli_plans.specs.CommandLine.run_judged', 'cli_plans.specs.Plans.run_plan', 'laws_program.specs.ProgramLaw.GuardedRun',
         'laws_program.specs.Starts.IsMeasuredStart', 'laws_guarantee', 'laws_invariants']),
     ('all commands with all laws of the program', [
-        'secvisor_cli', 'cli_live', 'cli_snap', 'cli_resume', 'cli_show', 'cli_sweep', 'cli_shrink', 'laws_guarantee',
+        'secvisor_cli', 'cli_live', 'cli_snap', 'cli_resume', 'cli_show', 'cli_sweep', 'cli_shrink', 'cli_survey', 'laws_guarantee',
         'laws_invariants', 'laws_program']),
 ]
 
