@@ -372,6 +372,7 @@ shrink_after_no_fault (command.Run kind) rest = λ e. cc e
 shrink_after_no_fault command.Live rest = λ e. cc e
 shrink_after_no_fault command.Snap rest = λ e. cc e
 shrink_after_no_fault command.Sweep rest = λ e. cc e
+shrink_after_no_fault command.Survey rest = λ e. cc e
 shrink_after_no_fault command.Resume rest = λ e. cc e
 shrink_after_no_fault command.Show rest = λ e. cc e
 shrink_after_no_fault command.Measure rest = λ e. cc e
