@@ -7,5 +7,5 @@ use Rattle.secvisor.proofs.main.Goals as goal
 
 pub answer-status-requires-clause-permitted : goal.answer-status-requires-clause-permitted
 answer-status-requires-clause-permitted g c = λ κs.
-    may_answer (top_call_of (map string_bytes c.deref.result.now)) (map string_bytes c.deref.result.now)
+    may_answer (top_call_of (map string_bytes c.deref-2.result.now)) (map string_bytes c.deref-2.result.now)
     (real_state c.new-files.result.read_faults c.new-files.result.save_faults) (λ asked. refl) (λ saves. refl)
