@@ -5,7 +5,7 @@ use crate::files::{Found, MostBytes, Reread};
 use crate::making::{MakingNames, making_files};
 use crate::resuming::{ResumeNames, resume_files, snapshot_file};
 use crate::running::{RunNames, flat_file, run_files};
-use cli_words::{CommandName, Naming, named};
+use cli_plans::command_words::{CommandName, Naming, named};
 use std::alloc::Global;
 use std::thread::Threads;
 

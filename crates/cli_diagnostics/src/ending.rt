@@ -4,11 +4,11 @@ ghost use Rattle.std.specs.Prelude.{◌<◌};
 
 use crate::files::{Found, MostBytes, Reread, read_part};
 use crate::running::policy_file;
-use cli_words::{CommandName, Naming, named};
+use cli_plans::command_words::{CommandName, Naming, named};
+use elf64_load::symbols::{KernelNames, Location, kernel_names, location_text};
 use elf64_load::{KernelImage, Segment, read_kernel};
-use elf64_symbols::{KernelNames, Location, kernel_names, location_text};
 use rv64_decode::decode;
-use rv64_text::instruction_text;
+use rv64_encode::text::instruction_text;
 use spec_processor::page_of;
 use std::alloc::Global;
 use sv_types::{Note, Policy, Rule, SbiCode, Span, Verdict};

@@ -1,7 +1,7 @@
 // All that there is to say of how the program is used.
 
 use crate::words::usage;
-use cli_words::{COMMANDS, WORDS};
+use cli_plans::command_words::{COMMANDS, WORDS};
 use std::alloc::{AllocError, Global};
 
 /// How each command is used, what its words are, an example, and what the status means.

@@ -6,9 +6,9 @@ ghost use Rattle.snapshot_format.specs.Snapshots as form;
 
 use crate::files::{Found, MostBytes, Reread, read_part, remark_on};
 use crate::running::{policy_file, script_file};
+use snapshot_format::reader::ReadError;
+use snapshot_format::resume::resume_refusal;
 use snapshot_format::{SnapRefusal, Snapshot};
-use snapshot_reader::ReadError;
-use snapshot_resume::resume_refusal;
 use std::alloc::Global;
 use std::thread::Threads;
 use sv_types::Policy;
@@ -66,7 +66,7 @@ pub(crate) fn snapshot_file<A: Reread>(
 fn snapshot_in(alloc: Global, name: &str, bytes: &[u8]) -> Result<Snapshot, Found>
     ensures { IfOk result (λ s. form.snapshot.has (form.contents s) ≡ true) }
 {
-    match snapshot_reader::read(alloc, bytes) {
+    match snapshot_format::reader::read(alloc, bytes) {
         Ok(snapshot) => Ok(snapshot),
         Err(ReadError::Refused(refusal)) => Err(snapshot_refused(alloc, name, refusal)),
         Err(ReadError::Memory) => Err(Found::Nothing),

@@ -1,6 +1,6 @@
 // The name under which `live` saves its script.
 
-use cli_words::{CommandName, Naming, named};
+use cli_plans::command_words::{CommandName, Naming, named};
 
 /// What there is to say of a word under which `live` saves its script, where `run` takes that word for no file.
 pub fn script_remark(words: &[String]) -> Option<&'static str> {

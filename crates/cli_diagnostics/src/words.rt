@@ -1,7 +1,7 @@
 // What a person is told of words that are refused.
 
+use cli_plans::command_words::{Argument, COMMANDS, CommandRow, WORDS, arguments_of};
 use cli_plans::{Refusal, judge};
-use cli_words::{Argument, COMMANDS, CommandRow, WORDS, arguments_of};
 use std::alloc::{AllocError, Global};
 
 /// What there is to say of words that are refused: what is wrong, what may stand there, and how the command is used.

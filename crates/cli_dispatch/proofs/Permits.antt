@@ -4,11 +4,11 @@ use Rattle.host_io.specs.Outside.{FilesState}
 use Rattle.secvisor_cli.proofs.TopLemmas.{words_follow}
 use Rattle.cli_live.proofs.AnswerLemmas.{live_follows}
 use Rattle.cli_snap.proofs.AnswerLemmas.{snap_follows}
-use Rattle.cli_resume.proofs.AnswerLemmas.{resume_follows}
+use Rattle.cli_snap.proofs.ResumeAnswerLemmas.{resume_follows}
 use Rattle.cli_survey.proofs.AnswerLemmas.{may_survey}
-use Rattle.cli_sweep.proofs.AnswerLemmas.{may_ask as may_sweep}
-use Rattle.cli_shrink.proofs.AnswerLemmas.{may_ask as may_shrink}
-use Rattle.cli_show.proofs.AnswerLemmas.{may_ask}
+use Rattle.cli_trials.proofs.AnswerLemmas.{may_ask as may_sweep}
+use Rattle.cli_trials.proofs.ShrinkAnswerLemmas.{may_ask as may_shrink}
+use Rattle.cli_snap.proofs.ShowAnswerLemmas.{may_ask}
 use Rattle.cli_dispatch.specs.declared.choice.TopCall.{TopCall}
 use Rattle.cli_dispatch.specs.declared.choice.TopCall.TheVariants.{Live, Snap, Sweep, Shrink, Resume, Show, Others, Survey}
 use Rattle.cli_dispatch.specs.Answers.{MayAnswer}

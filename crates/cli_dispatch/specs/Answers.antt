@@ -14,11 +14,11 @@ use Rattle.cli_live.specs.Replays.{LiveLine, live_line, HasEnded, Replays}
 use Rattle.cli_snap.specs.SnapReady.{out_of as snapshot_name}
 use Rattle.cli_snap.specs.SnapAnswers.{SnapHeadline}
 use Rattle.cli_survey.specs.SurveyAnswers.{SurveyHeadline}
-use Rattle.cli_resume.specs.ResumePlans.{resume_plan}
-use Rattle.cli_sweep.specs.SweepAnswers.{MayAsk as MaySweep, SweepHeadline, sweep_plan}
-use Rattle.cli_shrink.specs.ShrinkAnswers.{MayAsk as MayShrink, ShrinkHeadline, out_of as small_script_name}
-use Rattle.cli_show.specs.Showing.{name_in, held_shown}
-use Rattle.cli_show.specs.Answers.{MayAsk, Headline as ShowHeadline, Answers as Shows}
+use Rattle.cli_snap.specs.ResumePlans.{resume_plan}
+use Rattle.cli_trials.specs.SweepAnswers.{MayAsk as MaySweep, SweepHeadline, sweep_plan}
+use Rattle.cli_trials.specs.ShrinkAnswers.{MayAsk as MayShrink, ShrinkHeadline, out_of as small_script_name}
+use Rattle.cli_snap.specs.Showing.{name_in, held_shown}
+use Rattle.cli_snap.specs.Answers.{MayAsk, Headline as ShowHeadline, Answers as Shows}
 use Rattle.cli_dispatch.specs.declared.choice.TopCall.{TopCall}
 use Rattle.cli_dispatch.specs.declared.choice.TopCall.TheVariants.{Live, Snap, Sweep, Shrink, Resume, Show, Others, Survey}
 

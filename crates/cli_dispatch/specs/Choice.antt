@@ -1,8 +1,8 @@
 -- Which call the words ask for, by the first of them. This project's own (docs/FORMATS.md).
 use Rattle.std.specs.Prelude.{List, [], ◌∷◌, ℕ, Option, Some}
-use Rattle.cli_words.specs.declared.table.CommandName.{CommandName}
-use Rattle.cli_words.specs.declared.table.CommandName.TheVariants as command
-use Rattle.cli_words.specs.Commands.{name_of}
+use Rattle.cli_plans.specs.declared.command_words.table.CommandName.{CommandName}
+use Rattle.cli_plans.specs.declared.command_words.table.CommandName.TheVariants as command
+use Rattle.cli_plans.specs.Commands.{name_of}
 use Rattle.cli_dispatch.specs.declared.choice.TopCall.{TopCall}
 use Rattle.cli_dispatch.specs.declared.choice.TopCall.TheVariants.{Live, Snap, Sweep, Shrink, Resume, Show, Others, Survey}
 

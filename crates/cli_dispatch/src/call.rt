@@ -8,12 +8,12 @@ ghost use Rattle.cli_dispatch.specs.Answers.{MayAnswer, Owed};
 
 use crate::choice::{TopCall, top_call_of};
 use cli_live::secvisor_live;
-use cli_resume::secvisor_resume;
-use cli_show::secvisor_show;
-use cli_shrink::secvisor_shrink;
+use cli_snap::resume::secvisor_resume;
 use cli_snap::secvisor_snap;
+use cli_snap::show::secvisor_show;
 use cli_survey::secvisor_survey;
-use cli_sweep::{Progress, secvisor_sweep};
+use cli_trials::shrink::secvisor_shrink;
+use cli_trials::sweep::{Progress, secvisor_sweep};
 use host_io::{Files, Sink};
 use live_keys::{Keys, Pace};
 use secvisor_cli::{Bench, Status, secvisor};

@@ -1,9 +1,9 @@
 // Which call the words ask for.
 ghost use Rattle.std.specs.Prelude.{◌≡◌, map, string_bytes};
-ghost use Rattle.cli_words.specs.Commands.{name_of};
+ghost use Rattle.cli_plans.specs.Commands.{name_of};
 ghost use Rattle.cli_dispatch.specs.Choice as spec;
 
-use cli_words::{CommandName, command_of_name};
+use cli_plans::command_words::{CommandName, command_of_name};
 
 /// The call of a command.
 #[derive(Clone, Copy, Debug, PartialEq, Eq, Drop)]

@@ -6,4 +6,4 @@ mod choice;
 
 pub use call::answer;
 pub use choice::{TopCall, top_call_of};
-pub use cli_sweep::Progress;
+pub use cli_trials::sweep::Progress;

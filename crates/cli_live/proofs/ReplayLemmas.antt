@@ -22,8 +22,8 @@ use Rattle.spec_reference.specs.States.{State, has_number}
 use Rattle.host_io.specs.Outside.{FilesState}
 use Rattle.script.proofs.FirstEvents.{first_listed, first_few}
 use Rattle.script.specs.AutoScripts.{events_of_text, first_refused}
-use Rattle.cli_words.specs.declared.table.CommandName.TheVariants as command
-use Rattle.cli_words.specs.Commands.{Named, RunSplit, has_dash, named_shape, named_words}
+use Rattle.cli_plans.specs.declared.command_words.table.CommandName.TheVariants as command
+use Rattle.cli_plans.specs.Commands.{Named, RunSplit, has_dash, named_shape, named_words}
 use Rattle.live_keys.specs.Line.{StartsWith, max_keys}
 use Rattle.live_keys.specs.Placed.{keys_among, others_among}
 use Rattle.live_keys.proofs.JournalLines.{number_back}
@@ -31,7 +31,7 @@ use Rattle.cli_plans.specs.declared.file_fault.FileFault.{FileFault}
 use Rattle.cli_plans.specs.declared.file_fault.Part.{Part}
 use Rattle.cli_plans.specs.declared.refusal.Refusal.{Refusal}
 use Rattle.cli_plans.specs.declared.refusal.Refusal.TheVariants.{NoCommand, Measure, Entry}
-use Rattle.cli_words.specs.declared.command.DiskKind.{DiskKind}
+use Rattle.cli_plans.specs.declared.command_words.command.DiskKind.{DiskKind}
 use Rattle.cli_plans.specs.CommandLine.{Command, Run, RunWords, Source, Text, Auto, judgement_of_words, named_judged, command_after, live_after, run_words, unless_none, LiveWords, block_run, live_words, live_judged, max_live_events}
 use Rattle.cli_plans.specs.Plans.{Due, Refuse, RunFrom, Plan, End, Judge, max_policy_bytes, max_image_bytes, max_script_bytes, policy_judged, policy_part, part_judged, kernel_part, disk_refusal, disk_part, text_part, script_part, image_measure, boot_judged, boot_plan, image_plan, run_plan, command_plan, plan_of}
 use Rattle.cli_plans.specs.Reading.{Follows}

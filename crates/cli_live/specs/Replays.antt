@@ -10,7 +10,7 @@ use Rattle.spec_reference.specs.States.{State}
 use Rattle.spec_reference.specs.Report.{output}
 use Rattle.spec_reference.specs.Run.{run}
 use Rattle.spec_hardware.specs.Machine.{Machine}
-use Rattle.cli_words.specs.Commands.{has_dash}
+use Rattle.cli_plans.specs.Commands.{has_dash}
 use Rattle.host_io.specs.Outside.{after_taking}
 use Rattle.live_keys.specs.Keys.{KeysState}
 use Rattle.cli_plans.specs.CommandLine.{Text, judgement_of_words, source_of, unless_none}

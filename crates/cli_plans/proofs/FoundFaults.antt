@@ -1,6 +1,6 @@
 -- Where a plan says read fault: only where a read found no file.
 use Rattle.std.proofs.Common.{◌≢◌, ℕ, List, [], ◌∷◌, true, false, Option, Some, None, Result, Ok, Err, if◌then◌else◌}
-use Rattle.cli_words.specs.Commands.{ConvertSplit}
+use Rattle.cli_plans.specs.Commands.{ConvertSplit}
 use Rattle.std.specs.Str.{bytes_eq}
 use Rattle.sv_types.specs.declared.event.Event.{Event}
 use Rattle.sv_types.specs.declared.event.Verdict.{Verdict}
@@ -30,7 +30,7 @@ use Rattle.cli_plans.specs.declared.file_fault.FileFault.{FileFault}
 use Rattle.cli_plans.specs.declared.refusal.Refusal.{Refusal}
 use Rattle.cli_plans.specs.declared.file_fault.Part.{Part}
 use Rattle.cli_plans.specs.declared.refusal.Refusal.TheVariants.{File, Measure, Entry}
-use Rattle.cli_words.specs.declared.command.DiskKind.{DiskKind}
+use Rattle.cli_plans.specs.declared.command_words.command.DiskKind.{DiskKind}
 use Rattle.cli_plans.specs.CommandLine.{Command, Flat, Generated, Run, RunWords, Source, Rounds, Auto, Bursts, Text, MakePolicy, PolicyWords, Convert, judgement_of_words}
 use Rattle.cli_plans.specs.Plans.{Refuse, RunFrom, max_image_bytes, max_object_bytes, making_fault, made_judged, made_part, Kernel, digest_part, Modules, no_modules, with_module, module_part, modules_part, making_plan, measure_plan, Plan, End, status_due, found_plan, flat_plan, command_plan, plan_of, measure_judged, pages_judged, is_whole_pages, flat_events, gen_plan, gen_due, gen_disk, policy_judged, policy_part, part_judged, kernel_part, disk_refusal, disk_part, text_part, script_part, image_measure, boot_judged, boot_plan, image_plan, run_plan, start_with, due_of_measure, binding_refusal, converted_judged, bound_plan, binding_plan, convert_plan}
 use Rattle.cli_plans.proofs.WordLemmas.{NoReadFault, words_no_read_fault}

@@ -16,10 +16,10 @@ use Rattle.policy_making.specs.Making.{Terms}
 use Rattle.policy_making.specs.Ranges.{terms_within}
 use Rattle.policy_making.specs.WordRanges.{are_entries, entries_of, are_module_names, span_of}
 use Rattle.policy_making.proofs.WordsWithin.{entries_count, entries_good, span_of_within}
-use Rattle.cli_words.specs.declared.command.DiskKind.{DiskKind}
-use Rattle.cli_words.specs.declared.table.CommandName.{CommandName}
-use Rattle.cli_words.specs.declared.table.CommandName.TheVariants as command
-use Rattle.cli_words.specs.Commands.{Named, FlatSplit, RunSplit, LiveSplit, SnapSplit, SweepSplit, ResumeSplit, MeasureSplit, ConvertSplit, flat_split, gen_split, run_split, survey_split, live_split, snap_split, sweep_split, resume_split, show_split, measure_split, convert_split, named_words}
+use Rattle.cli_plans.specs.declared.command_words.command.DiskKind.{DiskKind}
+use Rattle.cli_plans.specs.declared.command_words.table.CommandName.{CommandName}
+use Rattle.cli_plans.specs.declared.command_words.table.CommandName.TheVariants as command
+use Rattle.cli_plans.specs.Commands.{Named, FlatSplit, RunSplit, LiveSplit, SnapSplit, SweepSplit, ResumeSplit, MeasureSplit, ConvertSplit, flat_split, gen_split, run_split, survey_split, live_split, snap_split, sweep_split, resume_split, show_split, measure_split, convert_split, named_words}
 use Rattle.cli_plans.specs.declared.refusal.Refusal.{Refusal}
 use Rattle.cli_plans.specs.declared.refusal.Refusal.TheVariants.{OutOfRange, NoCommand}
 use Rattle.cli_plans.specs.declared.words.DrawnOrder.{DrawnOrder}

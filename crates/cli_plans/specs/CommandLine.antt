@@ -2,10 +2,10 @@
 -- project's own.
 use Rattle.std.specs.Prelude.{ℕ, ◌^◌, ◌-◌, ◌+◌, nat_lt, List, if◌then◌else◌, Option, Some, None, option_map, take, drop, Result, Ok, Err, codes}
 use Rattle.std.specs.Str.{bytes_eq}
-use Rattle.cli_words.specs.declared.command.DiskKind.{DiskKind}
-use Rattle.cli_words.specs.declared.table.CommandName.{CommandName}
-use Rattle.cli_words.specs.declared.table.CommandName.TheVariants as command
-use Rattle.cli_words.specs.Commands.{Named, FlatSplit, RunSplit, SurveySplit, LiveSplit, SnapSplit, SweepSplit, ResumeSplit, MeasureSplit, ConvertSplit, flat_split, gen_split, run_split, survey_split, live_split, snap_split, sweep_split, resume_split, show_split, measure_split, convert_split, named_words}
+use Rattle.cli_plans.specs.declared.command_words.command.DiskKind.{DiskKind}
+use Rattle.cli_plans.specs.declared.command_words.table.CommandName.{CommandName}
+use Rattle.cli_plans.specs.declared.command_words.table.CommandName.TheVariants as command
+use Rattle.cli_plans.specs.Commands.{Named, FlatSplit, RunSplit, SurveySplit, LiveSplit, SnapSplit, SweepSplit, ResumeSplit, MeasureSplit, ConvertSplit, flat_split, gen_split, run_split, survey_split, live_split, snap_split, sweep_split, resume_split, show_split, measure_split, convert_split, named_words}
 use Rattle.sv_types.specs.Numbers.{number_within, digest_of}
 use Rattle.spec_processor.specs.Regions.{max_ram_pages}
 use Rattle.sv_types.specs.declared.module.Span.{Span}

@@ -3,3 +3,6 @@ pub mod CommandLine
 pub mod Words
 pub mod Plans
 pub mod Reading
+pub mod Commands
+pub mod Parsing
+pub mod Values

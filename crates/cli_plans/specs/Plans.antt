@@ -1,7 +1,7 @@
 -- What is asked, as a plan: which files are read, under which names, in which order, and what is due by what is found in
 -- them. This project's own.
 use Rattle.std.specs.Prelude.{ℕ, ◌%◌, ◌*◌, ◌^◌, List, [], ◌∷◌, ◌++◌, length, map, codes, Bool, ◌&&◌, ◌==◌, nat_lt, if◌then◌else◌, Option, Some, None, Result, Ok, Err}
-use Rattle.cli_words.specs.Commands.{ConvertSplit}
+use Rattle.cli_plans.specs.Commands.{ConvertSplit}
 use Rattle.std.specs.Fmt.{decimal}
 use Rattle.std.specs.Str.{bytes_eq}
 use Rattle.sv_types.specs.declared.event.Event.{Event}
@@ -26,7 +26,7 @@ use Rattle.spec_reference.specs.Run.{run}
 use Rattle.sv_types.specs.Schedule.{Schedule, first_events}
 use Rattle.sv_types.specs.Limits.{max_events, max_disk_bytes}
 use Rattle.script.specs.AutoScripts.{events_of_text, first_refused}
-use Rattle.cli_words.specs.declared.command.DiskKind.{DiskKind}
+use Rattle.cli_plans.specs.declared.command_words.command.DiskKind.{DiskKind}
 use Rattle.policy_making.specs.declared.refusal.MakingFault.{MakingFault}
 use Rattle.policy_making.specs.declared.refusal.MakingFault.TheVariants as making
 use Rattle.policy_making.specs.Refusals.{Judged as Judging}

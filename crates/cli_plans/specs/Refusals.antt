@@ -8,7 +8,7 @@ use Rattle.policy_limits.specs.PolicyFaults.{policy_fault_number}
 use Rattle.elf64_reloc.specs.ObjectFaults.{object_fault_number}
 use Rattle.policy_making.specs.Faults.{convert_fault_number}
 use Rattle.snapshot_format.specs.Refusals as form
-use Rattle.snapshot_resume.specs.Judgements as resuming
+use Rattle.snapshot_format.specs.Judgements as resuming
 use Rattle.cli_plans.specs.declared.file_fault.Part.{Part}
 use Rattle.cli_plans.specs.declared.file_fault.FileFault.{FileFault}
 use Rattle.cli_plans.specs.declared.file_fault.FileFault.TheVariants.{Longer, FlatPages, DiskSectors, ScriptLine}

@@ -1,6 +1,6 @@
 -- What judging and reading the words answers.
 use Rattle.std.specs.Prelude.{◌≡◌, ◌≤◌, ◌+◌, ◌^◌, IsTrue, map, Result, Ok, Err}
-use Rattle.cli_words.specs.Values.{convert_split_of}
+use Rattle.cli_plans.specs.Values.{convert_split_of}
 use Rattle.std.specs.Option.{option_copied}
 use Rattle.std.specs.Result.{is_ok}
 use Rattle.sv_types.specs.Limits.{max_events}
@@ -8,7 +8,7 @@ use Rattle.guest_gen.specs.GuestCode.{max_calls}
 use Rattle.policy_making.specs.Making.{Terms}
 use Rattle.policy_making.specs.Ranges.{terms_within}
 use Rattle.policy_making.specs.WordRanges.{entries_of, are_module_names}
-use Rattle.cli_words.specs.declared.command.DiskKind.{DiskKind}
+use Rattle.cli_plans.specs.declared.command_words.command.DiskKind.{DiskKind}
 use Rattle.cli_plans.specs.declared.refusal.Refusal.{Refusal}
 use Rattle.cli_plans.specs.declared.words.Command.{Command as Asked}
 use Rattle.cli_plans.specs.declared.words.Command.TheVariants as asked

@@ -2,11 +2,15 @@
 ghost use Rattle.std.specs.Prelude.{◌≡◌, ◌≤◌, IfOk, Ok, false, map, string_bytes};
 ghost use Rattle.std.specs.List.{list_any};
 ghost use Rattle.sv_types.specs.Limits.{max_events};
-ghost use Rattle.cli_words.specs.Commands.{has_dash, flat_split, gen_split, run_split, live_split, snap_split, sweep_split, resume_split, show_split, measure_split, convert_split, survey_split};
+ghost use Rattle.cli_plans.specs.Commands.{has_dash, flat_split, gen_split, run_split, live_split, snap_split, sweep_split, resume_split, show_split, measure_split, convert_split, survey_split};
 ghost use Rattle.cli_plans.specs.CommandLine.{Convert, split_judged, flat_judged, gen_judged, run_judged, live_of, snap_of, sweep_of, resume_of, making_judged, command_after, live_after, snap_after, sweep_after, shrink_after, resume_after, show_after, judgement_of_words, live_judged, snap_judged, sweep_judged, shrink_judged, resume_judged, show_judged, survey_of, survey_after, survey_judged};
 ghost use Rattle.cli_plans.specs.Words.{IsAsked, IsInRange, IsDrawnRun, IsBlockRun, AreNumbers, command_of, live_value, snap_value, sweep_value, resume_value, IsSurveyRun, run_value};
 ghost use Rattle.cli_plans.specs.declared.asking.Unread.TheVariants.{Refused, Memory};
 
+use crate::command_words::{
+    CommandName, DiskKind, named, split_convert, split_flat, split_generated, split_live,
+    split_measure, split_resume, split_run, split_show, split_snap, split_survey, split_sweep,
+};
 use crate::judgement::{
     judge_convert, judge_flat, judge_generated, judge_live, judge_measure, judge_resume, judge_run,
     judge_show, judge_snap, judge_survey, judge_sweep,
@@ -15,10 +19,6 @@ use crate::refusal::Refusal;
 use crate::words::{
     Command, Live, Resume, Run, Snap, Sweep, read_flat, read_generated, read_live, read_measure,
     read_resume, read_run, read_snap, read_survey, read_sweep,
-};
-use cli_words::{
-    CommandName, DiskKind, named, split_convert, split_flat, split_generated, split_live,
-    split_measure, split_resume, split_run, split_show, split_snap, split_survey, split_sweep,
 };
 use std::alloc::{AllocError, Global};
 

@@ -6,7 +6,7 @@ use elf64_reloc::ObjectFault;
 use policy_limits::PolicyFault;
 use policy_making::ConvertFault;
 use snapshot_format::SnapRefusal;
-use snapshot_resume::ResumeRefusal;
+use snapshot_format::resume::ResumeRefusal;
 use sv_types::ImageFault;
 
 /// A file by what it is for.

@@ -1,17 +1,17 @@
 // The judgement of the words after a command's name by their places, from left to right, which takes no memory.
 ghost use Rattle.std.specs.Prelude.{Ok, map, string_bytes};
-ghost use Rattle.cli_words.specs.Commands.{flat_split, gen_split, run_split, survey_split, live_split, snap_split, sweep_split, resume_split, show_split, measure_split, convert_split};
+ghost use Rattle.cli_plans.specs.Commands.{flat_split, gen_split, run_split, survey_split, live_split, snap_split, sweep_split, resume_split, show_split, measure_split, convert_split};
 ghost use Rattle.cli_plans.specs.CommandLine.{Convert, split_judged, flat_judged, gen_judged, run_judged, survey_of, live_of, snap_of, sweep_of, resume_of, making_judged};
 ghost use Rattle.cli_plans.specs.Words.{IsJudged};
 
+use crate::command_words::{
+    CommandName, DiskKind, FlatWords, LiveWords, ResumeWords, RunWords, SnapWords, SurveyWords,
+    SweepWords, named,
+};
 use crate::refusal::{Refusal, Word};
 use crate::words::{
     read_flat, read_generated, read_live, read_resume, read_run, read_snap, read_survey,
     read_sweep, read_terms,
-};
-use cli_words::{
-    CommandName, DiskKind, FlatWords, LiveWords, ResumeWords, RunWords, SnapWords, SurveyWords,
-    SweepWords, named,
 };
 use policy_making::are_module_names;
 

@@ -2,15 +2,16 @@
 #![tactic(auto)]
 
 mod asking;
+pub mod command_words;
 mod file_fault;
 mod judgement;
 mod refusal;
 mod words;
 
+pub use crate::command_words::DiskKind;
 pub use asking::{
     Unread, ask, ask_live, ask_resume, ask_show, ask_shrink, ask_snap, ask_survey, ask_sweep,
 };
-pub use cli_words::DiskKind;
 pub use file_fault::{FileFault, Part};
 pub use judgement::judge;
 pub use refusal::{Refusal, Word};

@@ -13,8 +13,8 @@ use Rattle.policy.specs.Refusals.{Judged}
 use Rattle.policy.specs.Text.{rules_of_text}
 use Rattle.spec_reference.specs.States.{State, has_number}
 use Rattle.script.specs.AutoScripts.{events_of_text, first_refused}
-use Rattle.cli_words.specs.Commands.{RunSplit, has_dash, named_shape, named_words}
-use Rattle.cli_words.specs.declared.command.DiskKind.{DiskKind}
+use Rattle.cli_plans.specs.Commands.{RunSplit, has_dash, named_shape, named_words}
+use Rattle.cli_plans.specs.declared.command_words.command.DiskKind.{DiskKind}
 use Rattle.cli_plans.specs.CommandLine.{RunWords, Source, Rounds, Auto, Bursts, Text, judgement_of_words, run_words, source_of, command_after, named_judged, snap_after, unless_none, SnapWords, block_run, snap_judged, snap_words}
 use Rattle.secvisor_cli.specs.DueIn.{due_in}
 use Rattle.cli_plans.specs.Plans.{Due, Refuse, RunFrom, Make, Plan, Found, Faulty, Missing, Longer, Held, boot_judged, boot_plan, command_plan, disk_part, disk_refusal, found_plan, image_measure, image_plan, kernel_part, part_judged, plan_of, policy_judged, policy_part, run_plan, script_part, start_with, text_part, snap_plan}

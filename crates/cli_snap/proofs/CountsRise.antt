@@ -9,7 +9,7 @@ use Rattle.spec_reference.specs.Run.{step, run, HasEnded}
 use Rattle.spec_reference.specs.States.{State}
 use Rattle.spec_reference.proofs.Runs.{ended_stays}
 use Rattle.laws_resume.specs.Continues.{drawn_under, draw_count}
-use Rattle.laws_invariants.proofs.StepsGrow.{grows_law}
+use Rattle.laws_simulation.proofs.StepsGrow.{grows_law}
 use Rattle.machine.proofs.Repeated.{risen}
 use Rattle.cli_snap.specs.CountRuns.{CountsLaw}
 

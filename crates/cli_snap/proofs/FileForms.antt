@@ -13,7 +13,7 @@ use Rattle.snapshot_format.specs.Forms.{is_word}
 use Rattle.laws_resume.proofs.FormParts.{small_word}
 use Rattle.cli_snap.proofs.BlockStays.{block_by}
 use Rattle.cli_snap.specs.BlockRuns.{IsOnDisk, HoldsBlock, HoldsDisk, Transfers}
-use Rattle.spec_saved_machine.specs.SavedStates.{disk_of}
+use Rattle.spec_reference.specs.SavedStates.{disk_of}
 
 -- ---- the device
 

@@ -11,14 +11,14 @@ use Rattle.spec_reference.specs.Counting.{CountsAtMost}
 use Rattle.spec_reference.specs.Run.{run}
 use Rattle.spec_reference.specs.Start.{boot_start, start}
 use Rattle.spec_reference.specs.States.{State}
-use Rattle.spec_saved_machine.specs.SavedStates.{IsSaved}
+use Rattle.spec_reference.specs.SavedStates.{IsSaved}
 use Rattle.script.proofs.FirstEvents.{first_few}
 use Rattle.snapshot_format.specs.Snapshots.{contents}
 use Rattle.snapshot_format.specs.declared.whole.Snapshot.{Snapshot}
 use Rattle.laws_resume.specs.Continues.{draw_count}
 use Rattle.laws_resume.specs.SavedForm.{HasBlock, IsCounted}
-use Rattle.laws_resumed_start.specs.SnapLaws.{IsSnapAfter, IsSnapshotOf}
-use Rattle.laws_resumed_start.proofs.SnapHolds.{snap_read_law}
+use Rattle.laws_resume.specs.SnapLaws.{IsSnapAfter, IsSnapshotOf}
+use Rattle.laws_resume.proofs.SnapHolds.{snap_read_law}
 use Rattle.machine.proofs.Repeated.{none_counted}
 use Rattle.cli_snap.proofs.RunLemmas.{drawn_few}
 use Rattle.cli_snap.specs.BlockRuns.{HoldsDisk}

@@ -10,3 +10,13 @@ pub mod FileHolds
 pub mod ReadyLemmas
 pub mod RunLemmas
 pub mod SaveLemmas
+pub mod SkipLemmas
+pub mod CountLemmas
+pub mod StageLemmas
+pub mod ResumeAnswerLemmas
+pub mod ResumeClauseLemmas
+pub mod OneRun
+pub mod ResumeEndLemmas
+pub mod ShowAnswerLemmas
+pub mod LineLists
+pub mod PageLists

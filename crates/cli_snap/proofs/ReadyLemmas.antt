@@ -7,7 +7,7 @@ use Rattle.sv_types.specs.Kernel.{header_entry, kernel_refusal}
 use Rattle.sv_types.specs.Policies.{Rules}
 use Rattle.sv_types.specs.Schedule.{Schedule, first_events}
 use Rattle.sv_types.specs.declared.event.Event.{Event}
-use Rattle.cli_words.specs.declared.command.DiskKind.{DiskKind}
+use Rattle.cli_plans.specs.declared.command_words.command.DiskKind.{DiskKind}
 use Rattle.spec_reference.specs.Start.{boot_start, start as begin}
 use Rattle.spec_reference.specs.States.{has_number}
 use Rattle.host_io.specs.Outside.{FilesState}

@@ -10,15 +10,15 @@ use Rattle.spec_reference.specs.States.{State}
 use Rattle.spec_hardware.specs.Machine.{Machine}
 use Rattle.spec_hardware.specs.Reaches.{IsNew}
 use Rattle.spec_hardware.specs.StandsFor.{StandsFor, machine_of}
-use Rattle.spec_saved_machine.specs.SavedStates.{disk_of, IsSaved}
-use Rattle.spec_saved_machine.specs.declared.whole.Saved.{Saved}
+use Rattle.spec_reference.specs.SavedStates.{disk_of, IsSaved}
+use Rattle.spec_reference.specs.declared.saved_machine.whole.Saved.{Saved}
 use Rattle.snapshot_format.specs.DeviceForms.{is_block}
 use Rattle.snapshot_format.specs.Snapshots.{contents, snapshot}
 use Rattle.snapshot_format.specs.Typed.{IsTyped}
 use Rattle.snapshot_format.specs.declared.whole.Snapshot.{Snapshot}
 use Rattle.snapshot_format.specs.declared.whole.TextPage.{TextPage}
-use Rattle.laws_resumed_start.specs.SnapLaws.{IsSnapshotOf}
-use Rattle.laws_resumed_start.specs.TextPages.{digested_text}
+use Rattle.laws_resume.specs.SnapLaws.{IsSnapshotOf}
+use Rattle.laws_resume.specs.TextPages.{digested_text}
 use Rattle.laws_resume.specs.DiskKinds.{is_block_disk}
 use Rattle.host_io.specs.Outside.{FilesState, SinkState}
 use Rattle.machine.specs.Standing.{HasState}

@@ -5,3 +5,14 @@ pub mod SnapEnds
 pub mod SnapFile
 pub mod SnapReady
 pub mod Encoding
+pub mod ResumePlans
+pub mod ResumeReady
+pub mod SnapAndResume
+pub mod ResumeEnds
+pub mod Showing
+pub mod Answers
+pub mod Lines
+pub mod HartTexts
+pub mod PageTexts
+pub mod DeviceTexts
+pub mod SnapshotTexts

@@ -9,7 +9,7 @@ use Rattle.spec_hardware.specs.Machine.{Machine}
 use Rattle.spec_hardware.specs.Reaches.{Reaches}
 use Rattle.snapshot_format.specs.Snapshots.{contents, snapshot}
 use Rattle.snapshot_format.specs.declared.whole.Snapshot.{Snapshot}
-use Rattle.laws_resumed_start.specs.SnapLaws.{IsSnapshotOf}
+use Rattle.laws_resume.specs.SnapLaws.{IsSnapshotOf}
 use Rattle.host_io.specs.Outside.{FilesState, SinkState, after_taking, BreaksOff, TookPrefix}
 use Rattle.machine.specs.Standing.{Stands}
 use Rattle.machine.specs.Console.{flush_is_due}

@@ -6,13 +6,13 @@ use Rattle.spec_reference.specs.Run.{run}
 use Rattle.spec_reference.specs.States.{State}
 use Rattle.snapshot_format.specs.Snapshots.{contents, snapshot}
 use Rattle.snapshot_format.specs.declared.whole.Snapshot.{Snapshot}
-use Rattle.cli_words.specs.Commands.{has_dash}
+use Rattle.cli_plans.specs.Commands.{has_dash}
 use Rattle.host_io.specs.Outside.{after_taking}
 use Rattle.secvisor_cli.specs.Answers.{Outside}
 use Rattle.cli_plans.specs.CommandLine.{judgement_of_words, snap_judged}
 use Rattle.secvisor_cli.specs.DueIn.{due_in, AreReadWhole, EndsAs}
 use Rattle.cli_plans.specs.Plans.{RunFrom, plan_of}
-use Rattle.laws_resumed_start.specs.SnapLaws.{IsSnapshotOf}
+use Rattle.laws_resume.specs.SnapLaws.{IsSnapshotOf}
 use Rattle.cli_snap.specs.SnapAnswers.{SnapHeadline}
 
 -- ---- the words

@@ -7,7 +7,7 @@ use Rattle.spec_reference.specs.BlockDisk.{sector_size}
 use Rattle.spec_reference.specs.Start.{boot_start}
 use Rattle.snapshot_format.specs.Snapshots.{contents, snapshot, snapshot_read}
 use Rattle.snapshot_format.specs.declared.whole.Snapshot.{Snapshot}
-use Rattle.laws_resumed_start.specs.SnapLaws.{IsMeasuredBoot, IsSnapshotOf}
+use Rattle.laws_resume.specs.SnapLaws.{IsMeasuredBoot, IsSnapshotOf}
 
 -- a disk that a plan doesn't refuse: whole sectors, within the limit
 pub record IsDisk (disk : List ℕ) : Type 0 where

@@ -2,7 +2,7 @@
 ghost use Rattle.std.specs.Prelude.{◌≡◌, ◌≢◌, ◌<◌, ◌≤◌, ◌-◌, ◌⊎◌, ℕ, List, [], map, string_bytes, false, IsTrue, None};
 ghost use Rattle.std.specs.Result.{is_ok};
 ghost use Rattle.sv_types.specs.Limits.{max_events};
-ghost use Rattle.cli_words.specs.declared.command.DiskKind.{DiskKind};
+ghost use Rattle.cli_plans.specs.declared.command_words.command.DiskKind.{DiskKind};
 ghost use Rattle.spec_reference.specs.Counting.{CountsAtMost};
 ghost use Rattle.spec_reference.specs.Run.{run};
 ghost use Rattle.spec_reference.specs.States.{State};

@@ -5,7 +5,9 @@
 mod answer;
 mod laws;
 mod ready;
+pub mod resume;
 mod saving;
+pub mod show;
 
 pub use answer::secvisor_snap;
 pub use laws::{law_block, law_counts, law_snap_ends, law_snap_file};

@@ -1,7 +1,7 @@
 // What is ready of `snap`.
 ghost use Rattle.std.specs.Prelude.{◌≡◌, ◌<◌, ◌≤◌, ◌-◌};
 ghost use Rattle.sv_types.specs.Limits.{max_events};
-ghost use Rattle.cli_words.specs.declared.command.DiskKind.{DiskKind};
+ghost use Rattle.cli_plans.specs.declared.command_words.command.DiskKind.{DiskKind};
 ghost use Rattle.cli_plans.specs.Plans.{run_plan};
 ghost use Rattle.cli_plans.specs.Reading.{MayFollow};
 ghost use Rattle.cli_plans.specs.Words.{run_value};

@@ -12,8 +12,8 @@ ghost use Rattle.host_io.specs.Outside.{MaySaveUnder};
 use host_io::Files;
 use machine::Machine;
 use secvisor_cli::Trouble;
+use snapshot_format::writer::write;
 use snapshot_format::{Snapshot, TextPage};
-use snapshot_writer::write;
 use std::alloc::{AllocError, Global};
 use sv_types::Counts;
 

@@ -10,7 +10,7 @@ use Rattle.spec_reference.specs.Run.{step}
 use Rattle.spec_reference.specs.States.{State}
 use Rattle.spec_hardware.specs.Machine.{Machine}
 use Rattle.spec_hardware.specs.StandsFor.{StandsFor, machine_of}
-use Rattle.laws_survey.specs.Passing.{survey_step, survey}
+use Rattle.laws_simulation.specs.Passing.{survey_step, survey}
 use Rattle.host_io.specs.Outside.{SinkState, after_taking, BreaksOff, MayWrite}
 use Rattle.host_io.proofs.SinkLemmas.{after_taking-append, breaks_after, prefix_after, prefix_of_front, prefix_same, prefix_whole}
 use Rattle.host_io.specs.declared.trouble.Trouble.{Trouble}
@@ -18,9 +18,9 @@ use Rattle.host_io.specs.declared.trouble.Trouble.TheVariants.{Write, Memory}
 use Rattle.machine.proofs.Standing.{prints_after, stands_printed, stands_verdict}
 use Rattle.secvisor_cli.specs.Answers.{Writes, is_answer}
 use Rattle.secvisor_cli.proofs.EndLemmas.{broken_writes, run_is_answer}
-use Rattle.survey_findings.specs.Findings.{PassedWrites}
-use Rattle.survey_findings.specs.Views.{writes_view}
-use Rattle.survey_findings.specs.declared.findings.Writes.{Writes as Passed}
+use Rattle.report.specs.Findings.{PassedWrites}
+use Rattle.report.specs.Views.{writes_view}
+use Rattle.report.specs.declared.findings.findings.Writes.{Writes as Passed}
 use Rattle.cli_survey.specs.Surveys.{HasSurveyed, StandsAmong, SurveyBroke, SurveyWants, Surveyed, writes_in}
 use Rattle.cli_survey.specs.SurveyAnswers.{SurveysTo, bytes_due, ending_of, lines_of, lines_due, status_due, survey_status}
 use Rattle.cli_survey.proofs.SurveyLemmas.{passed_prints, survey_on}

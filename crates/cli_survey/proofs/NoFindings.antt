@@ -14,13 +14,13 @@ use Rattle.sv_types.specs.Kernel.{kernel_segments}
 use Rattle.spec_reference.specs.Report.{output, report}
 use Rattle.spec_reference.specs.Run.{run, step}
 use Rattle.spec_reference.specs.States.{State}
-use Rattle.laws_survey.specs.Passing.{survey_step, survey}
-use Rattle.laws_survey.specs.Passes.{Pass, pass_of, passes}
-use Rattle.laws_survey.specs.SurveyLaws.{IsNoWrite}
-use Rattle.laws_survey.proofs.SurveysHold.{unpassed}
-use Rattle.elf64_symbols.specs.Names.{KernelNames, names_in}
-use Rattle.survey_findings.specs.Findings.{PassedWrites, demotions, denied_moves, no_writes, raised, refused_loads, with_write}
-use Rattle.survey_findings.specs.Lines.{denied_lines, fetch_lines, load_lines, survey_lines, total_line, write_lines}
+use Rattle.laws_simulation.specs.Passing.{survey_step, survey}
+use Rattle.laws_simulation.specs.Passes.{Pass, pass_of, passes}
+use Rattle.laws_simulation.specs.SurveyLaws.{IsNoWrite}
+use Rattle.laws_simulation.proofs.SurveysHold.{unpassed}
+use Rattle.elf64_load.specs.Names.{KernelNames, names_in}
+use Rattle.report.specs.Findings.{PassedWrites, demotions, denied_moves, no_writes, raised, refused_loads, with_write}
+use Rattle.report.specs.Lines.{denied_lines, fetch_lines, load_lines, survey_lines, total_line, write_lines}
 use Rattle.cli_survey.specs.NoFindings.{NoFindingsLaw}
 use Rattle.cli_survey.specs.Surveys.{occurrence_of, with_passes, writes_in}
 use Rattle.cli_survey.specs.SurveyAnswers.{set_apart, survey_status}

@@ -16,20 +16,20 @@ use Rattle.spec_reference.proofs.Runs.{ended_stays, run_on}
 use Rattle.spec_hardware.specs.Machine.{Machine, HwHart}
 use Rattle.spec_hardware.specs.Reaches.{IsNew}
 use Rattle.spec_hardware.specs.StandsFor.{StandsFor}
-use Rattle.laws_invariants.proofs.StateLawsHold.{reached_sound}
+use Rattle.laws_simulation.proofs.StateLawsHold.{reached_sound}
 use Rattle.laws_simulation.proofs.RunsReach.{clear_law}
 use Rattle.laws_resume.specs.Keepable.{IsKeepable, IsKeepableVerdict}
 use Rattle.laws_resume.proofs.KeepableStarts.{keepable_law}
 use Rattle.laws_resume.proofs.KeepableSteps.{keeps_law}
-use Rattle.laws_survey.specs.HwPassing.{hw_moved_on, hw_passed_under, hw_passed_over}
-use Rattle.laws_survey.specs.Passing.{passed_over, survey_step, survey}
-use Rattle.laws_survey.specs.Passes.{Pass, pass_of, passes, IsRow}
-use Rattle.laws_survey.specs.SurveyLaws.{IsNoWrite}
-use Rattle.laws_survey.proofs.HwPassesHold.{hw_pass_law}
-use Rattle.laws_survey.proofs.PassesHold.{moves_on_law, pass_law}
-use Rattle.laws_survey.proofs.RowsHold.{passes_on_law, row_law}
-use Rattle.laws_survey.proofs.SurveysHold.{same_run_law, unpassed}
-use Rattle.laws_survey_guarantee.proofs.SurveysKeep.{survey_keeps}
+use Rattle.laws_simulation.specs.HwPassing.{hw_moved_on, hw_passed_under, hw_passed_over}
+use Rattle.laws_simulation.specs.Passing.{passed_over, survey_step, survey}
+use Rattle.laws_simulation.specs.Passes.{Pass, pass_of, passes, IsRow}
+use Rattle.laws_simulation.specs.SurveyLaws.{IsNoWrite}
+use Rattle.laws_simulation.proofs.HwPassesHold.{hw_pass_law}
+use Rattle.laws_simulation.proofs.PassesHold.{moves_on_law, pass_law}
+use Rattle.laws_simulation.proofs.RowsHold.{passes_on_law, row_law}
+use Rattle.laws_simulation.proofs.SurveysHold.{same_run_law, unpassed}
+use Rattle.laws_guarantee.proofs.SurveysKeep.{survey_keeps}
 use Rattle.host_io.specs.Outside.{SinkState, after_taking, BreaksOff}
 use Rattle.host_io.proofs.SinkLemmas.{after_taking-append, after_taking-nil}
 use Rattle.machine.specs.Repeats.{Repeats}
@@ -39,9 +39,9 @@ use Rattle.machine.proofs.ConsoleLemmas.{flushed_counts, room_again}
 use Rattle.machine.proofs.Passes.{pass_rest}
 use Rattle.machine.proofs.Repeated.{counts_within, one_more, repeats_stand}
 use Rattle.machine.proofs.Standing.{stands_new, stands_step, stands_away, stands_verdict, verdict_is}
-use Rattle.survey_findings.specs.Findings.{PassedWrites, no_writes, with_write}
-use Rattle.survey_findings.specs.Views.{writes_view}
-use Rattle.survey_findings.specs.declared.findings.Writes.{Writes}
+use Rattle.report.specs.Findings.{PassedWrites, no_writes, with_write}
+use Rattle.report.specs.Views.{writes_view}
+use Rattle.report.specs.declared.findings.findings.Writes.{Writes}
 use Rattle.cli_survey.specs.Surveys.{HasSurveyed, StandsAmong, SurveyBroke, SurveyWants, is_running, occurrence_of, with_passes, writes_in}
 
 -- ---- events after others

@@ -5,7 +5,7 @@ use Rattle.sv_types.specs.declared.event.Event.{Event}
 use Rattle.spec_reference.specs.Report.{output}
 use Rattle.spec_reference.specs.Run.{run}
 use Rattle.spec_reference.specs.States.{State}
-use Rattle.laws_survey.specs.Passing.{survey}
+use Rattle.laws_simulation.specs.Passing.{survey}
 use Rattle.cli_survey.specs.SurveyAnswers.{bytes_due, lines_due, status_due}
 
 -- the state, all bytes and the status are those of the run

@@ -14,10 +14,10 @@ use Rattle.spec_reference.specs.Start.{IsBootable, IsStart, boot_start}
 use Rattle.spec_reference.specs.States.{State}
 use Rattle.spec_hardware.specs.Machine.{Machine}
 use Rattle.spec_hardware.specs.Reaches.{IsNew}
-use Rattle.laws_survey.specs.Passing.{survey}
-use Rattle.elf64_symbols.specs.Names.{names_in}
-use Rattle.survey_findings.specs.Findings.{PassedWrites}
-use Rattle.survey_findings.specs.Lines.{survey_lines}
+use Rattle.laws_simulation.specs.Passing.{survey}
+use Rattle.elf64_load.specs.Names.{names_in}
+use Rattle.report.specs.Findings.{PassedWrites}
+use Rattle.report.specs.Lines.{survey_lines}
 use Rattle.host_io.specs.Endings.{status_of_end}
 use Rattle.host_io.specs.Outside.{FilesState, SinkState}
 use Rattle.host_io.specs.declared.trouble.Trouble.{Trouble}

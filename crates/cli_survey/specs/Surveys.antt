@@ -7,17 +7,17 @@ use Rattle.spec_reference.specs.States.{State}
 use Rattle.spec_reference.specs.Start.{IsStart}
 use Rattle.spec_hardware.specs.Machine.{Machine}
 use Rattle.spec_hardware.specs.Reaches.{IsNew}
-use Rattle.laws_survey.specs.Passing.{survey}
-use Rattle.laws_survey.specs.Passes.{Pass, passes}
+use Rattle.laws_simulation.specs.Passing.{survey}
+use Rattle.laws_simulation.specs.Passes.{Pass, passes}
 use Rattle.host_io.specs.Outside.{SinkState, after_taking, BreaksOff}
 use Rattle.host_io.specs.declared.trouble.Trouble.{Trouble}
 use Rattle.host_io.specs.declared.trouble.Trouble.TheVariants.{Write, Memory}
 use Rattle.machine.specs.Console.{MayRun}
 use Rattle.machine.specs.Standing.{Stands}
-use Rattle.survey_findings.specs.Findings.{PassedWrites, no_writes, with_write}
-use Rattle.survey_findings.specs.Views.{writes_view}
-use Rattle.survey_findings.specs.declared.findings.Occurrence.{Occurrence}
-use Rattle.survey_findings.specs.declared.findings.Writes.{Writes}
+use Rattle.report.specs.Findings.{PassedWrites, no_writes, with_write}
+use Rattle.report.specs.Views.{writes_view}
+use Rattle.report.specs.declared.findings.findings.Occurrence.{Occurrence}
+use Rattle.report.specs.declared.findings.findings.Writes.{Writes}
 
 -- ---- what was passed over
 

@@ -22,11 +22,11 @@ use crate::surveying::survey;
 use cli_plans::{Run, Unread, ask_survey};
 use host_io::{Files, Sink};
 use machine::Machine;
+use report::findings::no_writes;
 use script::Script;
 use secvisor_cli::{Bench, Status, Stop, Trouble, refuse, status_of_end};
 use std::alloc::Global;
 use std::thread::Threads;
-use survey_findings::no_writes;
 
 /// Does all that `survey` does: judges the words, reads the files that they name as `run` does, runs the machine past each write
 /// that would stop it, and writes its console, the lines of what was found, and the report.

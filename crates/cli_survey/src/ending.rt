@@ -3,20 +3,20 @@ ghost use Rattle.std.specs.Prelude.{◌≡◌, ◌++◌, IfOk, IsErrOf};
 ghost use Rattle.sv_types.specs.Kernel.{kernel_segments};
 ghost use Rattle.spec_reference.specs.Report.{report};
 ghost use Rattle.elf64_load.specs.Images.{segments_of};
-ghost use Rattle.survey_findings.specs.Views.{writes_view};
+ghost use Rattle.report.specs.Views.{writes_view};
 ghost use Rattle.host_io.specs.Outside.{MayWrite};
 ghost use Rattle.host_io.specs.declared.trouble.Trouble.TheVariants.{Memory};
 ghost use Rattle.secvisor_cli.specs.Answers.{Writes as WritesAll};
 ghost use Rattle.cli_survey.specs.SurveyAnswers.{lines_of, set_apart, survey_status};
 
 use crate::ready::KernelFile;
+use elf64_load::symbols::kernel_names;
 use elf64_load::{KernelImage, read_kernel};
-use elf64_symbols::kernel_names;
 use host_io::{Sink, Trouble, write_all};
 use machine::Machine;
+use report::findings::{Writes, survey_lines};
 use report::{report, status_of};
 use std::alloc::{AllocError, Global};
-use survey_findings::{Writes, survey_lines};
 use sv_types::{Note, Status, Verdict};
 
 // The image of a kernel's file, which was read before, so that nothing but memory is left to fail.

@@ -1,16 +1,16 @@
 // A machine's survey, with its console.
 ghost use Rattle.std.specs.Prelude.{◌≡◌, IfOk, OnOk};
 ghost use Rattle.sv_types.specs.Schedule.{first_events};
-ghost use Rattle.laws_survey.specs.HwPassing.{hw_passed_over};
-ghost use Rattle.laws_survey.specs.Passes.{pass_of};
-ghost use Rattle.survey_findings.specs.Views.{writes_view};
+ghost use Rattle.laws_simulation.specs.HwPassing.{hw_passed_over};
+ghost use Rattle.laws_simulation.specs.Passes.{pass_of};
+ghost use Rattle.report.specs.Views.{writes_view};
 ghost use Rattle.cli_survey.specs.Surveys.{MaySurvey, SurveyedFromStart, is_running, with_passes};
 
 use host_io::{Sink, Trouble};
 use machine::{Drawing, Machine, flush_due};
+use report::findings::{Occurrence, Writes, add_write};
 use script::{EventSource, Script, Source};
 use std::alloc::AllocError;
-use survey_findings::{Occurrence, Writes, add_write};
 use sv_types::{Rule, Verdict};
 
 // A write that stopped the machine is passed over, and kept.
@@ -24,7 +24,7 @@ fn pass_write(machine: &mut Machine, writes: &mut Writes) -> Result<(), AllocErr
     add_stop(writes, verdict)
 }
 
-#[tactic(auto, unfolding(laws_survey::specs::Passes::pass_of))]
+#[tactic(auto, unfolding(laws_simulation::specs::Passes::pass_of))]
 fn add_stop(writes: &mut Writes, verdict: Verdict) -> Result<(), AllocError>
     ensures { OnOk result (writes_view writes.new ≡ with_passes (writes_view writes.old) (pass_of verdict)) }
 {

@@ -1,2 +1,7 @@
 pub mod PartLemmas
 pub mod WritingLemmas
+pub mod AnswerLemmas
+mod Chunks
+mod Outcomes
+pub mod ShrinkAnswerLemmas
+pub mod ClauseLemmas

@@ -13,7 +13,7 @@ use Rattle.elf64_load.specs.Images.{segments_of}
 use Rattle.elf64_load.specs.declared.image.KernelImage.{KernelImage}
 use Rattle.machine.specs.Boot.{IsImageOf}
 use Rattle.host_io.specs.Outside.{FilesState}
-use Rattle.cli_words.specs.declared.command.DiskKind.{DiskKind}
+use Rattle.cli_plans.specs.declared.command_words.command.DiskKind.{DiskKind}
 use Rattle.cli_plans.specs.declared.file_fault.FileFault.{FileFault}
 use Rattle.cli_plans.specs.declared.refusal.Refusal.TheVariants.{Measure, Entry}
 use Rattle.cli_plans.specs.CommandLine.{RunWords, Text}

@@ -1,3 +1,9 @@
 pub mod Orders
 pub mod Reading
 pub mod Writing
+pub mod Trials
+pub mod Sweeps
+pub mod SweepAnswers
+pub mod Shrinking
+pub mod Lines
+pub mod ShrinkAnswers

@@ -4,15 +4,15 @@ ghost use Rattle.spec_processor.specs.Counters.{CanCount};
 ghost use Rattle.sv_types.specs.Schedule.{Schedule};
 ghost use Rattle.script.specs.AutoScripts.{events_of_text, first_refused};
 ghost use Rattle.script.specs.HartCounts.{IsHartCount};
-ghost use Rattle.machine_trials.specs.Trials.{schedule_of};
+ghost use Rattle.cli_trials.specs.Trials.{schedule_of};
 ghost use Rattle.cli_plans.specs.Plans.{script_part, text_part};
 ghost use Rattle.cli_plans.specs.Words.{source_value};
 ghost use Rattle.secvisor_cli.specs.Ready.{MayStage, Staged};
 ghost use Rattle.cli_trials.specs.Orders.{IsAccepted, order_schedule};
 
+use crate::machine::Order;
 use cli_plans::{Part, Source};
 use host_io::Files;
-use machine_trials::Order;
 use secvisor_cli::{MAX_SCRIPT_BYTES, Stop, judge_script, read_part};
 use std::alloc::Global;
 

@@ -14,12 +14,12 @@ ghost use Rattle.secvisor_cli.specs.Ready.{Staged, MayStage};
 ghost use Rattle.cli_trials.specs.Orders.{IsAccepted};
 ghost use Rattle.cli_trials.specs.Reading.{BootsFrom, PartsRead};
 
+use crate::machine::RunFiles;
 use crate::order::{OwnOrder, read_order};
 use cli_plans::{DiskKind, Part, Run};
 use elf64_load::KernelImage;
 use host_io::Files;
 use machine::BootRefusal;
-use machine_trials::RunFiles;
 use secvisor_cli::{
     MAX_IMAGE_BYTES, MAX_POLICY_BYTES, Stop, boot_with, judge_kernel, judge_policy, read_disk,
     read_part,

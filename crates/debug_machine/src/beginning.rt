@@ -3,7 +3,7 @@ ghost use Rattle.std.specs.Prelude.{◌≡◌, IfOk};
 ghost use Rattle.sv_types.specs.Schedule.{Schedule};
 ghost use Rattle.spec_reference.specs.States.{State};
 ghost use Rattle.spec_hardware.specs.Reaches.{IsNew};
-ghost use Rattle.laws_standing.specs.Starts.{journal_at_boot};
+ghost use Rattle.laws_resume.specs.Starts.{journal_at_boot};
 
 use machine::Machine;
 use script::Script;

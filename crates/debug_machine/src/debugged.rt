@@ -9,7 +9,7 @@ use crate::stepping::{draw, step, turning};
 use debug_session::Target;
 use machine::Machine;
 use script::Script;
-use spec_saved_machine::SavedHart;
+use spec_reference::saved_machine::SavedHart;
 use std::alloc::{AllocError, Global};
 use sv_types::{Event, Verdict};
 

@@ -5,7 +5,7 @@ use Rattle.std.specs.Int.{w64, to_le_bytes}
 use Rattle.spec_processor.specs.Registers.{uxl}
 use Rattle.spec_processor.specs.declared.mode.Mode.{Mode}
 use Rattle.spec_processor.specs.declared.mode.Mode.TheVariants.{Kernel, User}
-use Rattle.spec_saved_machine.specs.declared.harts.SavedHart.{SavedHart}
+use Rattle.spec_reference.specs.declared.saved_machine.harts.SavedHart.{SavedHart}
 use Rattle.gdb_protocol.specs.Digits.{byte_digits}
 
 -- the answer to what can't be done

@@ -3,8 +3,8 @@ use Rattle.std.specs.Prelude.{ℕ, zero, suc, ◌+◌, ◌-◌, ◌%◌, max, Bo
 use Rattle.sv_types.specs.declared.event.Verdict.{Verdict}
 use Rattle.sv_types.specs.declared.event.Verdict.TheVariants.{Running, Shutdown, Stopped}
 use Rattle.spec_reference.specs.States.{has_number}
-use Rattle.spec_saved_machine.specs.SavedStates.{saved_hart}
-use Rattle.spec_saved_machine.specs.declared.harts.SavedHart.{SavedHart}
+use Rattle.spec_reference.specs.SavedStates.{saved_hart}
+use Rattle.spec_reference.specs.declared.saved_machine.harts.SavedHart.{SavedHart}
 use Rattle.gdb_protocol.specs.Answers.{stop_text, console_text, part_text}
 use Rattle.gdb_protocol.specs.Digits.{byte_digits}
 use Rattle.gdb_protocol.specs.Framing.{frame}

@@ -3,7 +3,7 @@ ghost use Rattle.std.specs.Prelude.{◌≡◌, IfOk, string_bytes};
 ghost use Rattle.debug_session.specs.Looks as spec;
 
 use spec_processor::Mode;
-use spec_saved_machine::SavedHart;
+use spec_reference::saved_machine::SavedHart;
 use std::alloc::{AllocError, Global};
 
 /// Whether a hart is started, its mode, and the entry that it is in.

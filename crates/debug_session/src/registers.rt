@@ -4,7 +4,7 @@ ghost use Rattle.debug_session.specs.Looks as spec;
 
 use gdb_protocol::push_digits;
 use spec_processor::REGISTERS;
-use spec_saved_machine::SavedHart;
+use spec_reference::saved_machine::SavedHart;
 use std::alloc::AllocError;
 
 /// The answer to what can't be done.

@@ -14,7 +14,7 @@ use crate::motion::meets_break;
 use crate::registers::{ERROR, push_register, push_registers};
 use crate::target::Target;
 use gdb_protocol::{Packet, Range, Stop, Thread, push_digits, push_part, push_stop};
-use spec_saved_machine::SavedHart;
+use spec_reference::saved_machine::SavedHart;
 use std::alloc::{AllocError, Global};
 use sv_types::Verdict;
 

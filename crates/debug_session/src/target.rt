@@ -1,9 +1,9 @@
 // What is debugged.
 ghost use Rattle.std.specs.Prelude.{◌≡◌, ◌<◌, ◌≤◌, ◌+◌, ℕ, OnOk, option_map, slice_get, length, nat_lt};
-ghost use Rattle.spec_saved_machine.specs.SavedStates.{saved_hart};
+ghost use Rattle.spec_reference.specs.SavedStates.{saved_hart};
 ghost use Rattle.debug_session.specs.Runs.{Run, after, events_left, next_turn, place_of, state};
 
-use spec_saved_machine::SavedHart;
+use spec_reference::saved_machine::SavedHart;
 use std::alloc::{AllocError, Global};
 use sv_types::Verdict;
 

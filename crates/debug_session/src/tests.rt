@@ -5,7 +5,7 @@ use crate::target::Target;
 use host_io::MemSink;
 use live_keys::MemKeys;
 use spec_processor::{Mode, REGISTERS};
-use spec_saved_machine::SavedHart;
+use spec_reference::saved_machine::SavedHart;
 use std::alloc::{AllocError, Global};
 use std::test::Fail;
 use sv_types::Verdict;

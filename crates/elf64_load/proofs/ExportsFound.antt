@@ -4,9 +4,9 @@ use Rattle.std.specs.Prelude.{◌&&◌, if◌then◌else◌, option_map, find}
 use Rattle.std.specs.BTreeMap.{BTreeMap}
 use Rattle.std.specs.Borrow.{Bor}
 use Rattle.std.specs.Str.{bytes_eq}
-use Rattle.elf64_sections.specs.Sections.{symbols_from, symbol_at}
-use Rattle.elf64_sections.specs.declared.tables.Symbol.{Symbol}
-use Rattle.elf64_sections.specs.NameTables.{number_by_name}
+use Rattle.elf64_load.specs.Sections.{symbols_from, symbol_at}
+use Rattle.elf64_load.specs.declared.sections.tables.Symbol.{Symbol}
+use Rattle.elf64_load.specs.NameTables.{number_by_name}
 use Rattle.elf64_load.specs.Exports.{is_name_of, defines, address_among}
 
 pub name_tested : (global : Bool) (name : Option (List ℕ)) (key wanted : List ℕ) (one other : Option ℕ) → global ≡ true → name ≡ Some key

@@ -8,3 +8,9 @@ pub mod LoadedBytes
 pub mod LoadedText
 pub mod ExportsFound
 pub mod RefusedOn
+pub mod Words
+pub mod Numbers
+pub mod Fronts
+pub mod Steps
+pub mod Refusals
+pub mod Windows

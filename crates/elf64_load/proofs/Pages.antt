@@ -7,7 +7,7 @@ use Rattle.std.specs.Prelude.{nat_lt, ◌==◌, All}
 use Rattle.elf64_load.specs.Headers.{HasMemory}
 use Rattle.std.proofs.lemmas.Grind.{flat_map-append}
 use Rattle.std.proofs.Math.ListN.{drop_of_length-le}
-use Rattle.elf64_sections.proofs.Numbers.{numbers-suc}
+use Rattle.elf64_load.proofs.Numbers.{numbers-suc}
 use Rattle.spec_processor.specs.Bytes.{part}
 use Rattle.sv_types.specs.Kernel.{header_at, is_loaded, loaded_among, table_place}
 use Rattle.sv_types.specs.ApprovedPages.{numbers_from}

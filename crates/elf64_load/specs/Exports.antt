@@ -6,9 +6,9 @@ use Rattle.sv_types.specs.declared.image_fault.HeaderFault.{HeaderFault}
 use Rattle.sv_types.specs.declared.image_fault.ImageFault.{ImageFault}
 use Rattle.sv_types.specs.declared.policy.Export.{Export}
 use Rattle.sv_types.specs.Steps.{◌>>=◌}
-use Rattle.elf64_sections.specs.Judged.{each}
-use Rattle.elf64_sections.specs.Sections.{Tables, sections_in_file, sections_of, tables_of, symbols_of, name_at}
-use Rattle.elf64_sections.specs.declared.tables.Symbol.{Symbol}
+use Rattle.elf64_load.specs.Judged.{each}
+use Rattle.elf64_load.specs.Sections.{Tables, sections_in_file, sections_of, tables_of, symbols_of, name_at}
+use Rattle.elf64_load.specs.declared.sections.tables.Symbol.{Symbol}
 use Rattle.elf64_load.specs.Refusals.{Judged}
 use Rattle.sv_types.specs.Elf.{et_exec, st_bind, stb_global, shn_undef}
 use Rattle.sv_types.specs.Limits.{max_exports}

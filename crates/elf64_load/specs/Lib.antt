@@ -2,3 +2,12 @@ pub mod Exports
 pub mod Headers
 pub mod Images
 pub mod Refusals
+pub mod Judged
+pub mod Sections
+pub mod Views
+pub mod NameTables
+pub mod Symbols
+pub mod Names
+pub mod Printed
+pub mod KernelViews
+pub mod SymbolsViews

@@ -6,11 +6,11 @@ ghost use Rattle.elf64_load.specs.Headers.{HasMemory};
 ghost use Rattle.sv_types.specs.Elf.{file_header_size, program_header_size};
 ghost use Rattle.sv_types.specs.Kernel.{first_refusal, header_checks, table_checks, segment_checks, image_checks, is_executable, is_writable, memory_in_ram, table_place, table_count, table_in_file};
 
-use crate::shared_text::text_is_shared;
-use elf64_sections::elf::{
+use crate::sections::elf::{
     E_PHENTSIZE, E_PHNUM, E_PHOFF, ET_EXEC, PF_W_BIT, PF_X_BIT, PROGRAM_HEADER_BYTES,
 };
-use elf64_sections::{double, file_refusal, half};
+use crate::sections::{double, file_refusal, half};
+use crate::shared_text::text_is_shared;
 use spec_processor::{PAGE_BYTES, has_bit, is_in_ram};
 use std::alloc::{AllocError, Global};
 use sv_types::{ImageFault, ProgramHeader};

@@ -2,16 +2,16 @@
 
 ghost use Rattle.std.specs.Prelude.{◌≡◌, ◌≤◌, ◌*◌, ℕ, List, [], length, if◌then◌else◌, Some, Ok, IfOk, IfErr, OnOk, option_map};
 ghost use Rattle.sv_types.specs.Elf.{file_header_size};
-ghost use Rattle.elf64_sections.specs.NameTables.{number_by_name};
+ghost use Rattle.elf64_load.specs.NameTables.{number_by_name};
 ghost use Rattle.elf64_load.specs.Exports as spec;
 ghost use Rattle.elf64_load.specs.Refusals.{Refuses};
-ghost use Rattle.elf64_sections.specs.Judged.{each};
-ghost use Rattle.elf64_sections.specs.Sections.{sections_in_file};
-ghost use Rattle.elf64_sections.specs.Views.{tables_view};
+ghost use Rattle.elf64_load.specs.Judged.{each};
+ghost use Rattle.elf64_load.specs.Sections.{sections_in_file};
+ghost use Rattle.elf64_load.specs.Views.{tables_view};
 
 use crate::read::ElfRefusal;
-use elf64_sections::elf::{ET_EXEC, SHN_UNDEF, STB_GLOBAL};
-use elf64_sections::{
+use crate::sections::elf::{ET_EXEC, SHN_UNDEF, STB_GLOBAL};
+use crate::sections::{
     Symbol, SymbolTables, file_refusal, name_at, section_headers, sections_in_file, symbol_at,
     symbol_count, symbol_tables,
 };

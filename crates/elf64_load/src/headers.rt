@@ -5,11 +5,11 @@ ghost use Rattle.elf64_load.specs.Headers.{HasMemory};
 ghost use Rattle.sv_types.specs.Elf.{file_header_size, program_header_size};
 ghost use Rattle.sv_types.specs.Kernel.{header_at, is_loaded, loaded_among, table_place, table_count};
 
-use elf64_sections::elf::{
+use crate::sections::elf::{
     E_PHNUM, E_PHOFF, P_FILESZ, P_FLAGS, P_MEMSZ, P_OFFSET, P_PADDR, P_TYPE, P_VADDR,
     PROGRAM_HEADER_BYTES, PT_LOAD,
 };
-use elf64_sections::{double, half, word};
+use crate::sections::{double, half, word};
 use std::alloc::{AllocError, Global};
 use sv_types::ProgramHeader;
 

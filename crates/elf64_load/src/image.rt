@@ -6,7 +6,7 @@ ghost use Rattle.spec_processor.specs.Regions.{max_ram_pages};
 ghost use Rattle.spec_processor.specs.Bytes.{page_size};
 ghost use Rattle.elf64_load.specs.Images.{segment_of, segments_of, text_owner};
 
-use elf64_sections::push_zeros;
+use crate::sections::push_zeros;
 use policy_limits::MAX_RAM_PAGES;
 use spec_processor::{PAGE_BYTES, ram_offset};
 use std::alloc::{AllocError, Global};

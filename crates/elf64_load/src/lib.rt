@@ -7,7 +7,9 @@ mod headers;
 mod image;
 mod laws;
 mod read;
+pub mod sections;
 mod shared_text;
+pub mod symbols;
 mod whole_text;
 
 pub use exports::read_exports;

@@ -10,8 +10,8 @@ ghost use Rattle.elf64_load.specs.declared.read.ElfRefusal.TheVariants.{Fault, M
 use crate::checks::{header_refusal, image_refusal, is_executable, segments_refusal};
 use crate::headers::loaded_headers;
 use crate::image::{KernelImage, Segment};
-use elf64_sections::double;
-use elf64_sections::elf::E_ENTRY;
+use crate::sections::double;
+use crate::sections::elf::E_ENTRY;
 use std::alloc::{AllocError, AllocFailed, Global};
 use sv_types::{ImageFault, ProgramHeader};
 use thiserror::Error;

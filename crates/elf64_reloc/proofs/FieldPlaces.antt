@@ -14,9 +14,9 @@ use Rattle.sv_types.specs.declared.policy.Export.{Export}
 use Rattle.sv_types.specs.declared.relocation_kind.RelocationKind.{RelocationKind}
 use Rattle.sv_types.specs.declared.relocation_kind.RelocationKind.TheVariants.{Word64, Branch, Jal, PcrelHi20, PcrelLo12I, PcrelLo12S, Hi20, Lo12I, Lo12S}
 use Rattle.sv_types.specs.Steps.{◌>>=◌}
-use Rattle.elf64_sections.specs.Sections.{symbol_count, symbol_at, name_at}
-use Rattle.elf64_sections.specs.declared.tables.Symbol.{Symbol}
-use Rattle.elf64_sections.proofs.Steps.{ok_same}
+use Rattle.elf64_load.specs.Sections.{symbol_count, symbol_at, name_at}
+use Rattle.elf64_load.specs.declared.sections.tables.Symbol.{Symbol}
+use Rattle.elf64_load.proofs.Steps.{ok_same}
 use Rattle.elf64_reloc.specs.Asking.{asked_of, asked_bytes, place_alignment}
 use Rattle.elf64_reloc.specs.Modules.{Judging, site_at, or_nothing, low_fields, fields_for, fields_with, fields_asked, fields_judged, found_sites, each_judged, call_fields, one_field, judging_of, is_high_at, relocations_of_object, sites_of}
 use Rattle.elf64_reloc.specs.Objects.{Object}

@@ -12,7 +12,7 @@ use Rattle.std.proofs.lemmas.List.{append-nil, drop_more}
 use Rattle.sv_types.specs.declared.policy.Export.{Export}
 use Rattle.sv_types.specs.declared.module.Site.{Site}
 use Rattle.sv_types.specs.Steps.{◌>>=◌}
-use Rattle.elf64_sections.specs.declared.sections.SectionHeader.{SectionHeader}
+use Rattle.elf64_load.specs.declared.sections.sections.SectionHeader.{SectionHeader}
 use Rattle.elf64_reloc.specs.Layouts.{padding, placed_after, placed_from, placed_sections, ends_after, ends_from}
 use Rattle.elf64_reloc.specs.Modules.{Judging, ordered_from, each_judged, fields_judged, found_sites, is_high_at, sites_of, text_behind, text_from}
 use Rattle.elf64_reloc.specs.Objects.{Object}

@@ -8,8 +8,8 @@ use Rattle.std.proofs.lemmas.List.{length-replicate}
 use Rattle.spec_processor.specs.Bits.{bit}
 use Rattle.sv_types.specs.ApprovedPages.{numbers_from}
 use Rattle.spec_processor.specs.Effects.{plus}
-use Rattle.elf64_sections.specs.Sections.{part_in_file, section_bytes}
-use Rattle.elf64_sections.specs.declared.sections.SectionHeader.{SectionHeader}
+use Rattle.elf64_load.specs.Sections.{part_in_file, section_bytes}
+use Rattle.elf64_load.specs.declared.sections.sections.SectionHeader.{SectionHeader}
 use Rattle.elf64_reloc.specs.Layouts.{is_good_alignment, space_of, padding, place_after, ends_with, placed_after, ends_after, placed_from, ends_from}
 use Rattle.elf64_reloc.specs.Modules.{zeros, text_behind, text_from}
 use Rattle.elf64_reloc.specs.Objects.{is_good_part}

@@ -12,9 +12,9 @@ use Rattle.sv_types.specs.declared.module.Site.{Site}
 use Rattle.sv_types.specs.declared.policy.Export.{Export}
 use Rattle.sv_types.specs.declared.relocation_kind.RelocationKind.{RelocationKind}
 use Rattle.sv_types.specs.Steps.{◌>>=◌}
-use Rattle.elf64_sections.specs.Sections.{Tables, section_bytes, symbol_count, symbol_at, name_at}
-use Rattle.elf64_sections.specs.declared.sections.SectionHeader.{SectionHeader}
-use Rattle.elf64_sections.specs.declared.tables.Symbol.{Symbol}
+use Rattle.elf64_load.specs.Sections.{Tables, section_bytes, symbol_count, symbol_at, name_at}
+use Rattle.elf64_load.specs.declared.sections.sections.SectionHeader.{SectionHeader}
+use Rattle.elf64_load.specs.declared.sections.tables.Symbol.{Symbol}
 use Rattle.elf64_reloc.specs.Asking.{asked_of, asked_bytes, place_alignment, is_high}
 use Rattle.elf64_reloc.specs.Layouts.{space_of, is_good_alignment, padding, placed_sections, text_size}
 use Rattle.elf64_reloc.specs.Objects.{Object, object_judged}

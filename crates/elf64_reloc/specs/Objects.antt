@@ -2,8 +2,8 @@
 use Rattle.std.specs.Prelude.{ℕ, Bool, ◌||◌, List, ◌==◌, if◌then◌else◌, Option, Some, None, Ok, Err}
 use Rattle.std.specs.List.{list_all}
 use Rattle.sv_types.specs.Kernel.{first_refusal, file_checks}
-use Rattle.elf64_sections.specs.Sections.{Tables, sections_in_file, sections_of, part_in_file, tables_of}
-use Rattle.elf64_sections.specs.declared.sections.SectionHeader.{SectionHeader}
+use Rattle.elf64_load.specs.Sections.{Tables, sections_in_file, sections_of, part_in_file, tables_of}
+use Rattle.elf64_load.specs.declared.sections.sections.SectionHeader.{SectionHeader}
 use Rattle.sv_types.specs.declared.image_fault.HeaderFault.{HeaderFault}
 use Rattle.elf64_reloc.specs.Refusals.{Judged}
 use Rattle.elf64_reloc.specs.declared.fault.ObjectFault.{ObjectFault}

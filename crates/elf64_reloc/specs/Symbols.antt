@@ -4,8 +4,8 @@ use Rattle.std.specs.List.{position_from}
 use Rattle.std.specs.Str.{bytes_eq}
 use Rattle.spec_processor.specs.Effects.{plus}
 use Rattle.sv_types.specs.declared.policy.Export.{Export}
-use Rattle.elf64_sections.specs.Sections.{Tables, symbol_count, symbol_at, name_at}
-use Rattle.elf64_sections.specs.declared.tables.Symbol.{Symbol}
+use Rattle.elf64_load.specs.Sections.{Tables, symbol_count, symbol_at, name_at}
+use Rattle.elf64_load.specs.declared.sections.tables.Symbol.{Symbol}
 use Rattle.elf64_reloc.specs.declared.layout.PlacedSection.{PlacedSection}
 use Rattle.elf64_reloc.specs.declared.layout.Space.{Space}
 use Rattle.elf64_reloc.specs.declared.layout.Space.TheVariants.{Text, Data, Elsewhere}

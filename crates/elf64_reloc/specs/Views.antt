@@ -1,6 +1,6 @@
 -- What callers see of an object, and of what its symbols are looked up in.
-use Rattle.elf64_sections.specs.Views.{tables_view}
-use Rattle.elf64_sections.specs.NameTables.{number_by_name}
+use Rattle.elf64_load.specs.Views.{tables_view}
+use Rattle.elf64_load.specs.NameTables.{number_by_name}
 use Rattle.elf64_reloc.specs.Objects as objects
 use Rattle.elf64_reloc.specs.Symbols as symbols
 use Rattle.elf64_reloc.specs.declared.object.Object.{Object}

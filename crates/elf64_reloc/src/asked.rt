@@ -3,7 +3,7 @@
 ghost use Rattle.std.specs.Prelude.{◌≡◌};
 ghost use Rattle.elf64_reloc.specs.Asking as spec;
 
-use elf64_sections::elf::{R_RISCV_CALL, R_RISCV_CALL_PLT};
+use elf64_load::sections::elf::{R_RISCV_CALL, R_RISCV_CALL_PLT};
 use policy_limits::site_size;
 use spec_processor::INSTRUCTION_BYTES;
 use sv_types::RelocationKind;

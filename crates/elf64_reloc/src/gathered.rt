@@ -5,7 +5,7 @@ ghost use Rattle.std.specs.BTreeMap.{get};
 ghost use Rattle.std.specs.List.{list_all};
 ghost use Rattle.std.specs.Ordering.{nat_cmp};
 ghost use Rattle.sv_types.specs.Limits.{max_exports};
-ghost use Rattle.elf64_sections.specs.NameTables.{number_by_name};
+ghost use Rattle.elf64_load.specs.NameTables.{number_by_name};
 ghost use Rattle.elf64_reloc.specs.Modules.{is_high_at};
 ghost use Rattle.elf64_reloc.specs.Objects.{is_good_part};
 ghost use Rattle.elf64_reloc.specs.Relocations as spec;

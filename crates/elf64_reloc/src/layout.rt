@@ -4,8 +4,8 @@ ghost use Rattle.std.specs.Prelude.{◌≡◌, IfOk};
 ghost use Rattle.std.specs.List.{list_all};
 ghost use Rattle.elf64_reloc.specs.Layouts as spec;
 
-use elf64_sections::SectionHeader;
-use elf64_sections::elf::{SHF_ALLOC_BIT, SHF_EXECINSTR_BIT, SHT_PROGBITS};
+use elf64_load::sections::SectionHeader;
+use elf64_load::sections::elf::{SHF_ALLOC_BIT, SHF_EXECINSTR_BIT, SHT_PROGBITS};
 use spec_processor::{PAGE_BYTES, has_bit};
 use std::alloc::{AllocError, Global};
 

@@ -3,7 +3,7 @@
 ghost use Rattle.std.specs.Prelude.{◌≡◌, [], Ok, IsTrue, IfOk, IfErr, OnOk};
 ghost use Rattle.std.specs.List.{list_all};
 ghost use Rattle.elf64_reloc.specs.Objects.{is_good_part};
-ghost use Rattle.elf64_sections.specs.Views.{tables_view};
+ghost use Rattle.elf64_load.specs.Views.{tables_view};
 ghost use Rattle.elf64_reloc.specs.Modules as spec;
 ghost use Rattle.elf64_reloc.specs.NameKeys.{names_of, AreNamed};
 ghost use Rattle.elf64_reloc.specs.Refusals.{Refuses};
@@ -14,7 +14,7 @@ use crate::layout::lay_out;
 use crate::object::{Object, read_object};
 use crate::refusal::RelocRefusal;
 use crate::relocations::{Relocation, all_relocations};
-use elf64_sections::{Symbol, SymbolTables, name_at, symbol_at, symbol_count};
+use elf64_load::sections::{Symbol, SymbolTables, name_at, symbol_at, symbol_count};
 use std::alloc::{AllocError, Global};
 use std::collections::BTreeMap;
 use sv_types::Name;

@@ -8,8 +8,8 @@ ghost use Rattle.elf64_reloc.specs.Views.{object_view};
 
 use crate::fault::ObjectFault;
 use crate::refusal::RelocRefusal;
-use elf64_sections::elf::{ET_REL, SHT_NOBITS, SHT_NULL};
-use elf64_sections::{
+use elf64_load::sections::elf::{ET_REL, SHT_NOBITS, SHT_NULL};
+use elf64_load::sections::{
     SectionHeader, SymbolTables, file_refusal, part_in_file, section_headers, sections_in_file,
     symbol_tables,
 };

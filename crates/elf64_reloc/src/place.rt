@@ -14,7 +14,7 @@ use crate::relocations::Relocation;
 use crate::section_names::section_name;
 use crate::sites::{Judging, fields_judged};
 use crate::symbols::Names;
-use elf64_sections::{name_at, symbol_at, symbol_count};
+use elf64_load::sections::{name_at, symbol_at, symbol_count};
 use std::alloc::{AllocError, Global};
 use sv_types::Export;
 

@@ -7,10 +7,10 @@ ghost use Rattle.elf64_reloc.specs.Relocations as spec;
 ghost use Rattle.elf64_reloc.specs.Objects.{is_good_part};
 
 use crate::layout::{PlacedSection, Space};
-use elf64_sections::elf::{
+use elf64_load::sections::elf::{
     R_ADDEND, R_OFFSET, R_RISCV_RELAX, R_SYM, R_TYPE, RELOCATION_BYTES, SHT_RELA,
 };
-use elf64_sections::{SectionHeader, double, part, word};
+use elf64_load::sections::{SectionHeader, double, part, word};
 use std::alloc::{AllocError, Global};
 
 /// A relocation of a section of text: the field's offset in its section, which has so many bytes; its place in the text;

@@ -3,10 +3,10 @@
 ghost use Rattle.std.specs.Prelude.{◌≤◌, length};
 ghost use Rattle.sv_types.specs.Elf.{file_header_size};
 
-use elf64_sections::elf::{
+use elf64_load::sections::elf::{
     E_SHOFF, E_SHSTRNDX, FILE_HEADER_BYTES, SECTION_HEADER_BYTES, SH_NAME, SH_TYPE,
 };
-use elf64_sections::{SectionHeader, double, half, name_at, part, part_in_file, word};
+use elf64_load::sections::{SectionHeader, double, half, name_at, part, part_in_file, word};
 
 // Where a section's name begins among the names of sections.
 fn name_place(file: &[u8], section: usize) -> Option<u32>

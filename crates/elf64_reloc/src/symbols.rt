@@ -3,12 +3,12 @@
 ghost use Rattle.std.specs.Prelude.{◌≡◌, ◌≤◌, ◌<◌, ℕ, List, length, Some, IfOk, option_map};
 ghost use Rattle.sv_types.specs.Limits.{max_exports};
 ghost use Rattle.elf64_reloc.specs.Symbols as spec;
-ghost use Rattle.elf64_sections.specs.NameTables.{number_by_name};
+ghost use Rattle.elf64_load.specs.NameTables.{number_by_name};
 ghost use Rattle.elf64_reloc.specs.Views.{names_view};
 
 use crate::layout::{PlacedSection, Space};
-use elf64_sections::elf::{SHN_ABS, SHN_LORESERVE, SHN_UNDEF};
-use elf64_sections::{Symbol, SymbolTables, name_at, symbol_at, symbol_count};
+use elf64_load::sections::elf::{SHN_ABS, SHN_LORESERVE, SHN_UNDEF};
+use elf64_load::sections::{Symbol, SymbolTables, name_at, symbol_at, symbol_count};
 use std::alloc::{AllocError, Global};
 use std::collections::BTreeMap;
 use sv_types::{DATA_BASE, Export, FIRST_EXPORT_BASE, NO_BASE, TEXT_BASE};

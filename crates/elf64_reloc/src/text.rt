@@ -9,7 +9,7 @@ ghost use Rattle.elf64_reloc.specs.Views.{object_view};
 
 use crate::layout::{Space, padding, space_of};
 use crate::object::Object;
-use elf64_sections::{SectionHeader, part, push_zeros};
+use elf64_load::sections::{SectionHeader, part, push_zeros};
 use spec_processor::PAGE_BYTES;
 use std::alloc::{AllocError, Global};
 

@@ -7,7 +7,7 @@ ghost use Rattle.spec_processor.specs.Encoding.{fits};
 ghost use Rattle.guest_gen.specs.Images as spec;
 
 use crate::fields::{Field, pad, push_code, push_fields};
-use elf64_sections::elf::{
+use elf64_load::sections::elf::{
     ELF_MAGIC, ELFCLASS64, ELFDATA2LSB, EM_RISCV, ET_EXEC, EV_CURRENT, FILE_HEADER_BYTES, PF_R_BIT,
     PF_W_BIT, PF_X_BIT, PROGRAM_HEADER_BYTES, PT_LOAD,
 };

@@ -4,7 +4,7 @@ use Rattle.spec_processor.specs.Regions.{Region}
 use Rattle.spec_processor.specs.declared.cached.CacheLine.{CacheLine}
 use Rattle.spec_processor.specs.declared.hregs.HRegs.{HRegs}
 use Rattle.spec_processor.specs.declared.mode.Mode.TheVariants.{User}
-use Rattle.gstage_cache.specs.CacheWalks.{MayWalk, Walked}
+use Rattle.hw_tlb.specs.CacheWalks.{MayWalk, Walked}
 use Rattle.hart.specs.declared.hart.Core.{Core as Kept}
 use Rattle.spec_processor.specs.Bytes.{instruction_size}
 

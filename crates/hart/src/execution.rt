@@ -22,13 +22,13 @@ use crate::system::{
 };
 use crate::trap::{interrupt, plain_exception, raise};
 use csr_file::pending;
-use gstage_cache::Cache;
 use host_mem::HostMem;
+use hw_tlb::gstage_cache::Cache;
 use rv64_exec::effect;
 use spec_processor::{Access, Cause, Effect, HRegs, INSTRUCTION_BYTES, Interrupt, Outcome};
 
 /// What `Cpu::attempt` does, without the count.
-#[tactic(auto, using(gstage_cache::specs::Fills::nothing_filled, gstage_cache::specs::Fills::filled_further), unfolding(spec_processor::specs::HardwareAttempt::attempt, spec_processor::specs::HardwareAttempt::after_pending))]
+#[tactic(auto, using(hw_tlb::specs::Fills::nothing_filled, hw_tlb::specs::Fills::filled_further), unfolding(spec_processor::specs::HardwareAttempt::attempt, spec_processor::specs::HardwareAttempt::after_pending))]
 #[inline(always)]
 pub(crate) fn attempt<W: InterruptLines>(
     words: &mut DecodeCache,
@@ -66,7 +66,7 @@ fn interrupt_due<W: InterruptLines>(
 }
 
 // What the pc leads to, carried out.
-#[tactic(auto, using(gstage_cache::specs::Fills::nothing_filled, gstage_cache::specs::Fills::filled_further), unfolding(spec_processor::specs::HardwareAttempt::after_fetch))]
+#[tactic(auto, using(hw_tlb::specs::Fills::nothing_filled, hw_tlb::specs::Fills::filled_further), unfolding(spec_processor::specs::HardwareAttempt::after_fetch))]
 #[inline(always)]
 fn fetch<W: InterruptLines>(
     words: &mut DecodeCache,
@@ -102,7 +102,7 @@ fn set(core: &mut Core, rd: u8, value: u64, next: u64) -> Outcome
 }
 
 // A word that was decoded, carried out.
-#[tactic(auto, using(gstage_cache::specs::Fills::nothing_filled, laws_processor::proofs::EffectRequests::is_request), unfolding(spec_processor::specs::HardwareAttempt::after_word, spec_processor::specs::HardwareAttempt::after_instruction, spec_processor::specs::HardwareAttempt::after_effect))]
+#[tactic(auto, using(hw_tlb::specs::Fills::nothing_filled, laws_processor::proofs::EffectRequests::is_request), unfolding(spec_processor::specs::HardwareAttempt::after_word, spec_processor::specs::HardwareAttempt::after_instruction, spec_processor::specs::HardwareAttempt::after_effect))]
 #[inline(always)]
 fn carry_out<W: InterruptLines>(
     core: &mut Core,

@@ -8,14 +8,14 @@ ghost use Rattle.spec_processor.specs.HardwareMemory.{misaligned_cause, page_fau
 ghost use Rattle.spec_processor.specs.Roots.{IsFirstStageRoot};
 ghost use Rattle.spec_processor.specs.declared.access.Access.TheVariants as Access;
 ghost use Rattle.hart.specs.Cores.{core_of};
-ghost use Rattle.gstage_cache.specs.CacheWalks.{MayWalk, Walked};
+ghost use Rattle.hw_tlb.specs.CacheWalks.{MayWalk, Walked};
 ghost use Rattle.sv39_walk.specs.Regimes.{settings_of};
 
 use crate::hart::Core;
 use crate::trap::plain_exception;
 use csr_file::{MXR_BIT, SUM_BIT};
-use gstage_cache::Cache;
 use host_mem::HostMem;
+use hw_tlb::gstage_cache::Cache;
 use spec_processor::{
     Access, BARE, Cause, Exception, Fault, HRegs, HTVAL_UNIT, ROOT_MODE_SHIFT, has_bit,
 };

@@ -112,7 +112,7 @@ pub(crate) struct Stored {
 }
 
 /// A store.
-#[tactic(auto, using(gstage_cache::proofs::WritesAndWalks::write_after), unfolding(spec_processor::specs::HardwareMemory::after_store))]
+#[tactic(auto, using(hw_tlb::proofs::WritesAndWalks::write_after), unfolding(spec_processor::specs::HardwareMemory::after_store))]
 #[inline(always)]
 pub(crate) fn store(
     core: &mut Core,
@@ -158,7 +158,7 @@ fn covers(reservation: Option<u64>, hpa: u64, width: u8) -> bool
 }
 
 /// A store that is carried out where its bytes lie in the hart's reservation, which goes in both cases.
-#[tactic(auto, using(gstage_cache::proofs::WritesAndWalks::write_after), unfolding(spec_processor::specs::HardwareMemory::after_store_conditional))]
+#[tactic(auto, using(hw_tlb::proofs::WritesAndWalks::write_after), unfolding(spec_processor::specs::HardwareMemory::after_store_conditional))]
 #[inline(always)]
 pub(crate) fn store_conditional(
     core: &mut Core,
@@ -208,7 +208,7 @@ pub(crate) struct Operation {
 }
 
 /// An atomic instruction: a load, and a store of what the operation makes of the loaded word.
-#[tactic(auto, using(gstage_cache::proofs::WritesAndWalks::write_after), unfolding(spec_processor::specs::HardwareMemory::after_amo))]
+#[tactic(auto, using(hw_tlb::proofs::WritesAndWalks::write_after), unfolding(spec_processor::specs::HardwareMemory::after_amo))]
 #[inline(always)]
 pub(crate) fn atomic(
     core: &mut Core,

@@ -8,6 +8,7 @@ ghost use Rattle.spec_processor.specs.Counters.{CanCount};
 mod calls;
 mod memory_files;
 mod memory_sink;
+pub mod os_files;
 mod trouble;
 mod writing;
 

@@ -4,7 +4,7 @@ ghost use Rattle.std.specs.Prelude.{◌≡◌, ◌%◌, length};
 ghost use Rattle.spec_reference.specs.BlockDisk.{sector_size};
 ghost use Rattle.spec_reference.specs.Disk.{disk_bytes};
 ghost use Rattle.spec_reference.specs.Start.{block_disk, virtio_disk};
-ghost use Rattle.spec_saved_machine.specs.SavedStates.{disk_of};
+ghost use Rattle.spec_reference.specs.SavedStates.{disk_of};
 ghost use Rattle.hw_devices.specs.Ports.{port_disk};
 
 use crate::block::Block;

@@ -13,10 +13,10 @@ use Rattle.spec_processor.specs.Roots.{IsBare}
 use Rattle.spec_processor.specs.declared.cached.CacheLine.{CacheLine}
 use Rattle.spec_processor.specs.declared.hregs.HRegs.{HRegs}
 use Rattle.spec_processor.specs.declared.lines.Lines.{Lines}
-use Rattle.gstage_cache.proofs.WritesAndWalks.{write_after}
-use Rattle.gstage_cache.specs.Fills.{nothing_filled, filled_further}
+use Rattle.hw_tlb.proofs.WritesAndWalks.{write_after}
+use Rattle.hw_tlb.specs.Fills.{nothing_filled, filled_further}
 use Rattle.hart.specs.Cores.{core_of}
-use Rattle.gstage_cache.specs.CacheWalks.{Walked}
+use Rattle.hw_tlb.specs.CacheWalks.{Walked}
 use Rattle.hw_tlb.specs.declared.line.Line.{Line}
 use Rattle.hart.specs.Conditions.{MayAttempt}
 use Rattle.hart.specs.declared.hart.Core.{Core as Kept}

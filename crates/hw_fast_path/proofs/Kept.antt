@@ -7,7 +7,7 @@ use Rattle.spec_processor.specs.Translation.{Destination}
 use Rattle.spec_processor.specs.GStage.{walk_guest, address_at, entry_in_region, entry_in_tables, guest_destination, ReadsTablesAlone, WalksApart, guest_address_bits}
 use Rattle.spec_processor.specs.declared.access.Access.{Access}
 use Rattle.laws_processor.proofs.ByteLemmas.{length_write_word}
-use Rattle.gstage_cache.proofs.Walks.{IsReadable, leads_in_region, region_readable}
+use Rattle.hw_tlb.proofs.Walks.{IsReadable, leads_in_region, region_readable}
 
 tables_lead : (r after : Region) (hgatp gpa : ℕ) (access : Access) → after.tables ≡ r.tables → WalksApart r hgatp → gpa < 2 ^ guest_address_bits
     → guest_destination (entry_in_tables after.tables) hgatp gpa access ≡ guest_destination (entry_in_region r) hgatp gpa access

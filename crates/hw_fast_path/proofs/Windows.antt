@@ -15,7 +15,7 @@ use Rattle.spec_processor.specs.declared.access.Access.TheVariants.{Fetch}
 use Rattle.spec_processor.specs.declared.mode.Mode.{Mode}
 use Rattle.spec_processor.specs.declared.translation.Fault.{Fault}
 use Rattle.spec_processor.specs.declared.translation.Place.{Place}
-use Rattle.gstage_cache.proofs.Walks.{destination_at, page_moves, answer_near, answer_is, choose_moves, walk_moves}
+use Rattle.hw_tlb.proofs.Walks.{destination_at, page_moves, answer_near, answer_is, choose_moves, walk_moves}
 use Rattle.hw_fast_path.specs.Quick.{Leads, SameCourse, no_page}
 use Rattle.hw_fast_path.proofs.Kept.{walks_kept}
 use Rattle.hart.proofs.Places.{second_leads}

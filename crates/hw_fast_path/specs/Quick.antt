@@ -9,7 +9,7 @@ use Rattle.spec_processor.specs.Regions.{Region, IsHostPlace}
 use Rattle.spec_processor.specs.declared.access.Access.TheVariants.{Fetch}
 use Rattle.spec_processor.specs.declared.cached.CacheLine.{CacheLine}
 use Rattle.spec_processor.specs.declared.hregs.HRegs.{HRegs}
-use Rattle.gstage_cache.specs.CacheWalks.{MayWalk, Walked}
+use Rattle.hw_tlb.specs.CacheWalks.{MayWalk, Walked}
 use Rattle.hw_tlb.specs.Kept.{ReachAgrees}
 use Rattle.hw_tlb.specs.declared.line.Line.{Line}
 use Rattle.hart.specs.Conditions.{MayAttempt}

@@ -17,10 +17,10 @@ use crate::micro_op_cache::{FlatWords, MicroOpCache};
 use crate::requests::carry_out;
 use crate::tried::Tried;
 use crate::window::{Window, at_pc};
-use gstage_cache::Cache;
 use hart::Core;
 use host_mem::HostMem;
 use hw_tlb::Reach;
+use hw_tlb::gstage_cache::Cache;
 use spec_processor::HRegs;
 
 // A turn, with the window after it.

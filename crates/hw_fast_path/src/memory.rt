@@ -9,10 +9,10 @@ ghost use Rattle.hart.specs.Cores.{core_of};
 ghost use Rattle.hw_tlb.specs.Kept.{ReachAgrees};
 ghost use Rattle.hw_fast_path.specs.Quick.{MayTranslate, Translated};
 
-use gstage_cache::Cache;
 use hart::{Core, regime};
 use host_mem::HostMem;
 use hw_tlb::Reach;
+use hw_tlb::gstage_cache::Cache;
 use spec_processor::{Access, BARE, HRegs, ROOT_MODE_SHIFT};
 
 /// An access to so many bytes at a virtual address.
@@ -77,7 +77,7 @@ fn held_place(
 }
 
 /// The host place of a virtual address, none where an access there is refused. Its width isn't looked at.
-#[tactic(auto, using(gstage_cache::specs::Fills::nothing_filled))]
+#[tactic(auto, using(hw_tlb::specs::Fills::nothing_filled))]
 #[inline(always)]
 pub(crate) fn place(
     core: &Core,
@@ -124,7 +124,7 @@ fn is_aligned(address: u64, width: u8) -> bool
 
 /// The host place of an access, none where it is refused: its address is a multiple of its width, and its translation
 /// permits it.
-#[tactic(auto, using(gstage_cache::specs::Fills::nothing_filled), unfolding(spec_processor::specs::HardwareMemory::aligned_translation))]
+#[tactic(auto, using(hw_tlb::specs::Fills::nothing_filled), unfolding(spec_processor::specs::HardwareMemory::aligned_translation))]
 #[inline(always)]
 pub(crate) fn aligned_place(
     core: &Core,

@@ -18,10 +18,10 @@ use crate::memory::{Reference, aligned_place};
 use crate::micro_op::MicroOp;
 use crate::registers::{CsrAccess, csr};
 use crate::tried::Tried;
-use gstage_cache::Cache;
 use hart::Core;
 use host_mem::HostMem;
 use hw_tlb::Reach;
+use hw_tlb::gstage_cache::Cache;
 use rv64_exec::{amo, loaded_value};
 use spec_processor::{Access, AmoOp, Effect, HRegs, INSTRUCTION_BYTES, Mode};
 
@@ -35,7 +35,7 @@ struct Loading {
 }
 
 // A load, where its place is reached.
-#[tactic(auto, using(gstage_cache::specs::Fills::nothing_filled), unfolding(spec_processor::specs::HardwareMemory::after_load))]
+#[tactic(auto, using(hw_tlb::specs::Fills::nothing_filled), unfolding(spec_processor::specs::HardwareMemory::after_load))]
 #[inline(always)]
 fn load(
     core: &mut Core,
@@ -77,7 +77,7 @@ struct Storing {
 }
 
 // A store, where its place is reached. No hart but this one, which has no reservation, is looked at.
-#[tactic(auto, using(gstage_cache::specs::Fills::nothing_filled, gstage_cache::proofs::WritesAndWalks::write_after, crate::proofs::Kept::apart_kept, crate::proofs::Kept::write_size), unfolding(spec_processor::specs::HardwareMemory::after_store, spec_processor::specs::Requests::after_write))]
+#[tactic(auto, using(hw_tlb::specs::Fills::nothing_filled, hw_tlb::proofs::WritesAndWalks::write_after, crate::proofs::Kept::apart_kept, crate::proofs::Kept::write_size), unfolding(spec_processor::specs::HardwareMemory::after_store, spec_processor::specs::Requests::after_write))]
 #[inline(always)]
 fn store(
     core: &mut Core,
@@ -118,7 +118,7 @@ struct Operation {
 }
 
 // An atomic operation, where its place is reached. As with a store, no other hart is looked at.
-#[tactic(auto, using(gstage_cache::specs::Fills::nothing_filled, gstage_cache::proofs::WritesAndWalks::write_after, crate::proofs::Kept::apart_kept, crate::proofs::Kept::write_size), unfolding(spec_processor::specs::HardwareMemory::after_amo, spec_processor::specs::Requests::after_write))]
+#[tactic(auto, using(hw_tlb::specs::Fills::nothing_filled, hw_tlb::proofs::WritesAndWalks::write_after, crate::proofs::Kept::apart_kept, crate::proofs::Kept::write_size), unfolding(spec_processor::specs::HardwareMemory::after_amo, spec_processor::specs::Requests::after_write))]
 #[inline(always)]
 fn atomic(
     core: &mut Core,
@@ -179,7 +179,7 @@ fn supervisor_only(core: &mut Core, regs: &HRegs) -> Tried
 
 // An effect carried out, where it only computes, loads, stores, operates on a word of memory, or reads or writes a register that
 // doesn't go by the wires.
-#[tactic(auto, using(gstage_cache::specs::Fills::nothing_filled), unfolding(spec_processor::specs::HardwareAttempt::after_effect))]
+#[tactic(auto, using(hw_tlb::specs::Fills::nothing_filled), unfolding(spec_processor::specs::HardwareAttempt::after_effect))]
 #[inline(always)]
 fn apply(
     core: &mut Core,
@@ -277,7 +277,7 @@ fn apply(
 }
 
 /// An instruction carried out, where it is one that rows have and its effect can be carried out in one.
-#[tactic(auto, using(gstage_cache::specs::Fills::nothing_filled))]
+#[tactic(auto, using(hw_tlb::specs::Fills::nothing_filled))]
 #[inline(always)]
 pub(crate) fn carry_out(
     core: &mut Core,

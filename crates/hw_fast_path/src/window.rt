@@ -8,10 +8,10 @@ ghost use Rattle.hart.specs.Cores.{core_of};
 ghost use Rattle.hw_fast_path.specs.Quick.{Leads, MayTranslate, Translated, no_page};
 
 use crate::memory::{Reference, place};
-use gstage_cache::Cache;
 use hart::Core;
 use host_mem::HostMem;
 use hw_tlb::Reach;
+use hw_tlb::gstage_cache::Cache;
 use spec_processor::{Access, BARE, HRegs, INSTRUCTION_BYTES, PAGE_BYTES, ROOT_MODE_SHIFT};
 
 /// What no page of an address has for its number.

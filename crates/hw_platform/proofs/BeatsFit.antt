@@ -22,9 +22,9 @@ use Rattle.spec_reference.specs.Disk.{disk_beat}
 use Rattle.spec_reference.specs.Move.{Move, Idle, FromRam, IntoRam, DeniedAt, OutsideRam}
 use Rattle.dma_guard.specs.Transfers.{beat_of, after_move}
 use Rattle.dma_guard.specs.declared.port.DmaStep.{DmaStep}
-use Rattle.laws_invariants.proofs.Lookups.{part_short}
+use Rattle.laws_simulation.proofs.Lookups.{part_short}
 use Rattle.hw_platform.specs.Beats.{LiesInRam, ToldInRam}
-use Rattle.laws_invariants.proofs.BeatsSound.{room_of}
+use Rattle.laws_simulation.proofs.BeatsSound.{room_of}
 use Rattle.sv_types.specs.VirtioResults.{result_number}
 
 begins : (ram : List ℕ) (gpa size : ℕ) → in_ram ram gpa size ≡ true → ram_base ≤ gpa

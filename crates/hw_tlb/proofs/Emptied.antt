@@ -2,7 +2,7 @@
 use Rattle.std.proofs.Common.{◌≡◌, ℕ, zero, suc, ◌+◌, ◌<◌, ◌≤◌, List, [], ◌∷◌, length, refl, ap, slice_set, arith, add-one, subst, sym, ◌∙◌, Bool, true, false}
 use Rattle.std.specs.Prelude.{Some, slice_get}
 use Rattle.spec_processor.specs.Regions.{Region}
-use Rattle.gstage_cache.proofs.Lines.{none_agrees}
+use Rattle.hw_tlb.proofs.GstageCacheLines.{none_agrees}
 use Rattle.hw_tlb.proofs.Holding.{none_agrees as none_leads}
 use Rattle.hw_tlb.specs.Usable.{first_emptied, nothing_kept, IsUsable, AreUsable}
 use Rattle.hw_tlb.specs.declared.caches.HartCaches.{HartCaches}

@@ -8,7 +8,7 @@ use Rattle.spec_processor.specs.declared.access.Access.{Access}
 use Rattle.spec_processor.specs.declared.access.Access.TheVariants.{Fetch, Load, Store}
 use Rattle.hw_tlb.specs.declared.line.Line.{Line}
 use Rattle.hw_tlb.specs.Kept.{lines_of_reach, no_lines, line_place, AreThere, LineAgrees, ReachAgrees, IsKept, leads_under}
-use Rattle.gstage_cache.proofs.Lines.{set_at}
+use Rattle.hw_tlb.proofs.GstageCacheLines.{set_at}
 
 -- ---- what a line answers
 

@@ -12,7 +12,7 @@ use Rattle.laws_processor.proofs.Walks.{walk_guest_fits}
 use Rattle.sv39_walk.specs.Levels.{indices_of}
 use Rattle.sv39_walk.specs.Regimes.{leaf_gpa, settings_of}
 use Rattle.sv39_walk.specs.declared.first_stage.Regime.{Regime}
-use Rattle.gstage_cache.proofs.Walks.{IsReadable, destination_at, leads_in_region, region_readable, page_moves, answer_near, answer_is}
+use Rattle.hw_tlb.proofs.Walks.{IsReadable, destination_at, leads_in_region, region_readable, page_moves, answer_near, answer_is}
 use Rattle.hw_tlb.specs.declared.entries.Entries.{Entries}
 use Rattle.hw_tlb.specs.declared.line.Line.{Line}
 use Rattle.hw_tlb.specs.Kept.{AreThere, ArePlaces, EndsAt, LeadsNowhere, LineAgrees, host_of, leads_under}

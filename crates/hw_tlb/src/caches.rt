@@ -3,8 +3,8 @@
 ghost use Rattle.std.specs.Prelude.{◌≡◌, true, false, ℕ, List, length};
 ghost use Rattle.hw_tlb.specs.Usable.{AreUsable, nothing_kept};
 
+use crate::gstage_cache::Cache;
 use crate::lines::Reach;
-use gstage_cache::Cache;
 
 /// What a hart keeps of walks: where the G-stage leads, and where both lead.
 #[derive(Drop)]

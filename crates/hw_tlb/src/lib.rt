@@ -4,6 +4,7 @@
 
 mod caches;
 mod entries;
+pub mod gstage_cache;
 mod line;
 mod lines;
 mod tag;

@@ -5,14 +5,14 @@ ghost use Rattle.spec_processor.specs.Translation.{address_pages};
 ghost use Rattle.spec_processor.specs.Bytes.{page_size};
 ghost use Rattle.spec_processor.specs.GStage.{WalksApart};
 ghost use Rattle.spec_processor.specs.Roots.{IsBare, IsFirstStageRoot};
-ghost use Rattle.gstage_cache.specs.CacheWalks.{MayWalk, Walked};
+ghost use Rattle.hw_tlb.specs.CacheWalks.{MayWalk, Walked};
 ghost use Rattle.hw_tlb.specs.declared.line.Line.{Line as Kept};
 ghost use Rattle.hw_tlb.specs.Kept.{lines_of_reach, no_lines, line_at, line_place, leads_under, IsFor, IsKept, AreThere, LineAgrees, ReachAgrees};
 
+use crate::gstage_cache::Cache;
 use crate::line::Line;
 use crate::tag::{is_for, tag};
 use crate::walk::read_entries;
-use gstage_cache::Cache;
 use host_mem::HostMem;
 use spec_processor::{Access, BARE, PAGE_BYTES, ROOT_MODE_SHIFT};
 use std::marker::Model;

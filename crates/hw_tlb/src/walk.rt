@@ -5,12 +5,12 @@ ghost use Rattle.spec_processor.specs.Regions.{Region};
 ghost use Rattle.spec_processor.specs.GStage.{walk_guest};
 ghost use Rattle.spec_processor.specs.declared.access.Access.TheVariants as Access;
 ghost use Rattle.sv39_walk.specs.Levels.{IsTable};
-ghost use Rattle.gstage_cache.specs.CacheWalks.{MayWalk, Walked};
+ghost use Rattle.hw_tlb.specs.CacheWalks.{MayWalk, Walked};
 ghost use Rattle.hw_tlb.specs.Kept.{IsThere, AreThere, ArePlaces, EndsAt, LeadsNowhere};
 ghost use Rattle.spec_processor.specs.Translation.{entry_size};
 
 use crate::entries::{Entries, Entry};
-use gstage_cache::Cache;
+use crate::gstage_cache::Cache;
 use host_mem::HostMem;
 use spec_processor::{Access, ENTRY_BYTES, ENTRY_WIDTH, PteBits, TABLE_LEVELS};
 use sv39_walk::{GStage, entry_page, index, is_pointer};

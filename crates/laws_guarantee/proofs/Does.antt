@@ -1,6 +1,6 @@
 -- What a turn of a hart does: to protected bytes, to the hart, to other harts, and to the verdict.
 use Rattle.std.proofs.Common.{◌≡◌, ℕ, zero, suc, List, [], ◌∷◌, map, length, refl, sym, ◌∙◌, ap, subst, Bool, true, false, ◌||◌, slice_get, slice_set}
-use Rattle.laws_invariants.proofs.OthersRest.{same_one}
+use Rattle.laws_simulation.proofs.OthersRest.{same_one}
 use Rattle.std.specs.Prelude.{Option, Some, None, option_map, if◌then◌else◌}
 use Rattle.std.proofs.lemmas.List.{set-set}
 use Rattle.std.proofs.lemmas.Option.{slice_get-map}
@@ -20,9 +20,9 @@ use Rattle.spec_reference.specs.Soundness.{IsSound, IsSoundEntry}
 use Rattle.spec_reference.specs.States.{State, Hart, has_number, is_approved_in, is_protected}
 use Rattle.spec_reference.specs.Trapping.{trap_from, hart_at_trap, hart_at_return, entry_in}
 use Rattle.spec_reference.specs.Turn.{after_going, demote, in_user_mode, leave_entry, outside_entry}
-use Rattle.laws_invariants.proofs.Lookups.{both}
-use Rattle.laws_invariants.proofs.Sounds.{InFreePage, apart}
-use Rattle.laws_attempt.proofs.AttemptsAgree.{get_back}
+use Rattle.laws_simulation.proofs.Lookups.{both}
+use Rattle.laws_simulation.proofs.Sounds.{InFreePage, apart}
+use Rattle.laws_simulation.proofs.AttemptsAgree.{get_back}
 use Rattle.sv_types.proofs.SetElements.{set_other}
 
 -- ---- the four things

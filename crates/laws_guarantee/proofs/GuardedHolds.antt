@@ -1,5 +1,5 @@
 -- The laws together, in each state that a run reaches.
-use Rattle.laws_invariants.proofs.EntriesHold.{entry_law}
+use Rattle.laws_simulation.proofs.EntriesHold.{entry_law}
 use Rattle.laws_guarantee.specs.Guarded.{GuardedLaw}
 use Rattle.laws_guarantee.proofs.LawsHold.{kernel_words_law, entries_law, exits_law, protected_bytes_law}
 use Rattle.laws_guarantee.proofs.StopsHold.{stops_law}

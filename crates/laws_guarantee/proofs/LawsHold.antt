@@ -1,6 +1,6 @@
 -- The laws of the guarantee.
 use Rattle.std.proofs.Common.{◌≡◌, ℕ, ◌+◌, ◌⊎◌, inl, inr, List, [], ◌∷◌, map, length, refl, sym, ◌∙◌, ap, subst, Bool, true, false, ◌&&◌, not, slice_get}
-use Rattle.laws_invariants.proofs.OthersRest.{same_one}
+use Rattle.laws_simulation.proofs.OthersRest.{same_one}
 use Rattle.std.specs.Prelude.{Option, Some, None, option_map, if◌then◌else◌, is_some, ◌==◌}
 use Rattle.std.proofs.lemmas.Bool.{eqb-true, eq-eqb, cases_Bool}
 use Rattle.std.proofs.lemmas.Option.{slice_get-map}
@@ -32,24 +32,24 @@ use Rattle.spec_reference.specs.Soundness.{IsSound}
 use Rattle.spec_reference.specs.States.{State, Hart, Disk, BlockDevice, BlockDisk, VirtioDisk, Loading, has_number, in_kernel, is_approved_in, is_protected}
 use Rattle.spec_reference.specs.Trapping.{trap_from, hart_at_trap, hart_at_return}
 use Rattle.spec_reference.specs.Turn.{noted_gpa, going_hart, after_going, Fetched, NoWord, Stray, Word, fetched_in, fetched_at, fetch, fetch_of, place_of_pc, act, turn_of_started, turn_of, turn}
-use Rattle.laws_invariants.proofs.Lookups.{both}
-use Rattle.laws_invariants.proofs.BeatsSound.{FreeMove, beat_page, beat_sound, free_with_disk, poke_sound}
-use Rattle.laws_invariants.proofs.StepsSound.{counted_sound}
-use Rattle.laws_invariants.proofs.EntriesHold.{runs_on}
+use Rattle.laws_simulation.proofs.Lookups.{both}
+use Rattle.laws_simulation.proofs.BeatsSound.{FreeMove, beat_page, beat_sound, free_with_disk, poke_sound}
+use Rattle.laws_simulation.proofs.StepsSound.{counted_sound}
+use Rattle.laws_simulation.proofs.EntriesHold.{runs_on}
 use Rattle.laws_guarantee.specs.Guarantee.{move_gpa, first_gpa, request_gpa, disk_gpa, device_gpa, IsMeasuredPage, IsMeasuredWord}
 use Rattle.laws_guarantee.specs.Guarantee.{KernelTurn, Loads, Interrupts, Traps, Demotes, DemotesAtEntry, Executes, KernelWordsLaw, Enters}
 use Rattle.laws_guarantee.specs.Guarantee.{ByTrap, ByStart, EntriesLaw, Leaves, ByReturn, ByDemotion, ByStop, ExitsLaw, ProtectedBytesLaw}
 use Rattle.laws_guarantee.proofs.Does.{IsMoving, Own, Same, Entered, Returned, Demoted, Halted, Other, Rests, Begins, page_kept}
 use Rattle.laws_guarantee.proofs.TurnCases.{Attempts, ByInterrupt, ByFault, ByStray, ByPlace, ByWord, act_is}
-use Rattle.laws_invariants.specs.StateLaws.{HasOrigin, HasOrigins}
+use Rattle.laws_simulation.specs.StateLaws.{HasOrigin, HasOrigins}
 use Rattle.laws_guarantee.specs.Reached.{HasDigests}
 use Rattle.laws_guarantee.proofs.StraysAt.{strays}
 use Rattle.laws_guarantee.proofs.Digests.{its_digest}
-use Rattle.laws_attempt.specs.Agree.{IsNotLoading}
+use Rattle.laws_simulation.specs.Agree.{IsNotLoading}
 use Rattle.laws_guarantee.proofs.ReachedHolds.{user_unloading}
 use Rattle.laws_guarantee.proofs.Turns.{FetchedLeaves, turn_does}
 use Rattle.laws_processor.proofs.GuestViews.{and_false}
-use Rattle.laws_attempt.proofs.AttemptsAgree.{turn_none, turn_stopped}
+use Rattle.laws_simulation.proofs.AttemptsAgree.{turn_none, turn_stopped}
 use Rattle.sv_types.specs.VirtioResults.{result_number}
 
 -- ---- a turn, while the machine runs

@@ -8,3 +8,5 @@ pub mod StopsHold
 pub mod StraysAt
 pub mod Digests
 pub mod GuardedHolds
+pub mod SurveysKeep
+pub mod SurveysGuarded

@@ -5,9 +5,9 @@ use Rattle.std.proofs.lemmas.Bool.{eqb-true, cases_Bool}
 use Rattle.spec_processor.specs.declared.mode.Mode.{Mode}
 use Rattle.spec_processor.specs.declared.mode.Mode.TheVariants.{Kernel, User}
 use Rattle.spec_reference.specs.States.{State, Hart, Loading}
-use Rattle.laws_attempt.specs.Agree.{IsNotLoading}
-use Rattle.laws_invariants.proofs.OthersRest.{same_one}
-use Rattle.laws_invariants.proofs.StateLawsHold.{reached_sound, modules_law}
+use Rattle.laws_simulation.specs.Agree.{IsNotLoading}
+use Rattle.laws_simulation.proofs.OthersRest.{same_one}
+use Rattle.laws_simulation.proofs.StateLawsHold.{reached_sound, modules_law}
 use Rattle.laws_resume.specs.Keepable.{IsKeepableLoad}
 use Rattle.laws_resume.proofs.KeepableStarts.{keepable_law}
 use Rattle.laws_resume.proofs.ResumedHolds.{resumed_law}

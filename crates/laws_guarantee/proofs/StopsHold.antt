@@ -36,9 +36,9 @@ use Rattle.spec_reference.specs.Soundness.{IsSound}
 use Rattle.spec_reference.specs.States.{State, Hart, Loading, has_number, is_protected}
 use Rattle.spec_reference.specs.Trapping.{trap_from, trap_entered}
 use Rattle.spec_reference.specs.Turn.{going_hart, after_going, Fetched, NoWord, Word, fetch_of, turn_of_started, carry_out_word, carry_out_instruction, carry_out_effect}
-use Rattle.laws_attempt.specs.Agree.{IsNotLoading}
-use Rattle.laws_invariants.proofs.EntriesHold.{runs_on, running}
-use Rattle.laws_invariants.proofs.StepsSound.{counted_sound}
+use Rattle.laws_simulation.specs.Agree.{IsNotLoading}
+use Rattle.laws_simulation.proofs.EntriesHold.{runs_on, running}
+use Rattle.laws_simulation.proofs.StepsSound.{counted_sound}
 use Rattle.laws_guarantee.specs.UserTraps.{UserTrap, user_trap, pending_trap, fetch_trap}
 use Rattle.laws_guarantee.specs.Guarantee.{Fetches, HasTurn, UserTurn, Interrupted, Faults, Carries, WritesGuarded, CarriesOut, Stops, AtEntry, AtWrite, StopsRight, StopsLaw}
 use Rattle.laws_guarantee.proofs.Does.{IsMoving, IsNoStop, Ends, GoesOn, StopsAtEntry, StopsAtWrite}

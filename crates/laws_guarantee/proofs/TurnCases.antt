@@ -25,8 +25,8 @@ use Rattle.spec_reference.specs.Trapping.{trap_from}
 use Rattle.spec_reference.specs.Turn.{going_hart, after_going, Fetched, NoWord, Stray, Word, fetched_in, fetched_at, fetch, fetch_of}
 use Rattle.spec_reference.specs.Turn.{place_of_pc, leads_into, noted_gpa, fetch_in_entry, bound_entry, demote, act_on_fetch, act_on_pending}
 use Rattle.spec_reference.specs.Turn.{act, carry_out_word}
-use Rattle.laws_attempt.proofs.AttemptsAgree.{turn_is}
-use Rattle.laws_invariants.proofs.EntriesHold.{running}
+use Rattle.laws_simulation.proofs.AttemptsAgree.{turn_is}
+use Rattle.laws_simulation.proofs.EntriesHold.{running}
 use Rattle.laws_guarantee.specs.UserTraps.{UserTrap, user_trap, pending_trap, fetch_trap}
 use Rattle.laws_guarantee.specs.Guarantee.{Goes, Fetches, HasTurn, IsFreeWord, UserTurn, Interrupted, Faults, Carries, UserTurnsLaw, WritesGuarded, CarriesOut, StopsBy}
 use Rattle.laws_guarantee.proofs.Does.{demote_left, no_entry_of}

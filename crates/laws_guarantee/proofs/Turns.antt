@@ -43,15 +43,15 @@ use Rattle.spec_reference.specs.declared.answers.SideEffect.{SideEffect}
 use Rattle.spec_reference.specs.declared.answers.SideEffect.TheVariants.{ShutsDown, SendsInterrupts, StartsHart, BeginsLoad}
 use Rattle.spec_reference.specs.declared.answers.Reply.{Reply}
 use Rattle.spec_reference.specs.declared.answers.Reply.TheVariants.{Gives, Replies, Stays, Stops}
-use Rattle.laws_attempt.proofs.AllTold.{all_told}
-use Rattle.laws_attempt.proofs.EffectsAgree.{IsTold}
-use Rattle.laws_attempt.proofs.AttemptsAgree.{get_back}
-use Rattle.laws_invariants.proofs.AnswersMay.{MayHaveSideEffect, decision_may, answer_may}
-use Rattle.laws_invariants.proofs.Lookups.{both}
-use Rattle.laws_invariants.proofs.OthersRest.{with_software_if, get_sent, was_stopped, same_one}
-use Rattle.laws_invariants.proofs.RequestsSound.{FreeTarget, IsFreePlace, target_free, free_page}
-use Rattle.laws_invariants.proofs.Sounds.{InFreePage}
-use Rattle.laws_invariants.proofs.StepsSound.{leave_goes}
+use Rattle.laws_simulation.proofs.AllTold.{all_told}
+use Rattle.laws_simulation.proofs.EffectsAgree.{IsTold}
+use Rattle.laws_simulation.proofs.AttemptsAgree.{get_back}
+use Rattle.laws_simulation.proofs.AnswersMay.{MayHaveSideEffect, decision_may, answer_may}
+use Rattle.laws_simulation.proofs.Lookups.{both}
+use Rattle.laws_simulation.proofs.OthersRest.{with_software_if, get_sent, was_stopped, same_one}
+use Rattle.laws_simulation.proofs.RequestsSound.{FreeTarget, IsFreePlace, target_free, free_page}
+use Rattle.laws_simulation.proofs.Sounds.{InFreePage}
+use Rattle.laws_simulation.proofs.StepsSound.{leave_goes}
 use Rattle.laws_guarantee.specs.Guarantee.{Strays, IsOutOfPlace, WritesGuarded}
 use Rattle.laws_guarantee.proofs.StraysAt.{strays}
 use Rattle.laws_guarantee.proofs.Does.{Leaving, Returning, Demoting, IsMoving, Own, Same, Entered, Returned, Demoted, Halted, Other, Rests}

@@ -30,9 +30,9 @@ use Rattle.spec_reference.specs.States.{State, Hart, Disk, BlockDisk, VirtioDisk
 use Rattle.spec_reference.specs.Trapping.{hart_at_trap, hart_at_return, trap_from}
 use Rattle.spec_reference.specs.Turn.{NoWord, Word, after_going, bound_entry, carry_out_word, demote, effect_of_word, fetch_of, going_hart}
 use Rattle.spec_reference.specs.Turn.{leads_into, noted_gpa, place_of_pc}
-use Rattle.laws_attempt.specs.Agree.{IsNotLoading}
-use Rattle.laws_invariants.specs.EntryLaws.{TrapsIn}
-use Rattle.laws_invariants.specs.StateLaws.{IsText, IsModulePage, HasOrigins}
+use Rattle.laws_simulation.specs.Agree.{IsNotLoading}
+use Rattle.laws_simulation.specs.EntryLaws.{TrapsIn}
+use Rattle.laws_simulation.specs.StateLaws.{IsText, IsModulePage, HasOrigins}
 use Rattle.snapshot_format.specs.declared.whole.TextPage.{TextPage}
 use Rattle.laws_guarantee.specs.Reached.{HasDigests, IsReached}
 use Rattle.laws_guarantee.specs.UserTraps.{UserTrap, user_trap}

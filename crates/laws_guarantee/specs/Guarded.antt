@@ -5,7 +5,7 @@ use Rattle.sv_types.specs.Limits.{bound_format}
 use Rattle.sv_types.specs.declared.event.Event.{Event}
 use Rattle.spec_reference.specs.Run.{run, step}
 use Rattle.spec_reference.specs.States.{State}
-use Rattle.laws_invariants.specs.EntryLaws.{TrapsIn, AreNoTurnsOf, StandsAtEntry}
+use Rattle.laws_simulation.specs.EntryLaws.{TrapsIn, AreNoTurnsOf, StandsAtEntry}
 use Rattle.laws_guarantee.specs.Guarantee.{KernelWords, UsersLoadNothing, UserTurns, UserTraps, EntersRight, LeavesRight, KeepsPages}
 use Rattle.laws_guarantee.specs.Guarantee.{StopsForThese, StopsAtTraps, StopsAtWrites}
 use Rattle.laws_guarantee.specs.Reached.{IsReached}

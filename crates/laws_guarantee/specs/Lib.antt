@@ -2,3 +2,4 @@ pub mod UserTraps
 pub mod Reached
 pub mod Guarantee
 pub mod Guarded
+pub mod SurveyGuarantee

@@ -7,7 +7,7 @@ use Rattle.spec_reference.specs.Run.{run}
 use Rattle.spec_reference.specs.Soundness.{IsSound}
 use Rattle.spec_reference.specs.Start.{IsStart}
 use Rattle.spec_reference.specs.States.{State}
-use Rattle.laws_invariants.specs.StateLaws.{HasOrigins}
+use Rattle.laws_simulation.specs.StateLaws.{HasOrigins}
 use Rattle.snapshot_format.specs.declared.whole.TextPage.{TextPage}
 use Rattle.laws_resume.specs.Keepable.{IsKeepableLoad}
 use Rattle.laws_resume.specs.Resumed.{KeepsDigests}

@@ -4,7 +4,7 @@
 ghost use Rattle.laws_guarantee.specs.Guarantee.{EntriesLaw, ExitsLaw, KernelWordsLaw, ProtectedBytesLaw, StopsLaw, UserTurnsLaw};
 ghost use Rattle.laws_guarantee.specs.Guarded.{GuardedLaw};
 
-pub use laws_invariants::law_sound;
+pub use laws_simulation::invariants::law_sound;
 
 /// In kernel mode no word is executed but those that were measured: of the kernel's text, by digests that join to the policy's, and of
 /// loaded modules.
@@ -45,3 +45,5 @@ pub fn law_stops()
 pub fn law_guarded()
     ensures { GuardedLaw }
 {}
+
+pub mod survey;

@@ -5,8 +5,8 @@ use Rattle.sv_types.specs.declared.event.Event.{Event}
 use Rattle.spec_reference.specs.Origins.{is_kernel_text, ownership}
 use Rattle.spec_reference.specs.Run.{run}
 use Rattle.spec_reference.specs.States.{State}
-use Rattle.laws_invariants.specs.StateLaws.{HasOrigin}
-use Rattle.laws_invariants.proofs.Lookups.{both}
+use Rattle.laws_simulation.specs.StateLaws.{HasOrigin}
+use Rattle.laws_simulation.proofs.Lookups.{both}
 use Rattle.cli_plans.specs.Plans.{plan_of}
 use Rattle.cli_plans.specs.Reading.{Follows}
 use Rattle.laws_guarantee.specs.Reached.{IsReached}

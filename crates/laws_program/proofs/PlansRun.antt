@@ -13,12 +13,12 @@ use Rattle.spec_reference.specs.Start.{flat_start}
 use Rattle.spec_reference.specs.States.{State, has_number}
 use Rattle.guest_gen.specs.Generated.{generated_image, generated_policy, policy_of_text}
 use Rattle.guest_gen.proofs.Boots.{bootable}
-use Rattle.cli_words.specs.Commands.{ConvertSplit}
+use Rattle.cli_plans.specs.Commands.{ConvertSplit}
 use Rattle.policy_making.specs.Refusals.{Judged as Judging}
 use Rattle.policy_making.specs.Making.{policy_after}
 use Rattle.policy_making.specs.Binding.{bound_rules}
 use Rattle.policy_making.specs.Faults.{Judged as Bound}
-use Rattle.cli_words.specs.declared.command.DiskKind.{DiskKind}
+use Rattle.cli_plans.specs.declared.command_words.command.DiskKind.{DiskKind}
 use Rattle.cli_plans.specs.CommandLine.{Command, Flat, Generated, Run, RunWords, MakePolicy, PolicyWords, Convert}
 use Rattle.cli_plans.specs.Plans.{Refuse, RunFrom, Plan, End, Judge, measure_judged, pages_judged, is_whole_pages, flat_events, flat_plan, gen_disk, gen_due, gen_plan, image_measure, made_judged, made_part, digest_part, Modules, no_modules, with_module, module_part, modules_part, making_plan, measure_plan, converted_judged, bound_plan, binding_plan, convert_plan, start_with, boot_judged, boot_plan, image_plan, run_plan, command_plan, plan_of}
 use Rattle.cli_plans.specs.declared.file_fault.FileFault.{FileFault}

@@ -10,17 +10,17 @@ use Rattle.snapshot_format.specs.FormLaw.{IsBytes}
 use Rattle.snapshot_format.specs.Snapshots.{Contents, snapshot, snapshot_read}
 use Rattle.snapshot_format.specs.declared.refusal.SnapRefusal.{SnapRefusal}
 use Rattle.snapshot_format.proofs.SnapshotLaws.{snapshot_law}
-use Rattle.snapshot_resume.specs.Judgements.{resume_refusal}
-use Rattle.snapshot_resume.specs.ResumedStates.{resumed_state}
+use Rattle.snapshot_format.specs.Judgements.{resume_refusal}
+use Rattle.snapshot_format.specs.ResumedStates.{resumed_state}
 use Rattle.laws_guarantee.specs.Reached.{IsReached}
-use Rattle.snapshot_resume.specs.declared.refusal.ResumeRefusal.{ResumeRefusal}
+use Rattle.snapshot_format.specs.declared.resume.refusal.ResumeRefusal.{ResumeRefusal}
 use Rattle.laws_resume.specs.ResumedSound.{GoesOnFrom}
 use Rattle.laws_resume.proofs.ResumedSoundHolds.{resumed_goes_on_law}
 use Rattle.cli_plans.specs.Plans.{Due, Refuse, RunFrom, Plan, End, Read, Found, Faulty, Missing, Longer, Held, found_plan}
 use Rattle.cli_plans.specs.Reading.{FoundAs, Follows}
 use Rattle.cli_plans.specs.declared.file_fault.Part.{Part}
 use Rattle.cli_plans.specs.declared.refusal.Refusal.{Refusal}
-use Rattle.cli_resume.specs.ResumePlans.{contents_judged, snapshot_part, events_after, resumed_due, behind_script, after_policy, after_snapshot, words_plan, resume_plan}
+use Rattle.cli_snap.specs.ResumePlans.{contents_judged, snapshot_part, events_after, resumed_due, behind_script, after_policy, after_snapshot, words_plan, resume_plan}
 use Rattle.cli_plans.specs.CommandLine.{ResumeWords}
 use Rattle.laws_program.specs.ResumeLaw.{HoldBytes, IsResumedStart, ResumeLaw}
 use Rattle.laws_program.proofs.PolicyWords.{GoodRules}

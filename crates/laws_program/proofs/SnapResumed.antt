@@ -6,14 +6,14 @@ use Rattle.sv_types.specs.Schedule.{Schedule, first_events}
 use Rattle.sv_types.specs.declared.event.Event.{Event}
 use Rattle.spec_reference.specs.Run.{run}
 use Rattle.spec_reference.specs.Start.{boot_start}
-use Rattle.spec_saved_machine.specs.SavedStates.{IsSaved}
+use Rattle.spec_reference.specs.SavedStates.{IsSaved}
 use Rattle.snapshot_format.specs.Snapshots.{contents}
 use Rattle.snapshot_format.specs.declared.whole.Snapshot.{Snapshot}
-use Rattle.laws_resumed_start.specs.SnapLaws.{IsSnapAfter, IsSnapshotOf}
-use Rattle.laws_resumed_start.proofs.SnapHolds.{snap_accepted_law}
+use Rattle.laws_resume.specs.SnapLaws.{IsSnapAfter, IsSnapshotOf}
+use Rattle.laws_resume.proofs.SnapHolds.{snap_accepted_law}
 use Rattle.cli_snap.proofs.FileHolds.{snap_file_law}
-use Rattle.cli_resume.proofs.EndLemmas.{plan_due}
-use Rattle.cli_resume.proofs.OneRun.{snap_and_resume_law}
+use Rattle.cli_snap.proofs.ResumeEndLemmas.{plan_due}
+use Rattle.cli_snap.proofs.OneRun.{snap_and_resume_law}
 use Rattle.laws_program.specs.SnapResumed.{SnapResumedLaw}
 
 snap_after : (rules : Rules) (file disk : List ℕ) (events : List Event) (s : Snapshot) → IsSnapshotOf (boot_start rules file disk) events s

@@ -12,8 +12,8 @@ use Rattle.sv_types.specs.Policies.{Rules}
 use Rattle.spec_reference.specs.Start.{IsStart, block_disk, virtio_disk, boot_start, virtio_start, image_start, start, flat_start}
 use Rattle.spec_reference.specs.States.{State, Disk, has_number}
 use Rattle.elf64_load.proofs.LoadedText.{text_in_ram}
-use Rattle.laws_invariants.proofs.Lookups.{same_number}
-use Rattle.laws_invariants.proofs.StartsSound.{CanStart, image_can}
+use Rattle.laws_simulation.proofs.Lookups.{same_number}
+use Rattle.laws_simulation.proofs.StartsSound.{CanStart, image_can}
 use Rattle.laws_guarantee.specs.Reached.{HasMeasuredText}
 use Rattle.laws_program.specs.Starts.{IsMeasuredImage, IsMeasuredStart, MeasuredLaw}
 

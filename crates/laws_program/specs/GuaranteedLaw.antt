@@ -12,7 +12,7 @@ use Rattle.cli_plans.specs.Plans.{RunFrom, plan_of}
 use Rattle.cli_plans.specs.Reading.{Follows}
 use Rattle.cli_plans.specs.declared.refusal.Refusal.{Refusal}
 use Rattle.secvisor_cli.specs.Answers.{Headline, Outside}
-use Rattle.cli_resume.specs.ResumePlans.{resume_plan}
+use Rattle.cli_snap.specs.ResumePlans.{resume_plan}
 use Rattle.laws_guarantee.specs.Reached.{IsReached}
 use Rattle.laws_program.specs.ResumeLaw.{HoldBytes}
 

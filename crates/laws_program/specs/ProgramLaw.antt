@@ -9,7 +9,7 @@ use Rattle.spec_reference.specs.Report.{output}
 use Rattle.spec_reference.specs.Run.{run}
 use Rattle.spec_reference.specs.States.{State}
 use Rattle.snapshot_format.specs.declared.whole.Snapshot.{Snapshot}
-use Rattle.laws_resumed_start.specs.SnapLaws.{IsSnapshotOf}
+use Rattle.laws_resume.specs.SnapLaws.{IsSnapshotOf}
 use Rattle.host_io.specs.Outside.{FilesState, after_taking}
 use Rattle.cli_plans.specs.CommandLine.{Command, Flat, Generated, Run, MakePolicy, Convert, LiveWords, SnapWords, ResumeWords}
 use Rattle.cli_plans.specs.Plans.{RunFrom, Plan, Saving, Exactly, saving_of_bytes, plan_of, live_plan, snap_plan}
@@ -20,7 +20,7 @@ use Rattle.cli_live.specs.LiveAnswers.{LiveHeadline, LiveOutside, IsScriptOf}
 use Rattle.cli_live.specs.LiveReady.{out_of}
 use Rattle.cli_snap.specs.SnapAnswers.{SnapHeadline, saving_of}
 use Rattle.cli_snap.specs.SnapReady.{out_of as snap_out}
-use Rattle.cli_resume.specs.ResumePlans.{resume_plan}
+use Rattle.cli_snap.specs.ResumePlans.{resume_plan}
 use Rattle.laws_guarantee.specs.Guarded.{IsGuarded}
 use Rattle.laws_program.specs.Starts.{IsMeasuredStart}
 use Rattle.laws_program.specs.ResumeLaw.{HoldBytes, IsResumedStart}

@@ -8,13 +8,13 @@ use Rattle.spec_reference.specs.States.{State}
 use Rattle.host_io.specs.Outside.{FilesState}
 use Rattle.snapshot_format.specs.FormLaw.{IsBytes}
 use Rattle.snapshot_format.specs.Snapshots.{Contents, snapshot}
-use Rattle.snapshot_resume.specs.Judgements.{resume_refusal}
-use Rattle.snapshot_resume.specs.ResumedStates.{resumed_state}
+use Rattle.snapshot_format.specs.Judgements.{resume_refusal}
+use Rattle.snapshot_format.specs.ResumedStates.{resumed_state}
 use Rattle.laws_resume.specs.ResumedSound.{GoesOnFrom}
 use Rattle.cli_plans.specs.Plans.{RunFrom}
 use Rattle.cli_plans.specs.Reading.{Follows}
 use Rattle.cli_plans.specs.declared.refusal.Refusal.{Refusal}
-use Rattle.cli_resume.specs.ResumePlans.{resume_plan}
+use Rattle.cli_snap.specs.ResumePlans.{resume_plan}
 use Rattle.cli_plans.specs.CommandLine.{ResumeWords}
 use Rattle.laws_guarantee.specs.Reached.{IsReached}
 

@@ -6,15 +6,15 @@ use Rattle.sv_types.specs.Schedule.{Schedule, first_events}
 use Rattle.spec_reference.specs.Start.{boot_start}
 use Rattle.snapshot_format.specs.Snapshots.{contents, snapshot}
 use Rattle.snapshot_format.specs.declared.whole.Snapshot.{Snapshot}
-use Rattle.snapshot_resume.specs.ResumedStates.{resumed_state}
-use Rattle.laws_resumed_start.specs.SnapLaws.{IsMeasuredBoot, IsSnapshotOf}
+use Rattle.snapshot_format.specs.ResumedStates.{resumed_state}
+use Rattle.laws_resume.specs.SnapLaws.{IsMeasuredBoot, IsSnapshotOf}
 use Rattle.cli_plans.specs.CommandLine.{ResumeWords}
 use Rattle.cli_plans.specs.Plans.{RunFrom}
 use Rattle.secvisor_cli.specs.DueIn.{due_in}
 use Rattle.cli_snap.specs.SnapFile.{IsDisk}
-use Rattle.cli_resume.specs.ResumeEnds.{HoldPolicy, HoldScript}
-use Rattle.cli_resume.specs.ResumePlans.{events_after, resume_plan}
-use Rattle.cli_resume.specs.SnapAndResume.{IsOneRun}
+use Rattle.cli_snap.specs.ResumeEnds.{HoldPolicy, HoldScript}
+use Rattle.cli_snap.specs.ResumePlans.{events_after, resume_plan}
+use Rattle.cli_snap.specs.SnapAndResume.{IsOneRun}
 
 -- the names of the words hold the bytes of a snapshot, the policy of its run, and its script
 pub record HoldSaved (held : List ℕ → Option (List ℕ)) (words : ResumeWords) (rules : Rules) (script : Schedule) (s : Snapshot) : Type 0 where

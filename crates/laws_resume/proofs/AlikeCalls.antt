@@ -15,7 +15,7 @@ use Rattle.spec_reference.specs.declared.answers.SideEffect.TheVariants.{StartsH
 use Rattle.spec_reference.specs.declared.answers.SideEffect.TheVariants.{ReleasesModule, UnloadsModule, RefusesUnload, RetiresInit}
 use Rattle.spec_reference.specs.declared.answers.SideEffect.TheVariants.{RefusesRetire}
 use Rattle.spec_reference.specs.declared.answers.Reply.{Reply}
-use Rattle.laws_invariants.proofs.Lookups.{approved_front, approved_without}
+use Rattle.laws_simulation.proofs.Lookups.{approved_front, approved_without}
 use Rattle.laws_resume.specs.Continues.{Alike}
 use Rattle.laws_resume.proofs.AlikeRequests.{Twins, second, AlikeAfter, printed_one, protected_same}
 

@@ -15,8 +15,8 @@ use Rattle.spec_reference.specs.States.{State, Journal, is_protected}
 use Rattle.spec_reference.specs.Turn.{turn}
 use Rattle.spec_reference.proofs.Runs.{ended_stays}
 use Rattle.laws_resume.specs.Continues.{drawn_under, draw_count}
-use Rattle.laws_invariants.proofs.Growth.{Rises}
-use Rattle.laws_invariants.proofs.StepsGrow.{turn_gains}
+use Rattle.laws_simulation.proofs.Growth.{Rises}
+use Rattle.laws_simulation.proofs.StepsGrow.{turn_gains}
 use Rattle.laws_resume.specs.EventCounts.{events_counted, CountedLaw}
 
 -- ---- one event

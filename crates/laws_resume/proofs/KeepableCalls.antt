@@ -34,12 +34,12 @@ use Rattle.spec_reference.specs.declared.answers.SideEffect.TheVariants.{Refuses
 use Rattle.spec_reference.specs.declared.answers.Extension.{Extension}
 use Rattle.spec_reference.specs.declared.answers.Reply.{Reply}
 use Rattle.spec_reference.specs.declared.answers.Reply.TheVariants.{Gives, Replies, Stays, Stops}
-use Rattle.laws_invariants.proofs.AnswersMay.{MayHaveSideEffect, answer_may}
+use Rattle.laws_simulation.proofs.AnswersMay.{MayHaveSideEffect, answer_may}
 use Rattle.laws_resume.specs.Keepable.{ram_size, IsKeepableHart, AreKeepable, IsKeepableNote, IsKeepableJournal, IsKeepableClock, AreAligned, MayGoOn, IsKeepableLoad, IsKeepableText, IsKeepable}
 use Rattle.laws_resume.proofs.KeepableParts.{zero_stays, are_set, are_interrupted, below, load_beside, load_interrupted, load_begun}
 use Rattle.laws_resume.proofs.KeepableParts.{journal_noted, journal_ended, clock_set, aligned_with, aligned_without}
 use Rattle.laws_resume.proofs.KeepableRequests.{Moving, hart_kept, there, shorter}
-use Rattle.laws_attempt.proofs.AttemptsAgree.{get_back}
+use Rattle.laws_simulation.proofs.AttemptsAgree.{get_back}
 use Rattle.sv_types.proofs.TruthValues.{and_first, and_second}
 
 -- ---- what a call may begin

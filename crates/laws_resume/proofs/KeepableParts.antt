@@ -16,9 +16,9 @@ use Rattle.sv_types.specs.declared.saved.ModulePlacement.{ModulePlacement}
 use Rattle.spec_reference.specs.Calls.{interrupt_harts}
 use Rattle.spec_reference.specs.Devices.{hart_after_write}
 use Rattle.spec_reference.specs.States.{Hart, Loading, with_module, without_module}
-use Rattle.laws_attempt.specs.Agree.{IsNotLoading}
-use Rattle.laws_invariants.proofs.Lookups.{both}
-use Rattle.laws_invariants.proofs.OthersRest.{get_after, get_sent, with_software_if, get_beside}
+use Rattle.laws_simulation.specs.Agree.{IsNotLoading}
+use Rattle.laws_simulation.proofs.Lookups.{both}
+use Rattle.laws_simulation.proofs.OthersRest.{get_after, get_sent, with_software_if, get_beside}
 use Rattle.laws_resume.specs.Keepable.{IsReservable, IsKeepableHart, AreKeepable, IsKeepableNote, AreKeepableNotes, IsKeepableVerdict, IsKeepableJournal, IsKeepableClock, AreAligned, IsKeepableLoad}
 
 -- ---- registers and reservations

@@ -28,7 +28,7 @@ use Rattle.spec_reference.specs.Requests.{source_of, source_at, load_source, wit
 use Rattle.spec_reference.specs.Soundness.{IsSound}
 use Rattle.spec_reference.specs.States.{State, Hart, Devices, Journal, Disk}
 use Rattle.spec_reference.specs.Trapping.{trap_from, exception, returned_from_trap, may_enter, hart_at_trap, hart_at_return}
-use Rattle.laws_attempt.specs.Agree.{IsNotLoading}
+use Rattle.laws_simulation.specs.Agree.{IsNotLoading}
 use Rattle.laws_resume.specs.Keepable.{ram_size, IsReservable, IsKeepableHart, IsKeepableVerdict, IsKeepableJournal, IsKeepableClock, IsKeepable}
 use Rattle.laws_resume.proofs.KeepableParts.{zero_stays, reserved_fits, keepable_at, are_set, are_written, below, load_beside, load_written, journal_ended}
 use Rattle.sv_types.proofs.TruthValues.{and_second}

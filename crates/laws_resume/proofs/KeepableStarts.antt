@@ -12,8 +12,8 @@ use Rattle.sv_types.specs.Policies.{Rules}
 use Rattle.spec_reference.specs.Calls.{hart_at, stopped_hart}
 use Rattle.spec_reference.specs.Start.{IsStart, StartsFlat, StartsBy, start, flat_rules, flat_start, image_start, boot_start, virtio_start, block_disk, virtio_disk, harts_at_boot}
 use Rattle.spec_reference.specs.States.{State, Disk}
-use Rattle.laws_invariants.proofs.StartsSound.{CanStart, flat_can, image_can}
-use Rattle.laws_invariants.proofs.StateLawsHold.{reached_sound}
+use Rattle.laws_simulation.proofs.StartsSound.{CanStart, flat_can, image_can}
+use Rattle.laws_simulation.proofs.StateLawsHold.{reached_sound}
 use Rattle.laws_resume.specs.Keepable.{ram_size, AreKeepable, AscendFrom, IsKeepable, KeepableLaw}
 use Rattle.laws_resume.proofs.KeepableSteps.{keeps_law}
 

@@ -32,12 +32,12 @@ use Rattle.spec_reference.specs.Turn.{place_of_pc, leads_into, noted_gpa, outsid
 use Rattle.spec_reference.specs.Turn.{carry_out_kernel_only, carry_out_ecall, carry_out_sret, carry_out_effect, carry_out_instruction}
 use Rattle.spec_reference.specs.Turn.{carry_out_word, Fetched, NoWord, Stray, Word, fetch_of, fetch_and_act, act_on_fetch, act_on_pending}
 use Rattle.spec_reference.specs.Turn.{act, turn_of_started, turn_of, turn}
-use Rattle.laws_attempt.specs.Agree.{IsNotLoading}
-use Rattle.laws_attempt.proofs.AllTold.{all_told}
-use Rattle.laws_attempt.proofs.EffectsAgree.{IsTold}
-use Rattle.laws_attempt.proofs.AttemptsAgree.{get_back}
-use Rattle.laws_invariants.proofs.AnswersMay.{decision_may}
-use Rattle.laws_invariants.proofs.StepsSound.{leave_goes, counted_sound, step_goes}
+use Rattle.laws_simulation.specs.Agree.{IsNotLoading}
+use Rattle.laws_simulation.proofs.AllTold.{all_told}
+use Rattle.laws_simulation.proofs.EffectsAgree.{IsTold}
+use Rattle.laws_simulation.proofs.AttemptsAgree.{get_back}
+use Rattle.laws_simulation.proofs.AnswersMay.{decision_may}
+use Rattle.laws_simulation.proofs.StepsSound.{leave_goes, counted_sound, step_goes}
 use Rattle.laws_resume.specs.Keepable.{ram_size, IsKeepable, KeepsLaw}
 use Rattle.laws_resume.proofs.KeepableParts.{zero_stays, keepable_at, below, journal_noted}
 use Rattle.laws_resume.proofs.KeepableRequests.{Moving, hart_kept, there, aligned_pc, set_alone, retired, choose_keeps, trap_keeps}

@@ -24,3 +24,13 @@ pub mod SavedPages
 pub mod SavedResumes
 pub mod TakenAgain
 pub mod TakenPages
+pub mod Ascending
+pub mod BootDigests
+pub mod ResumedHw
+pub mod ResumedStands
+pub mod SnapHolds
+pub mod TextPages
+pub mod Standings
+pub mod Loads
+pub mod Determines
+pub mod StartsStand

@@ -21,16 +21,16 @@ use Rattle.sv_types.specs.declared.event.Verdict.{Verdict}
 use Rattle.sv_types.specs.declared.event.Verdict.TheVariants.{Running, Shutdown, Stopped}
 use Rattle.spec_reference.specs.Soundness.{IsSoundEntry, IsSoundHart}
 use Rattle.spec_reference.specs.States.{Hart, Binding, binding_at}
-use Rattle.spec_saved_machine.specs.declared.harts.SavedHart.{SavedHart}
-use Rattle.spec_saved_machine.specs.declared.whole.SavedLoad.{SavedLoad}
+use Rattle.spec_reference.specs.declared.saved_machine.harts.SavedHart.{SavedHart}
+use Rattle.spec_reference.specs.declared.saved_machine.whole.SavedLoad.{SavedLoad}
 use Rattle.snapshot_format.specs.Forms.{is_word, has_all}
 use Rattle.snapshot_format.specs.HartForms.{is_user, flag, mode, place, place_number, is_reservable, reservation, multiple_of, legal}
 use Rattle.snapshot_format.specs.HartForms.{privilege, trap_status, status, registers, begins_with_0, hart, harts}
 use Rattle.snapshot_format.specs.JournalForms.{hart_number, demote_form, load_note, unload, retire, answer, note_after, note_form, notes, stopped_entry, stopped_write, verdict_after, verdict}
 use Rattle.snapshot_format.specs.PageForms.{may_load, module_within, is_above, load, load_after, load_under_way}
 use Rattle.snapshot_format.proofs.FormLaws.{first_true, second_true}
-use Rattle.snapshot_resume.specs.Judgements.{is_bound}
-use Rattle.snapshot_resume.specs.ResumedStates.{resumed_hart, resumed_load, timers_of}
+use Rattle.snapshot_format.specs.Judgements.{is_bound}
+use Rattle.snapshot_format.specs.ResumedStates.{resumed_hart, resumed_load, timers_of}
 use Rattle.laws_resume.specs.Keepable.{IsReservable, IsKeepableHart, AreKeepable, IsKeepableNote, AreKeepableNotes, IsKeepableVerdict, IsKeepableJournal, IsKeepableClock, MayGoOn, IsKeepableLoad}
 use Rattle.laws_resume.proofs.FormParts.{is_small, below_is, max_is}
 use Rattle.laws_resume.proofs.KeepableStarts.{never}

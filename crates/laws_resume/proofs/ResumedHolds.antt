@@ -2,14 +2,14 @@
 use Rattle.std.proofs.Common.{◌≡◌, ℕ, List, sym, ap, ◌∙◌, true}
 use Rattle.std.proofs.lemmas.Option.{same_Some}
 use Rattle.spec_processor.specs.Bytes.{page_bytes}
-use Rattle.laws_invariants.proofs.StateLawsHold.{text_bytes, has_origins}
+use Rattle.laws_simulation.proofs.StateLawsHold.{text_bytes, has_origins}
 use Rattle.sv_types.specs.Measure.{page_digest}
 use Rattle.spec_reference.specs.Origins.{is_kernel_text, ownership}
 use Rattle.spec_reference.specs.States.{State}
 use Rattle.spec_reference.specs.Run.{run}
 use Rattle.spec_reference.specs.Soundness.{IsSound}
-use Rattle.laws_invariants.proofs.Sounds.{Goes}
-use Rattle.laws_invariants.proofs.StepsSound.{run_goes}
+use Rattle.laws_simulation.proofs.Sounds.{Goes}
+use Rattle.laws_simulation.proofs.StepsSound.{run_goes}
 use Rattle.snapshot_format.specs.declared.whole.TextPage.{TextPage}
 use Rattle.laws_resume.specs.Resumed.{KeepsDigests, ResumedLaw}
 

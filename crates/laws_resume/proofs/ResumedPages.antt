@@ -19,11 +19,11 @@ use Rattle.snapshot_format.specs.HartForms.{multiple_of}
 use Rattle.snapshot_format.specs.PageForms.{is_above, last_page, text_page, text, module_within, last_id, next_module, modules}
 use Rattle.snapshot_format.specs.declared.whole.TextPage.{TextPage}
 use Rattle.snapshot_format.proofs.FormLaws.{first_true, second_true}
-use Rattle.snapshot_resume.specs.Judgements.{page_numbers, loaded_pages, fits}
+use Rattle.snapshot_format.specs.Judgements.{page_numbers, loaded_pages, fits}
 use Rattle.laws_resume.specs.Keepable.{AreAligned, AscendFrom}
 use Rattle.laws_resume.proofs.FormParts.{below_is, max_is, last_of}
 use Rattle.laws_resume.proofs.TakenPages.{Taking, AllBelow, taken_in_two, length_taken, apart, or_true, after_page}
-use Rattle.laws_invariants.proofs.Lookups.{approved_alone, numbers_bounds, above_less}
+use Rattle.laws_simulation.proofs.Lookups.{approved_alone, numbers_bounds, above_less}
 
 -- ---- text
 

@@ -21,20 +21,20 @@ use Rattle.spec_reference.specs.Soundness.{IsSound, IsSoundDisk, IsSoundLoad}
 use Rattle.spec_reference.specs.Start.{AreWords}
 use Rattle.spec_reference.specs.Protections.{protection_at}
 use Rattle.spec_reference.specs.States.{has_number, is_approved_in, protection_in, find_module, pages_in_rule, protections_of}
-use Rattle.spec_saved_machine.specs.SavedStates.{disk_of}
-use Rattle.spec_saved_machine.specs.declared.whole.SavedLoad.{SavedLoad}
+use Rattle.spec_reference.specs.SavedStates.{disk_of}
+use Rattle.spec_reference.specs.declared.saved_machine.whole.SavedLoad.{SavedLoad}
 use Rattle.snapshot_format.specs.DeviceForms.{console, port}
 use Rattle.snapshot_format.specs.Forms.{is_word}
 use Rattle.snapshot_format.specs.PageForms.{load_under_way}
 use Rattle.snapshot_format.specs.Snapshots.{Contents, snapshot}
 use Rattle.snapshot_format.specs.declared.whole.TextPage.{TextPage}
 use Rattle.snapshot_format.proofs.FormLaws.{first_true, second_true}
-use Rattle.snapshot_resume.specs.Judgements.{page_numbers, is_retired, text_left, loaded_pages, load_pages, approved_of, fits, is_loaded}
-use Rattle.snapshot_resume.specs.Judgements.{load_fits, is_of_policy, take_pages, then_held, guard_due, is_guarded_right, joins, is_there}
-use Rattle.snapshot_resume.specs.Judgements.{has_text, has_modules, resume_refusal}
-use Rattle.snapshot_resume.specs.ResumedStates.{resumed_hart, resumed_load, resumed_state, timers_of}
-use Rattle.snapshot_resume.specs.declared.refusal.ResumeRefusal.{ResumeRefusal}
-use Rattle.snapshot_resume.specs.declared.refusal.ResumeRefusal.TheVariants.{OtherPolicy, OtherPages, OtherKernel, OtherText, OtherModule}
+use Rattle.snapshot_format.specs.Judgements.{page_numbers, is_retired, text_left, loaded_pages, load_pages, approved_of, fits, is_loaded}
+use Rattle.snapshot_format.specs.Judgements.{load_fits, is_of_policy, take_pages, then_held, guard_due, is_guarded_right, joins, is_there}
+use Rattle.snapshot_format.specs.Judgements.{has_text, has_modules, resume_refusal}
+use Rattle.snapshot_format.specs.ResumedStates.{resumed_hart, resumed_load, resumed_state, timers_of}
+use Rattle.snapshot_format.specs.declared.resume.refusal.ResumeRefusal.{ResumeRefusal}
+use Rattle.snapshot_format.specs.declared.resume.refusal.ResumeRefusal.TheVariants.{OtherPolicy, OtherPages, OtherKernel, OtherText, OtherModule}
 use Rattle.laws_resume.specs.Keepable.{AreKeepable, IsKeepableJournal, IsKeepableClock, IsKeepable}
 use Rattle.laws_resume.specs.Resumed.{KeepsDigests}
 use Rattle.laws_resume.specs.ResumedSound.{ResumedGoesOnLaw, ResumedSoundLaw}
@@ -47,8 +47,8 @@ use Rattle.laws_resume.proofs.ResumedPages.{text_ascends, text_inside, ModulePar
 use Rattle.laws_resume.proofs.ResumedPages.{place_aligned, module_inside, in_first, in_second, in_one, both_below, loaded_inside}
 use Rattle.laws_resume.proofs.ResumedPages.{among_loaded, of_module, one_module, approved_is, keeps_text}
 use Rattle.laws_resume.proofs.TakenPages.{Taking, AllBelow, either_one, taken_in_two, length_taken, taken_at, were_free, apart, found_later}
-use Rattle.laws_invariants.proofs.Lookups.{all_found, number_filtered}
-use Rattle.snapshot_resume.proofs.ModuleSites.{OfPolicy, of_policy}
+use Rattle.laws_simulation.proofs.Lookups.{all_found, number_filtered}
+use Rattle.snapshot_format.proofs.ModuleSites.{OfPolicy, of_policy}
 use Rattle.spec_reference.proofs.Runs.{all_free_at}
 
 -- ---- the judgements, one by one

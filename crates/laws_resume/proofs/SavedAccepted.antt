@@ -24,15 +24,15 @@ use Rattle.sv_types.specs.Protections.{is_free}
 use Rattle.spec_reference.specs.Protections.{protection_at}
 use Rattle.spec_reference.specs.Soundness.{IsSound, IsSoundEntry, IsSoundHart, IsSoundLoad}
 use Rattle.spec_reference.specs.States.{State, Hart, Loading, find_module, has_number, is_approved_in, module_pages, pages_in_rule, protection_in, protections_of}
-use Rattle.spec_saved_machine.specs.SavedStates.{saved_harts, saved_load}
-use Rattle.spec_saved_machine.specs.declared.harts.SavedHart.{SavedHart}
+use Rattle.spec_reference.specs.SavedStates.{saved_harts, saved_load}
+use Rattle.spec_reference.specs.declared.saved_machine.harts.SavedHart.{SavedHart}
 use Rattle.snapshot_format.specs.Snapshots.{Contents}
 use Rattle.snapshot_format.specs.declared.whole.TextPage.{TextPage}
-use Rattle.snapshot_resume.specs.Judgements.{approved_of, are_same, fits, guard_due, has_modules, has_text, is_bound, protections_are_due}
-use Rattle.snapshot_resume.specs.Judgements.{is_guarded_right, is_loaded, is_of_policy, is_retired, is_same, is_there, joins, load_fits}
-use Rattle.snapshot_resume.specs.Judgements.{load_pages, loaded_pages, page_numbers, resume_refusal, take_pages, text_left, then_held}
+use Rattle.snapshot_format.specs.Judgements.{approved_of, are_same, fits, guard_due, has_modules, has_text, is_bound, protections_are_due}
+use Rattle.snapshot_format.specs.Judgements.{is_guarded_right, is_loaded, is_of_policy, is_retired, is_same, is_there, joins, load_fits}
+use Rattle.snapshot_format.specs.Judgements.{load_pages, loaded_pages, page_numbers, resume_refusal, take_pages, text_left, then_held}
 use Rattle.spec_reference.proofs.PageSpans.{in_numbers}
-use Rattle.snapshot_resume.proofs.ModuleSites.{some_pages}
+use Rattle.snapshot_format.proofs.ModuleSites.{some_pages}
 use Rattle.laws_resume.specs.Keepable.{AscendFrom, IsKeepable}
 use Rattle.laws_resume.specs.Resumed.{KeepsDigests}
 use Rattle.laws_resume.specs.SavedAccepted.{SavedAcceptedLaw}
@@ -43,8 +43,8 @@ use Rattle.laws_resume.proofs.ResumedPages.{of_module, page_inside}
 use Rattle.laws_resume.proofs.SavedResumes.{SameText, contents_are, contents_of, from_owned, held_back, left_is, length_saved, same_truth, to_approved}
 use Rattle.laws_resume.proofs.TakenAgain.{AreOnce, ShareNone, once_both, once_loaded, once_up, takes}
 use Rattle.laws_resume.proofs.TakenPages.{AllBelow, Taking, either_one, length_taken, or_true, taken_at}
-use Rattle.laws_invariants.proofs.Lookups.{all_found, both, numbers_bounds, same_number, length_pages}
-use Rattle.laws_invariants.proofs.StateLawsHold.{held_free}
+use Rattle.laws_simulation.proofs.Lookups.{all_found, both, numbers_bounds, same_number, length_pages}
+use Rattle.laws_simulation.proofs.StateLawsHold.{held_free}
 use Rattle.spec_reference.proofs.Runs.{all_free_at}
 
 -- ---- lists

@@ -9,7 +9,7 @@ use Rattle.sv_types.specs.declared.protection.Protection.{Protection}
 use Rattle.sv_types.specs.Limits.{max_events}
 use Rattle.spec_reference.specs.Soundness.{IsSound}
 use Rattle.spec_reference.specs.States.{State, protection_in, protections_of}
-use Rattle.spec_saved_machine.specs.SavedStates.{saved_harts}
+use Rattle.spec_reference.specs.SavedStates.{saved_harts}
 use Rattle.snapshot_format.specs.DeviceForms.{console, devices, port}
 use Rattle.snapshot_format.specs.Forms.{is_word}
 use Rattle.snapshot_format.specs.HartForms.{flag, harts}
@@ -29,7 +29,7 @@ use Rattle.laws_resume.proofs.SavedJournals.{counts_have, notes_have, verdict_ha
 use Rattle.laws_resume.proofs.SavedPages.{loading_has, modules_have, protections_have, text_has}
 use Rattle.laws_resume.proofs.SavedResumes.{contents_are, contents_of, length_saved}
 use Rattle.laws_resume.proofs.TakenPages.{AllBelow}
-use Rattle.laws_invariants.proofs.Lookups.{length_pages}
+use Rattle.laws_simulation.proofs.Lookups.{length_pages}
 use Rattle.sv_types.proofs.PolicyLimits.{few_pages, few_harts}
 
 -- ---- harts and pages are as many as the policy says

@@ -14,8 +14,8 @@ use Rattle.sv_types.specs.Clock.{Clock}
 use Rattle.sv_types.specs.Policies.{Rules, rules_within}
 use Rattle.spec_reference.specs.Soundness.{IsSoundEntry, IsSoundHart}
 use Rattle.spec_reference.specs.States.{Hart, Binding, binding_at, binding_of}
-use Rattle.spec_saved_machine.specs.SavedStates.{gpa_at, saved_hart, saved_harts}
-use Rattle.spec_saved_machine.specs.declared.harts.SavedHart.{SavedHart}
+use Rattle.spec_reference.specs.SavedStates.{gpa_at, saved_hart, saved_harts}
+use Rattle.spec_reference.specs.declared.saved_machine.harts.SavedHart.{SavedHart}
 use Rattle.snapshot_format.specs.Forms.{number, is_word, has_all}
 use Rattle.snapshot_format.specs.HartForms.{multiple_of, begins_with_0, flag, hart, legal, mode, place, registers, reservation, is_reservable, privilege, status, trap_status}
 use Rattle.snapshot_format.specs.Typed.{are_registers, are_words, is_typed_hart, supervisor_numbers}

@@ -13,7 +13,7 @@ use Rattle.sv_types.specs.declared.saved.ModulePlacement.{ModulePlacement}
 use Rattle.spec_reference.specs.Origins.{AllAbove, Ascends}
 use Rattle.spec_reference.specs.Soundness.{HoldsModule, IsSound, IsSoundLoad}
 use Rattle.spec_reference.specs.States.{State, Hart, Loading, has_number, find_module, pages_in_rule}
-use Rattle.spec_saved_machine.specs.SavedStates.{saved_hart, saved_harts, saved_load}
+use Rattle.spec_reference.specs.SavedStates.{saved_hart, saved_harts, saved_load}
 use Rattle.snapshot_format.specs.Forms.{is_word, has_all}
 use Rattle.snapshot_format.specs.HartForms.{multiple_of, flag, is_user}
 use Rattle.snapshot_format.specs.PageForms.{is_above, last_id, last_page, load, load_after, load_under_way, may_load, module_within}
@@ -21,9 +21,9 @@ use Rattle.snapshot_format.specs.PageForms.{modules, next_module, protection_for
 use Rattle.snapshot_format.specs.Typed.{are_words, is_typed_module, is_typed_page, load_numbers, module_numbers}
 use Rattle.snapshot_format.specs.declared.whole.TextPage.{TextPage}
 use Rattle.snapshot_format.proofs.FormLaws.{both_true, first_true, second_true}
-use Rattle.snapshot_resume.specs.Judgements.{page_numbers}
-use Rattle.snapshot_resume.proofs.ModuleSites.{some_pages}
-use Rattle.laws_invariants.proofs.Lookups.{all_found}
+use Rattle.snapshot_format.specs.Judgements.{page_numbers}
+use Rattle.snapshot_format.proofs.ModuleSites.{some_pages}
+use Rattle.laws_simulation.proofs.Lookups.{all_found}
 use Rattle.laws_resume.specs.Keepable.{AreAligned, AscendFrom, IsKeepableLoad, MayGoOn}
 use Rattle.laws_resume.proofs.FormParts.{last_of, least_is, less_is, small_word}
 use Rattle.laws_resume.proofs.SavedHarts.{aligned_has, word_at, words_after}

@@ -13,18 +13,18 @@ use Rattle.sv_types.specs.declared.protection.Protection.{Protection}
 use Rattle.spec_reference.specs.Origins.{IsOwned, is_kernel_text, ownership}
 use Rattle.spec_reference.specs.Soundness.{IsSound, IsSoundLoad}
 use Rattle.spec_reference.specs.States.{State, Hart, Loading, has_number, is_approved_in}
-use Rattle.spec_saved_machine.specs.SavedStates.{IsSaved, disk_of, gpa_at, saved_hart, saved_harts, saved_load}
-use Rattle.spec_saved_machine.specs.declared.harts.SavedHart.{SavedHart}
+use Rattle.spec_reference.specs.SavedStates.{IsSaved, disk_of, gpa_at, saved_hart, saved_harts, saved_load}
+use Rattle.spec_reference.specs.declared.saved_machine.harts.SavedHart.{SavedHart}
 use Rattle.snapshot_format.specs.Snapshots.{Contents, contents}
 use Rattle.snapshot_format.specs.declared.whole.Snapshot.{Snapshot}
 use Rattle.snapshot_format.specs.declared.whole.TextPage.{TextPage}
-use Rattle.snapshot_resume.specs.Judgements.{page_numbers, is_retired, text_left, loaded_pages, load_pages, approved_of}
-use Rattle.snapshot_resume.specs.ResumedStates.{resumed_hart, resumed_load, resumed_state, timers_of}
+use Rattle.snapshot_format.specs.Judgements.{page_numbers, is_retired, text_left, loaded_pages, load_pages, approved_of}
+use Rattle.snapshot_format.specs.ResumedStates.{resumed_hart, resumed_load, resumed_state, timers_of}
 use Rattle.laws_resume.specs.Continues.{Alike}
 use Rattle.laws_resume.specs.Keepable.{IsKeepable, IsKeepableClock}
 use Rattle.laws_resume.specs.SavedResumes.{SavedResumesLaw}
 use Rattle.laws_resume.proofs.ResumedPages.{in_first, in_second, in_one, among_loaded, of_module}
-use Rattle.laws_invariants.proofs.Lookups.{all_found, approved_alone, number_filtered}
+use Rattle.laws_simulation.proofs.Lookups.{all_found, approved_alone, number_filtered}
 use Rattle.sv_types.proofs.PolicyLimits.{few_harts}
 
 -- ---- harts

@@ -9,9 +9,9 @@ use Rattle.spec_reference.specs.Origins.{AllAbove, Ascends}
 use Rattle.sv_types.specs.Protections.{is_free}
 use Rattle.spec_reference.specs.Protections.{protection_at}
 use Rattle.spec_reference.specs.States.{has_number, module_pages}
-use Rattle.snapshot_resume.specs.Judgements.{loaded_pages, take_pages}
-use Rattle.snapshot_resume.proofs.TakenSpans.{set_beside}
-use Rattle.laws_invariants.proofs.Lookups.{both, same_number, above_at}
+use Rattle.snapshot_format.specs.Judgements.{loaded_pages, take_pages}
+use Rattle.snapshot_format.proofs.TakenSpans.{set_beside}
+use Rattle.laws_simulation.proofs.Lookups.{both, same_number, above_at}
 use Rattle.laws_resume.specs.Keepable.{AscendFrom}
 use Rattle.laws_resume.proofs.KeepableStarts.{numbers_ascend}
 use Rattle.laws_resume.proofs.ResumedPages.{in_one, of_module}

@@ -7,9 +7,9 @@ use Rattle.sv_types.specs.declared.protection.Protection.{Protection}
 use Rattle.sv_types.specs.Protections.{is_free}
 use Rattle.spec_reference.specs.Protections.{protection_at}
 use Rattle.spec_reference.specs.States.{has_number}
-use Rattle.snapshot_resume.specs.Judgements.{take_pages}
-use Rattle.snapshot_resume.proofs.TakenSpans.{set_beside}
-use Rattle.laws_invariants.proofs.Lookups.{both, same_number}
+use Rattle.snapshot_format.specs.Judgements.{take_pages}
+use Rattle.snapshot_format.proofs.TakenSpans.{set_beside}
+use Rattle.laws_simulation.proofs.Lookups.{both, same_number}
 
 -- ---- one page
 

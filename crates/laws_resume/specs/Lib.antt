@@ -8,3 +8,8 @@ pub mod ResumedSound
 pub mod SavedAccepted
 pub mod SavedForm
 pub mod SavedResumes
+pub mod Resuming
+pub mod SnapLaws
+pub mod TextPages
+pub mod Laws
+pub mod Starts

@@ -8,7 +8,7 @@ use Rattle.spec_reference.specs.States.{State}
 use Rattle.spec_reference.specs.Run.{run}
 use Rattle.spec_reference.specs.Soundness.{IsSound, KeepsText}
 use Rattle.snapshot_format.specs.declared.whole.TextPage.{TextPage}
-use Rattle.laws_invariants.specs.StateLaws.{HasOrigins}
+use Rattle.laws_simulation.specs.StateLaws.{HasOrigins}
 
 -- The digests are kept of all pages that were approved at boot. Of each that isn't retired the digest is that of its bytes
 -- in RAM, and all of them join to the policy's.

@@ -8,8 +8,8 @@ use Rattle.spec_reference.specs.Soundness.{IsSound}
 use Rattle.spec_reference.specs.Start.{AreWords}
 use Rattle.spec_reference.specs.States.{State, protections_of}
 use Rattle.snapshot_format.specs.Snapshots.{Contents, snapshot}
-use Rattle.snapshot_resume.specs.Judgements.{resume_refusal}
-use Rattle.snapshot_resume.specs.ResumedStates.{resumed_state}
+use Rattle.snapshot_format.specs.Judgements.{resume_refusal}
+use Rattle.snapshot_format.specs.ResumedStates.{resumed_state}
 use Rattle.laws_resume.specs.Keepable.{IsKeepable}
 use Rattle.laws_resume.specs.Resumed.{GoesOn, KeepsDigests}
 

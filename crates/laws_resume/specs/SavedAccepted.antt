@@ -2,10 +2,10 @@
 use Rattle.std.specs.Prelude.{◌≡◌, None}
 use Rattle.spec_reference.specs.Soundness.{IsSound}
 use Rattle.spec_reference.specs.States.{State}
-use Rattle.spec_saved_machine.specs.SavedStates.{IsSaved}
+use Rattle.spec_reference.specs.SavedStates.{IsSaved}
 use Rattle.snapshot_format.specs.Snapshots.{contents}
 use Rattle.snapshot_format.specs.declared.whole.Snapshot.{Snapshot}
-use Rattle.snapshot_resume.specs.Judgements.{resume_refusal}
+use Rattle.snapshot_format.specs.Judgements.{resume_refusal}
 use Rattle.laws_resume.specs.Keepable.{IsKeepable}
 use Rattle.laws_resume.specs.Resumed.{KeepsDigests}
 

@@ -4,7 +4,7 @@ use Rattle.sv_types.specs.Limits.{max_events}
 use Rattle.spec_reference.specs.Counting.{CountsAtMost}
 use Rattle.spec_reference.specs.Soundness.{IsSound}
 use Rattle.spec_reference.specs.States.{State}
-use Rattle.spec_saved_machine.specs.SavedStates.{IsSaved}
+use Rattle.spec_reference.specs.SavedStates.{IsSaved}
 use Rattle.snapshot_format.specs.DeviceForms.{block_in, disk, port}
 use Rattle.snapshot_format.specs.Snapshots.{Contents, contents, snapshot}
 use Rattle.snapshot_format.specs.Typed.{IsTyped}

@@ -1,10 +1,10 @@
 -- What was saved of a state leads back to it. This project's own.
 use Rattle.spec_reference.specs.Soundness.{IsSound}
 use Rattle.spec_reference.specs.States.{State}
-use Rattle.spec_saved_machine.specs.SavedStates.{IsSaved}
+use Rattle.spec_reference.specs.SavedStates.{IsSaved}
 use Rattle.snapshot_format.specs.Snapshots.{contents}
 use Rattle.snapshot_format.specs.declared.whole.Snapshot.{Snapshot}
-use Rattle.snapshot_resume.specs.ResumedStates.{resumed_state}
+use Rattle.snapshot_format.specs.ResumedStates.{resumed_state}
 use Rattle.laws_resume.specs.Continues.{Alike}
 use Rattle.laws_resume.specs.Keepable.{IsKeepable}
 use Rattle.laws_resume.specs.Resumed.{KeepsDigests}

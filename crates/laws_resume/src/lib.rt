@@ -75,3 +75,6 @@ pub fn law_counted()
 pub fn law_kind()
     ensures { KindLaw }
 {}
+
+pub mod standing;
+pub mod start;

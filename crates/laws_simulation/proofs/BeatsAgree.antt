@@ -21,10 +21,10 @@ use Rattle.sv_types.specs.Protections.{is_free}
 use Rattle.spec_hardware.specs.HwEvents.{beat_served, poke_served, after_host_dma_step, after_hw_move}
 use Rattle.spec_hardware.specs.StandsFor.{Unseen, machine_of}
 use Rattle.spec_reference.specs.Soundness.{IsSound, IsSoundDisk, IsSoundVirtio, IsSoundRequest, IsSoundMove, AreSoundMoves}
-use Rattle.laws_attempt.proofs.HwOfSlots.{hw_harts_forget}
-use Rattle.laws_invariants.proofs.Sounds.{bytes_keep_load}
-use Rattle.laws_invariants.proofs.BeatsSound.{FreeMove, beat_page, beat_sound, poke_sound}
-use Rattle.laws_attempt.proofs.Stays.{KeepsLoad}
+use Rattle.laws_simulation.proofs.HwOfSlots.{hw_harts_forget}
+use Rattle.laws_simulation.proofs.Sounds.{bytes_keep_load}
+use Rattle.laws_simulation.proofs.BeatsSound.{FreeMove, beat_page, beat_sound, poke_sound}
+use Rattle.laws_simulation.proofs.Stays.{KeepsLoad}
 use Rattle.laws_simulation.proofs.ViewsMeet.{get_numbers}
 use Rattle.sv_types.specs.VirtioResults.{result_number}
 

@@ -1,10 +1,10 @@
 -- Calls: SecVisor's answers go with the reference machine's, by what an answer does.
-use Rattle.laws_attempt.proofs.HwOfSlots.{hw_harts_update}
-use Rattle.laws_attempt.proofs.Stays.{length_set}
+use Rattle.laws_simulation.proofs.HwOfSlots.{hw_harts_update}
+use Rattle.laws_simulation.proofs.Stays.{length_set}
 use Rattle.std.proofs.Common.{◌≡◌, ℕ, zero, suc, ◌+◌, ◌≤◌, List, [], ◌∷◌, length, map, refl, sym, ◌∙◌, ap, subst, Bool, true, false, not, slice_get, slice_set}
 use Rattle.std.specs.Prelude.{Some, None, if◌then◌else◌, IsTrue}
 use Rattle.spec_processor.specs.HypervisorRegisters.{HypervisorRegisters, registers_at_boot}
-use Rattle.laws_attempt.specs.Agree.{IsAt}
+use Rattle.laws_simulation.specs.Agree.{IsAt}
 use Rattle.spec_reference.specs.Answers.{with_reply, devices_side_effect, journal_side_effect, harts_side_effect, state_after_answer, call}
 use Rattle.spec_reference.specs.Calls.{Facts, asked_by, facts_of, mask_names, interrupt_harts, with_software, hart_at, started_hart, extension_of}
 use Rattle.spec_reference.specs.ModuleCalls.{answer_of}
@@ -22,8 +22,8 @@ use Rattle.spec_hardware.specs.StandsFor.{Unseen, machine_of, hw_hart, hw_harts,
 use Rattle.laws_simulation.proofs.HartsMirrored.{hw_in, printed_mirrors, prints_low}
 use Rattle.laws_simulation.proofs.Mirrored.{Mirrors, Adds, Changed, hw_harts_in, framed, prints_none}
 use Rattle.laws_simulation.proofs.ModulesMirrored.{facts_same, paged}
-use Rattle.laws_invariants.proofs.AnswersMay.{MayHaveSideEffect, answer_may}
-use Rattle.laws_invariants.proofs.CallsSound.{harts_number}
+use Rattle.laws_simulation.proofs.AnswersMay.{MayHaveSideEffect, answer_may}
+use Rattle.laws_simulation.proofs.CallsSound.{harts_number}
 use Rattle.spec_hardware.proofs.Privileges.{same_mode}
 
 -- ---- an answer, by what becomes of the hart and by what happens besides

@@ -1,5 +1,5 @@
 -- Beats, pokes, keys and ticks: the machine after one stands for the state after it, and nothing else changed.
-use Rattle.laws_attempt.proofs.Stays.{length_map}
+use Rattle.laws_simulation.proofs.Stays.{length_map}
 use Rattle.std.proofs.Common.{◌≡◌, ℕ, ◌+◌, ◌%◌, ◌<◌, ◌≤◌, List, length, map, refl, sym, ◌∙◌, ap, subst, Bool, true, false, not, arith, slice_get}
 use Rattle.std.specs.Prelude.{Option, Some, None, option_map, if◌then◌else◌}
 use Rattle.std.proofs.lemmas.Bool.Decides.{nat_tests}
@@ -30,11 +30,11 @@ use Rattle.spec_reference.specs.Run.{step, happen}
 use Rattle.spec_hardware.specs.StandsFor.{Unseen, IsRightFor, StandsFor, machine_of, without_printed}
 use Rattle.spec_reference.specs.Soundness.{IsSound}
 use Rattle.laws_simulation.proofs.BeatsAgree.{beat_agrees, poke_agrees, free_by, page_of_beat}
-use Rattle.laws_attempt.proofs.HwOfSlots.{hw_harts_forget}
-use Rattle.laws_invariants.proofs.Sounds.{bytes_keep_load}
-use Rattle.laws_invariants.proofs.BeatsSound.{IsFreeBeat, FreeMove, beat_page, beat_sound, free_with_disk, poke_sound}
-use Rattle.laws_invariants.proofs.StepsSound.{counted_sound, step_goes}
-use Rattle.laws_invariants.proofs.EntriesHold.{runs_on}
+use Rattle.laws_simulation.proofs.HwOfSlots.{hw_harts_forget}
+use Rattle.laws_simulation.proofs.Sounds.{bytes_keep_load}
+use Rattle.laws_simulation.proofs.BeatsSound.{IsFreeBeat, FreeMove, beat_page, beat_sound, free_with_disk, poke_sound}
+use Rattle.laws_simulation.proofs.StepsSound.{counted_sound, step_goes}
+use Rattle.laws_simulation.proofs.EntriesHold.{runs_on}
 use Rattle.laws_simulation.proofs.ViewsMeet.{get_numbers}
 
 -- ---- what is open stays so

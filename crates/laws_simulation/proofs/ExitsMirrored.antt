@@ -9,7 +9,7 @@ use Rattle.spec_processor.specs.Traps.{is_interrupt, guest_number}
 use Rattle.spec_processor.specs.declared.exit.Exit.{Exit}
 use Rattle.spec_processor.specs.declared.mode.Mode.{Mode}
 use Rattle.sv_types.specs.declared.protection.Protection.{Protection}
-use Rattle.laws_attempt.specs.Agree.{IsAt}
+use Rattle.laws_simulation.specs.Agree.{IsAt}
 use Rattle.laws_simulation.specs.Laws.{MakesAttempt, TablesLaw}
 use Rattle.spec_hardware.specs.HardwareEvent.{attempt_of, left_by}
 use Rattle.spec_processor.specs.declared.outcome.Outcome.{Outcome}
@@ -28,11 +28,11 @@ use Rattle.spec_reference.specs.Soundness.{IsSound}
 use Rattle.spec_reference.specs.Turn.{turn}
 use Rattle.laws_simulation.proofs.CallsMirrored.{call_mirrors}
 use Rattle.laws_simulation.proofs.HartsMirrored.{hw_in, trap_mirrors, return_mirrors, demote_mirrors, write_stop_mirrors, device_load_mirrors, load_leaves_time, device_store_mirrors}
-use Rattle.laws_attempt.proofs.HwOfSlots.{hw_harts_get}
+use Rattle.laws_simulation.proofs.HwOfSlots.{hw_harts_get}
 use Rattle.laws_simulation.proofs.LawsHold.{exit_turn, answer_at_exit, asked_same}
 use Rattle.laws_simulation.proofs.Mirrored.{Mirrors, hw_there}
 use Rattle.laws_simulation.proofs.ProtectionsChange.{views_from, views_to}
-use Rattle.laws_invariants.proofs.StepsSound.{turn_goes}
+use Rattle.laws_simulation.proofs.StepsSound.{turn_goes}
 use Rattle.spec_hardware.proofs.Privileges.{same_mode}
 
 -- ---- exits

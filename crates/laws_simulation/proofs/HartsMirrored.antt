@@ -12,7 +12,7 @@ use Rattle.spec_processor.specs.declared.mode.Mode.{Mode}
 use Rattle.sv_types.specs.declared.event.Note.TheVariants.{Demote}
 use Rattle.sv_types.specs.declared.event.Rule.TheVariants.{Entry, Write}
 use Rattle.sv_types.specs.declared.event.Verdict.TheVariants.{Stopped}
-use Rattle.laws_attempt.specs.Agree.{IsAt}
+use Rattle.laws_simulation.specs.Agree.{IsAt}
 use Rattle.spec_reference.specs.Counting.{with_count, with_note, machine_ended, count_retired, count_return, count_demote, count_trap, printed_low}
 use Rattle.spec_reference.specs.Disk.{disk_load}
 use Rattle.spec_reference.specs.Devices.{port_load, device_load_of, DeviceLoad, DeviceStore, Port, ConsoleAt, DiskAt, Nowhere, device_load, device_store, port_store, port_at}

@@ -16,15 +16,15 @@ use Rattle.spec_reference.specs.Soundness.{IsSound}
 use Rattle.spec_hardware.specs.Served.{seen_of, exit_answer, exit_answered, serve_exit, is_again}
 use Rattle.spec_reference.specs.Turn.{turn, outside_entry, leave_entry}
 use Rattle.spec_reference.specs.Counting.{count, count_turn}
-use Rattle.laws_attempt.specs.Agree.{IsAt, AgreesBy, IsNotLoading, region_at, core_at, one_attempt_more}
+use Rattle.laws_simulation.specs.Agree.{IsAt, AgreesBy, IsNotLoading, region_at, core_at, one_attempt_more}
 use Rattle.laws_simulation.specs.Laws.{MakesAttempt, IsQuiet, QuietLaw, ExitLaw}
 use Rattle.spec_hardware.specs.HardwareEvent.{attempt_of}
-use Rattle.laws_attempt.proofs.HwOfSlots.{hw_harts_get, hw_harts_exit, hw_harts_update}
-use Rattle.laws_attempt.proofs.Stays.{length_set}
-use Rattle.laws_attempt.proofs.AttemptLawHolds.{attempt_law}
-use Rattle.laws_invariants.proofs.StepsSound.{turn_goes, counted_sound, leave_goes}
+use Rattle.laws_simulation.proofs.HwOfSlots.{hw_harts_get, hw_harts_exit, hw_harts_update}
+use Rattle.laws_simulation.proofs.Stays.{length_set}
+use Rattle.laws_simulation.proofs.AttemptLawHolds.{attempt_law}
+use Rattle.laws_simulation.proofs.StepsSound.{turn_goes, counted_sound, leave_goes}
 use Rattle.spec_hardware.proofs.Privileges.{same_mode}
-use Rattle.laws_invariants.proofs.EntriesHold.{running}
+use Rattle.laws_simulation.proofs.EntriesHold.{running}
 
 quiet_by : (o : Unseen) (r : State) (h : ℕ) (hart : Hart) (c : HypervisorRegisters) (a : Attempted) (x : Outcome) → IsAt o r h hart c
     → AgreesBy x o r h hart c a (turn r h) → IsQuiet x → StandsFor (after_quiet_attempt (machine_of o r) h a) (turn r h)

@@ -7,7 +7,7 @@ use Rattle.sv_types.specs.Measure.{measure, page_digest, page_digests, joined_di
 use Rattle.sv_types.specs.Policies.{Rules, ModuleRule, rules_within}
 use Rattle.laws_processor.proofs.ByteLemmas.{part_of_part, length_part}
 use Rattle.sv_types.specs.declared.saved.ModulePlacement.{ModulePlacement}
-use Rattle.laws_attempt.specs.Agree.{IsAt}
+use Rattle.laws_simulation.specs.Agree.{IsAt}
 use Rattle.spec_hardware.specs.Steps.{AreTables}
 use Rattle.spec_reference.specs.Answers.{state_after_answer}
 use Rattle.spec_reference.specs.declared.answers.Answer.{Answer}
@@ -23,11 +23,11 @@ use Rattle.spec_reference.specs.Soundness.{IsSound, IsSoundLoad, HoldsModule}
 use Rattle.spec_reference.specs.Turn.{turn, turn_of, turn_of_started}
 use Rattle.laws_simulation.proofs.CallsMirrored.{given_mirrors}
 use Rattle.laws_simulation.proofs.ExitsMirrored.{Answered, stands_after}
-use Rattle.laws_attempt.proofs.HwOfSlots.{hw_harts_get}
+use Rattle.laws_simulation.proofs.HwOfSlots.{hw_harts_get}
 use Rattle.laws_simulation.proofs.Mirrored.{Mirrors, no_hart, prints_none}
-use Rattle.laws_invariants.proofs.AnswersMay.{decision_may}
+use Rattle.laws_simulation.proofs.AnswersMay.{decision_may}
 use Rattle.laws_simulation.proofs.SitesInPages.{AllLieIn, rule_lies, digest_more, length_masked, page_masked, right_more, all_below, below}
-use Rattle.laws_invariants.proofs.StepsSound.{turn_goes}
+use Rattle.laws_simulation.proofs.StepsSound.{turn_goes}
 
 -- ---- the text of a load
 

@@ -1,6 +1,6 @@
 -- What every answer of SecVisor's has in common: the machine that stands for a state goes with the state, and its frame is kept.
 use Rattle.std.proofs.lemmas.List.{append-nil}
-use Rattle.laws_attempt.proofs.Stays.{length_set}
+use Rattle.laws_simulation.proofs.Stays.{length_set}
 use Rattle.std.proofs.Common.{◌≡◌, ℕ, zero, suc, ◌≤◌, List, [], ◌∷◌, ◌++◌, length, drop, map, refl, sym, ◌∙◌, ap, subst, Bool, true, false, slice_get, slice_set, arith}
 use Rattle.std.specs.Prelude.{Option, Some, option_map, if◌then◌else◌}
 use Rattle.spec_processor.specs.HypervisorRegisters.{HypervisorRegisters}
@@ -11,8 +11,8 @@ use Rattle.spec_reference.specs.States.{State, Hart, Loading, Devices, Journal, 
 use Rattle.sv_types.specs.Protections.{is_free}
 use Rattle.spec_hardware.specs.Machine.{Machine, HwHart, HwLoad, update}
 use Rattle.spec_hardware.specs.StandsFor.{Unseen, IsRightFor, machine_of, hw_hart, hw_harts, load_kept, without_printed}
-use Rattle.laws_attempt.specs.Agree.{IsAt}
-use Rattle.laws_attempt.proofs.HwOfSlots.{hw_harts_update}
+use Rattle.laws_simulation.specs.Agree.{IsAt}
+use Rattle.laws_simulation.proofs.HwOfSlots.{hw_harts_update}
 use Rattle.spec_hardware.specs.HardwareEvent.{Answers, Others, Nobody, MayChange, others_changed, hart_answered, devices_answered, journal_answered}
 
 -- bytes are printed after those that were

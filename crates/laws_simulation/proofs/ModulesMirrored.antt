@@ -32,9 +32,9 @@ use Rattle.spec_reference.specs.States.{protections_of}
 use Rattle.spec_reference.specs.Relocations.{fields_right}
 use Rattle.spec_hardware.specs.StandsFor.{Unseen, IsRightFor, machine_of, hw_harts, load_kept, load_kept_by, kept_digests, kept_answer, without_printed}
 use Rattle.spec_reference.specs.Soundness.{IsSound, IsSoundLoad, HoldsModule}
-use Rattle.laws_invariants.proofs.AnswersMay.{MayHaveSideEffect}
-use Rattle.laws_invariants.proofs.Lookups.{both, same_number, numbers_bounds}
-use Rattle.laws_invariants.proofs.ModulesSound.{IsGoodAddress, approves}
+use Rattle.laws_simulation.proofs.AnswersMay.{MayHaveSideEffect}
+use Rattle.laws_simulation.proofs.Lookups.{both, same_number, numbers_bounds}
+use Rattle.laws_simulation.proofs.ModulesSound.{IsGoodAddress, approves}
 use Rattle.laws_simulation.proofs.Mirrored.{Mirrors, Changed, with_parts}
 use Rattle.laws_simulation.proofs.ProtectionsChange.{held_protections, approved_protections, released_protections, unloaded_protections, retired_protections, at_page}
 use Rattle.sv_types.proofs.TruthValues.{and_first}

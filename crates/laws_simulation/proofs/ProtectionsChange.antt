@@ -16,9 +16,9 @@ use Rattle.spec_reference.specs.Protections.{or_free, protection_at, with_pages,
 use Rattle.sv_types.specs.Views.{AreViews}
 use Rattle.spec_hardware.specs.StandsFor.{bound_pages}
 use Rattle.spec_reference.specs.Soundness.{IsSound, IsSoundLoad, HoldsModule}
-use Rattle.laws_invariants.proofs.Lookups.{both, same_number, numbers_bounds, approved_without}
-use Rattle.laws_attempt.proofs.LoadsKept.{elsewhere}
-use Rattle.laws_invariants.proofs.ModulesSound.{loads, approves, unloads, retires, front_case, bytes_left, text_before}
+use Rattle.laws_simulation.proofs.Lookups.{both, same_number, numbers_bounds, approved_without}
+use Rattle.laws_simulation.proofs.LoadsKept.{elsewhere}
+use Rattle.laws_simulation.proofs.ModulesSound.{loads, approves, unloads, retires, front_case, bytes_left, text_before}
 use Rattle.laws_simulation.proofs.ViewsMeet.{get_numbers, views_meet}
 
 -- ---- lists over all pages

@@ -34,12 +34,12 @@ use Rattle.spec_reference.specs.Turn.{turn, outside_entry, leave_entry, bound_en
 use Rattle.laws_simulation.proofs.CallsMirrored.{none_hw}
 use Rattle.laws_simulation.proofs.EventsAgree.{IsNoTurn, event_law, verdict_of}
 use Rattle.laws_simulation.proofs.ExitsMirrored.{served_turn}
-use Rattle.laws_attempt.proofs.HwOfSlots.{hw_harts_get}
-use Rattle.laws_attempt.specs.Agree.{IsNotLoading}
-use Rattle.laws_attempt.proofs.AttemptsAgree.{get_back, turn_none, turn_stopped}
+use Rattle.laws_simulation.proofs.HwOfSlots.{hw_harts_get}
+use Rattle.laws_simulation.specs.Agree.{IsNotLoading}
+use Rattle.laws_simulation.proofs.AttemptsAgree.{get_back, turn_none, turn_stopped}
 use Rattle.laws_simulation.proofs.LawsHold.{answer_at_exit, quiet_turn, raised_at, makes_raised, exit_turn, outside_stands, again_turn}
 use Rattle.laws_simulation.proofs.LoadsMirrored.{load_turn}
-use Rattle.laws_invariants.proofs.EntriesHold.{running}
+use Rattle.laws_simulation.proofs.EntriesHold.{running}
 use Rattle.spec_hardware.proofs.Frames.{get_own}
 
 -- ---- the frame, with the count of turns left aside

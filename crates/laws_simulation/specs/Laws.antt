@@ -12,7 +12,7 @@ use Rattle.spec_reference.specs.Turn.{leave_entry, outside_entry}
 use Rattle.spec_hardware.specs.Machine.{Machine, HwHart, with_count_raised, after_attempt, after_quiet_attempt}
 use Rattle.spec_hardware.specs.StandsFor.{StandsFor}
 use Rattle.spec_hardware.specs.Served.{serve_exit}
-use Rattle.laws_attempt.specs.Agree.{IsNotLoading}
+use Rattle.laws_simulation.specs.Agree.{IsNotLoading}
 use Rattle.spec_hardware.specs.HardwareEvent.{IsEvent, attempt_of, sent_again, hart_again}
 use Rattle.spec_hardware.specs.HwHarts.{asks_again}
 use Rattle.spec_hardware.specs.Steps.{AreTables, IsStep}

@@ -1,1 +1,9 @@
 pub mod Laws
+pub mod Agree
+pub mod StateLaws
+pub mod GrowthLaws
+pub mod EntryLaws
+pub mod Passing
+pub mod SurveyLaws
+pub mod HwPassing
+pub mod Passes

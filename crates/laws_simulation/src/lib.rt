@@ -38,3 +38,7 @@ pub fn law_clear()
 pub fn law_reaches()
     ensures { ReachesLaw }
 {}
+
+pub mod attempt;
+pub mod invariants;
+pub mod survey;

@@ -42,9 +42,9 @@ use Rattle.spec_reference.specs.Requests.{Source, Target, carried_out_writing, l
 use Rattle.spec_reference.specs.Run.{happen, happen_under, step}
 use Rattle.spec_reference.specs.Trapping.{hart_at_return, hart_at_trap, trap_from, exception, returned_from_trap, may_enter}
 use Rattle.spec_reference.specs.Turn.{carry_out_kernel_only, carry_out_ecall, carry_out_sret, carry_out_effect, carry_out_instruction, carry_out_word, Fetched, NoWord, Stray, Word, fetch_of, act_on_fetch, place_of_pc, leads_into, outside_entry, leave_entry, fetch_in_entry, bound_entry, act_on_pending, act, turn_of_started, turn_of, turn}
-use Rattle.spec_saved_machine.specs.SavedStates.{gpa_at}
+use Rattle.spec_reference.specs.SavedStates.{gpa_at}
 use Rattle.machine.specs.Machines.{HasAddress, HaveAddresses}
-use Rattle.laws_invariants.proofs.RequestsSound.{room_of}
+use Rattle.laws_simulation.proofs.RequestsSound.{room_of}
 
 -- ---- all harts
 

@@ -20,14 +20,14 @@ use Rattle.hw_fast_path.specs.Batches.{IsRetired, Carries, RetiresThrough}
 use Rattle.machine.proofs.Addressed.{step_addressed}
 use Rattle.machine.proofs.Repeated.{step_counts}
 use Rattle.machine.proofs.Stepped.{Bounded, step_bounded, step_happens, step_stands}
-use Rattle.machine_events.proofs.Turns.{quiet_served, turn_served}
+use Rattle.machine.proofs.Turns.{quiet_served, turn_served}
 use Rattle.hw_platform.specs.Attempts.{hart_in}
 use Rattle.machine.specs.Machines.{HaveAddresses}
 use Rattle.machine.specs.Repeats.{IsQuiet, Repeats}
-use Rattle.machine_events.specs.Batches.{counted_batch, after_batch, MayBatch}
-use Rattle.machine_events.specs.Turns.{Finished}
+use Rattle.machine.specs.Batches.{counted_batch, after_batch, MayBatch}
+use Rattle.machine.specs.Turns.{Finished}
 use Rattle.hw_platform.proofs.Batches.{there_updated, still_there, updated_twice, updated_same, still_free, forgets_nothing}
-use Rattle.machine_events.proofs.Batches.{batch_verdict, batch_printed}
+use Rattle.machine.proofs.EventsBatches.{batch_verdict, batch_printed}
 
 -- ---- one turn more
 

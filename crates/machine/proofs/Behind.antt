@@ -32,15 +32,15 @@ use Rattle.hw_fast_path.specs.declared.leaving.Leaving.{Leaving}
 use Rattle.hw_fast_path.specs.declared.leaving.Leaving.TheVariants.{Stays, Calls, Returns}
 use Rattle.machine.proofs.Repeated.{counts_within}
 use Rattle.machine.proofs.Batches.{Rowed, one_step, rowed}
-use Rattle.machine_events.proofs.Batches.{batch_printed, batch_verdict}
+use Rattle.machine.proofs.EventsBatches.{batch_printed, batch_verdict}
 use Rattle.hw_platform.proofs.Batches.{still_there, there_updated, updated_twice}
 use Rattle.machine.proofs.Stepped.{Bounded}
 use Rattle.secvisor_core.proofs.Served.{carried}
-use Rattle.machine_events.proofs.Turns.{exit_served, turn_served}
+use Rattle.machine.proofs.Turns.{exit_served, turn_served}
 use Rattle.hw_platform.specs.Attempts.{hart_in}
 use Rattle.machine.specs.Limits.{max_counts}
 use Rattle.machine.specs.Machines.{HaveAddresses}
-use Rattle.machine_events.specs.Batches.{AnswersLeaving, EndsBatch, MayBatch, after_attempts, after_batch, call_answer, counted_leaving, counted_batch}
+use Rattle.machine.specs.Batches.{AnswersLeaving, EndsBatch, MayBatch, after_attempts, after_batch, call_answer, counted_leaving, counted_batch}
 use Rattle.secvisor_core.specs.Serving.{MayTrap, answered_exit}
 use Rattle.laws_simulation.proofs.TurnsServed.{forgets_none}
 

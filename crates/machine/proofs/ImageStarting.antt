@@ -18,8 +18,8 @@ use Rattle.spec_processor.specs.Regions.{Region, max_ram_pages}
 use Rattle.laws_processor.proofs.ByteLemmas.{length_padded}
 use Rattle.sv_types.specs.Views.{with_ram}
 use Rattle.sv_types.specs.declared.protection.Protection.{Protection}
-use Rattle.laws_standing.proofs.StartsStand.{any_start}
-use Rattle.laws_standing.specs.Starts.{machine_at_boot, image_machine, image_protections, IsGuarded}
+use Rattle.laws_resume.proofs.StartsStand.{any_start}
+use Rattle.laws_resume.specs.Starts.{machine_at_boot, image_machine, image_protections, IsGuarded}
 use Rattle.machine.specs.Boot.{IsImageOf, RefusesFlat, RefusesImage}
 use Rattle.machine.specs.declared.boot.BootRefusal.{BootRefusal}
 use Rattle.machine.specs.declared.boot.BootRefusal.TheVariants.{Measure, Entry, Memory}

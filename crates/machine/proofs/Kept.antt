@@ -8,9 +8,9 @@ use Rattle.sv_types.specs.Policies.{Rules, ModuleRule}
 use Rattle.spec_reference.specs.States.{State, Hart, Loading}
 use Rattle.spec_hardware.specs.Machine.{Machine, HwHart}
 use Rattle.spec_hardware.specs.StandsFor.{StandsFor, Unseen, IsRightFor, machine_of, hw_hart, hw_harts, hw_reservation, load_kept, load_kept_by}
-use Rattle.spec_saved_machine.specs.SavedStates.{gpa_at, saved_hart, saved_harts, saved_load, IsSaved}
-use Rattle.spec_saved_machine.specs.declared.harts.SavedHart.{SavedHart}
-use Rattle.spec_saved_machine.specs.declared.whole.Saved.{Saved}
+use Rattle.spec_reference.specs.SavedStates.{gpa_at, saved_hart, saved_harts, saved_load, IsSaved}
+use Rattle.spec_reference.specs.declared.saved_machine.harts.SavedHart.{SavedHart}
+use Rattle.spec_reference.specs.declared.saved_machine.whole.Saved.{Saved}
 use Rattle.monitor_exits.specs.HwOfSlots.{hw_at, hw_harts_of}
 use Rattle.monitor_exits.specs.declared.slots.HartSlot.{HartSlot}
 use Rattle.machine.specs.Machines.{HasAddress, HaveAddresses}

@@ -17,3 +17,15 @@ pub mod DrawnBatches
 pub mod ConsoleLemmas
 pub mod Passes
 pub mod Looking
+pub mod EventsBatches
+pub mod BeatsFollow
+mod Seen
+pub mod Turns
+pub mod Passings
+pub mod Accepted
+pub mod Assembled
+pub mod Approved
+pub mod Counted
+pub mod DeviceParts
+pub mod Regions
+pub mod Seated

@@ -6,8 +6,8 @@ use Rattle.spec_processor.specs.HypervisorRegisters.{HypervisorRegisters}
 use Rattle.spec_reference.specs.States.{State, Hart}
 use Rattle.spec_hardware.specs.Machine.{Machine, HwHart}
 use Rattle.spec_hardware.specs.StandsFor.{StandsFor, Unseen, machine_of, hw_harts}
-use Rattle.spec_saved_machine.specs.SavedStates.{saved_hart}
-use Rattle.spec_saved_machine.specs.declared.harts.SavedHart.{SavedHart}
+use Rattle.spec_reference.specs.SavedStates.{saved_hart}
+use Rattle.spec_reference.specs.declared.saved_machine.harts.SavedHart.{SavedHart}
 use Rattle.monitor_exits.specs.HwOfSlots.{hw_at, hw_harts_of}
 use Rattle.monitor_exits.specs.declared.slots.HartSlot.{HartSlot}
 use Rattle.machine.specs.Keeping.{kept_hart}

@@ -2,15 +2,15 @@
 use Rattle.std.proofs.Common.{◌≡◌, ◌-◌, List, [], ℕ, zero, suc, length, replicate, ap, arith, false}
 use Rattle.elf64_load.specs.Images.{segments_of}
 use Rattle.elf64_load.specs.declared.image.KernelImage.{KernelImage}
-use Rattle.monitor_boot.proofs.Accepted.{image_placed}
-use Rattle.monitor_boot.specs.Placed.{ArePlaced}
+use Rattle.secvisor_core.proofs.Accepted.{image_placed}
+use Rattle.secvisor_core.specs.Placed.{ArePlaced}
 use Rattle.spec_reference.specs.Calls.{hart_at, stopped_hart}
 use Rattle.spec_reference.specs.Start.{block_disk, flat_rules, flat_start, image_start, start}
 use Rattle.spec_reference.specs.States.{State, Disk, Journal}
 use Rattle.sv_types.specs.Policies.{Rules}
 use Rattle.spec_hardware.specs.Machine.{Machine}
 use Rattle.spec_hardware.specs.Reaches.{IsNew}
-use Rattle.laws_standing.specs.Starts.{journal_at_boot}
+use Rattle.laws_resume.specs.Starts.{journal_at_boot}
 use Rattle.machine.specs.Boot.{IsImageOf, IsRead}
 use Rattle.machine.specs.Machines.{HaveAddresses, IsFit}
 use Rattle.machine.specs.declared.machine.Machine.TheInside.{Inside}

@@ -9,10 +9,10 @@ use Rattle.spec_reference.specs.States.{State, Hart}
 use Rattle.spec_hardware.specs.Machine.{Machine, HwHart, update}
 use Rattle.hw_platform.specs.Attempts.{hart_in}
 use Rattle.hw_platform.specs.Batches.{AreFree}
-use Rattle.machine_events.specs.Batches.{AreFreeWhere}
+use Rattle.machine.specs.Batches.{AreFreeWhere}
 use Rattle.machine.specs.Machines.{HaveAddresses}
-use Rattle.laws_survey.specs.HwPassing.{hw_at_next, hw_moved_on, hw_passed_under, hw_passed_over}
-use Rattle.laws_survey.specs.Passing.{moved_on, passed_under, passed_over}
+use Rattle.laws_simulation.specs.HwPassing.{hw_at_next, hw_moved_on, hw_passed_under, hw_passed_over}
+use Rattle.laws_simulation.specs.Passing.{moved_on, passed_under, passed_over}
 
 -- ---- counts, the console, and reservations
 

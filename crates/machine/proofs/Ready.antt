@@ -33,14 +33,14 @@ use Rattle.spec_hardware.specs.Steps.{IsStep, IsTurn, StepsUnder}
 use Rattle.laws_simulation.specs.Laws.{IsQuiet, MakesAttempt}
 use Rattle.laws_simulation.proofs.LawsHold.{asked_same, exit_turn}
 use Rattle.laws_simulation.proofs.TurnsServed.{again_law, step_law, loading_by, not_its}
-use Rattle.laws_standing.proofs.Standings.{hart_in_may_attempt, in_order}
-use Rattle.laws_standing.proofs.Loads.{loaded_approved, loading_held}
-use Rattle.laws_standing.specs.Laws.{HoldsItsPages}
+use Rattle.laws_resume.proofs.Standings.{hart_in_may_attempt, in_order}
+use Rattle.laws_resume.proofs.Loads.{loaded_approved, loading_held}
+use Rattle.laws_resume.specs.Laws.{HoldsItsPages}
 use Rattle.module_gate.specs.Conditions.{IsHeld}
 use Rattle.secvisor_core.proofs.Served.{hart_there}
-use Rattle.machine_events.proofs.Turns.{left_below, quiet_served, turn_served}
+use Rattle.machine.proofs.Turns.{left_below, quiet_served, turn_served}
 use Rattle.hw_platform.specs.Attempts.{hart_in, nobody}
-use Rattle.machine_events.specs.Turns.{Attempts, Finished, IsReadyAt, MayTurn}
+use Rattle.machine.specs.Turns.{Attempts, Finished, IsReadyAt, MayTurn}
 use Rattle.secvisor_core.specs.Serving.{IsGuarded, asked_of}
 
 -- ---- modules

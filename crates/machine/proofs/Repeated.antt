@@ -8,8 +8,8 @@ use Rattle.spec_reference.specs.Counting.{CountsAtMost}
 use Rattle.spec_reference.specs.Run.{run, step}
 use Rattle.spec_reference.specs.States.{State}
 use Rattle.spec_reference.proofs.Runs.{run_on}
-use Rattle.laws_invariants.specs.GrowthLaws.{RiseByOne}
-use Rattle.laws_invariants.proofs.StepsGrow.{grows_law}
+use Rattle.laws_simulation.specs.GrowthLaws.{RiseByOne}
+use Rattle.laws_simulation.proofs.StepsGrow.{grows_law}
 use Rattle.spec_hardware.specs.Machine.{Machine}
 use Rattle.spec_hardware.specs.StandsFor.{StandsFor, machine_of}
 use Rattle.machine.specs.Repeats.{GoesOn, Makes, Repeats}

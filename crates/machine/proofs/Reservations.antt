@@ -25,7 +25,7 @@ use Rattle.hw_fast_path.specs.declared.leaving.Leaving.{Leaving}
 use Rattle.hw_fast_path.specs.declared.leaving.Leaving.TheVariants.{Stays, Calls, Returns}
 use Rattle.hw_platform.proofs.Batches.{changed_free, map_none}
 use Rattle.hw_platform.specs.Attempts.{hart_in}
-use Rattle.machine_events.specs.Batches.{AnswersLeaving, AreFreeWhere, call_answer, counted_leaving, reserves_nothing}
+use Rattle.machine.specs.Batches.{AnswersLeaving, AreFreeWhere, call_answer, counted_leaving, reserves_nothing}
 use Rattle.hw_platform.specs.Batches.{AreFree}
 
 moved_free : (m : Machine) (move : Move) → AreFree m.harts → AreFree (after_hw_move m move).harts

@@ -13,13 +13,13 @@ use Rattle.spec_reference.specs.States.{Hart, Devices, Journal}
 use Rattle.spec_hardware.specs.Machine.{Machine, HwHart, HwLoad}
 use Rattle.spec_hardware.specs.Reaches.{IsNew}
 use Rattle.snapshot_format.specs.Snapshots.{Contents}
-use Rattle.snapshot_resume.specs.ResumedStates.{resumed_state}
+use Rattle.snapshot_format.specs.ResumedStates.{resumed_state}
 use Rattle.laws_resume.specs.Keepable.{AreKeepable, IsReservable}
 use Rattle.laws_resume.specs.ResumedSound.{IsResumable}
-use Rattle.laws_resumed_start.proofs.SnapHolds.{nothing_printed}
-use Rattle.laws_resumed_start.specs.Resuming.{hw_resumed, load_resumed, resumed_machine}
-use Rattle.machine_resume.specs.Parts.{AreResumed}
-use Rattle.machine_resume.specs.declared.parts.ResumedParts.{ResumedParts}
+use Rattle.laws_resume.proofs.SnapHolds.{nothing_printed}
+use Rattle.laws_resume.specs.Resuming.{hw_resumed, load_resumed, resumed_machine}
+use Rattle.machine.specs.Parts.{AreResumed}
+use Rattle.machine.specs.declared.resumed.parts.ResumedParts.{ResumedParts}
 use Rattle.monitor_exits.specs.HwOfSlots.{hw_harts_of}
 use Rattle.module_gate.specs.Parts.{loading_of}
 use Rattle.machine.specs.Machines.{HasAddress, HaveAddresses, IsFit}

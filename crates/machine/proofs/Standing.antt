@@ -18,7 +18,7 @@ use Rattle.spec_hardware.specs.HwHarts.{asks_again}
 use Rattle.spec_hardware.specs.Machine.{Machine, HwHart}
 use Rattle.spec_hardware.specs.Reaches.{Cleared, IsNew}
 use Rattle.spec_hardware.specs.StandsFor.{StandsFor, machine_of, without_printed}
-use Rattle.laws_invariants.proofs.StepsGrow.{grows_law}
+use Rattle.laws_simulation.proofs.StepsGrow.{grows_law}
 use Rattle.laws_simulation.proofs.RunsReach.{clear_law}
 use Rattle.host_io.specs.Outside.{SinkState, after_taking}
 use Rattle.host_io.proofs.SinkLemmas.{after_taking-nil}

@@ -12,7 +12,7 @@ use Rattle.module_gate.specs.declared.modules.PendingLoad.{PendingLoad}
 use Rattle.sv_types.specs.Protections.{is_free}
 use Rattle.spec_reference.specs.Protections.{protection_at}
 use Rattle.spec_reference.specs.Start.{block_disk, flat_rules}
-use Rattle.laws_standing.specs.Starts.{hw_at_boot, hw_harts_at_boot, machine_at_boot, flat_machine, flat_protections, flat_ram}
+use Rattle.laws_resume.specs.Starts.{hw_at_boot, hw_harts_at_boot, machine_at_boot, flat_machine, flat_protections, flat_ram}
 use Rattle.sv_types.specs.ApprovedPages.{numbers_from}
 use Rattle.spec_processor.specs.Bytes.{overwrite, with_padding, ram_base}
 use Rattle.sv_types.specs.Policies.{Rules}
@@ -21,7 +21,7 @@ use Rattle.sv_types.specs.Views.{with_ram}
 use Rattle.sv_types.specs.declared.module.Span.{Span}
 use Rattle.sv_types.specs.declared.protection.Protection.{Protection}
 use Rattle.sv_types.specs.declared.protection.Protection.TheVariants.{Free}
-use Rattle.machine_resume.proofs.Regions.{length_both, tables_sized}
+use Rattle.machine.proofs.Regions.{length_both, tables_sized}
 use Rattle.hw_tlb.specs.Usable.{nothing_kept, IsUsable, AreUsable}
 use Rattle.hw_tlb.specs.declared.caches.HartCaches.{HartCaches}
 use Rattle.hw_tlb.proofs.Emptied.{nothing_usable}

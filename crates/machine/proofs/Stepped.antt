@@ -15,7 +15,7 @@ use Rattle.spec_reference.specs.Move.{Move, Idle, FromRam, IntoRam, DeniedAt, Ou
 use Rattle.spec_reference.specs.Run.{step}
 use Rattle.spec_reference.specs.States.{State, Journal}
 use Rattle.spec_reference.specs.Turn.{turn}
-use Rattle.laws_invariants.proofs.Growth.{Gains}
+use Rattle.laws_simulation.proofs.Growth.{Gains}
 use Rattle.spec_hardware.specs.HardwareEvent.{IsEvent, HappensUnder, TurnOf, HartTurn, StartedTurn, OneOrTwo, AfterOutcome, attempt_of, hart_again, is_loading, sent_again}
 use Rattle.spec_hardware.specs.HwHarts.{asks_again}
 use Rattle.spec_hardware.specs.HwEvents.{event_served, beat_served, poke_served, key_served, tick_served, after_hw_move, with_hw_disk}
@@ -25,8 +25,8 @@ use Rattle.spec_hardware.specs.Steps.{IsStep, StepsUnder}
 use Rattle.spec_hardware.specs.Reaches.{without_first_printed}
 use Rattle.laws_simulation.proofs.RunsReach.{clear_law}
 use Rattle.laws_simulation.proofs.TurnsServed.{step_law}
-use Rattle.laws_invariants.proofs.StepsGrow.{turn_gains}
-use Rattle.laws_invariants.proofs.EntriesHold.{running}
+use Rattle.laws_simulation.proofs.StepsGrow.{turn_gains}
+use Rattle.laws_simulation.proofs.EntriesHold.{running}
 
 -- ---- the two laws of a step
 

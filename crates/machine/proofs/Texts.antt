@@ -8,8 +8,8 @@ use Rattle.spec_reference.specs.States.{State}
 use Rattle.spec_hardware.specs.Machine.{Machine}
 use Rattle.spec_hardware.specs.StandsFor.{StandsFor, Unseen, machine_of}
 use Rattle.snapshot_format.specs.declared.whole.TextPage.{TextPage}
-use Rattle.laws_standing.proofs.Standings.{in_order}
-use Rattle.laws_resumed_start.specs.TextPages.{digested_text, text_in}
+use Rattle.laws_resume.proofs.Standings.{in_order}
+use Rattle.laws_resume.specs.TextPages.{digested_text, text_in}
 
 -- RAM has a protection for each page, and no more than the most pages
 pub ram_paged : (m : Machine) (r : State) → StandsFor m r → length m.region.ram ≡ page_size * length m.protections

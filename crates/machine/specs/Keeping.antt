@@ -3,11 +3,11 @@ use Rattle.std.specs.Prelude.{◌≡◌, ℕ, ◌+◌, ◌-◌, ◌^◌, ◌<◌
 use Rattle.sv_types.specs.Clock.{Clock, timer_of}
 use Rattle.spec_processor.specs.HypervisorRegisters.{at_guest_places}
 use Rattle.spec_hardware.specs.Machine.{Machine, HwHart, HwLoad}
-use Rattle.spec_saved_machine.specs.SavedStates.{gpa_at, disk_of}
+use Rattle.spec_reference.specs.SavedStates.{gpa_at, disk_of}
 use Rattle.hw_platform.specs.Attempts.{hart_in}
-use Rattle.spec_saved_machine.specs.declared.harts.SavedHart.{SavedHart}
-use Rattle.spec_saved_machine.specs.declared.whole.Saved.{Saved}
-use Rattle.spec_saved_machine.specs.declared.whole.SavedLoad.{SavedLoad}
+use Rattle.spec_reference.specs.declared.saved_machine.harts.SavedHart.{SavedHart}
+use Rattle.spec_reference.specs.declared.saved_machine.whole.Saved.{Saved}
+use Rattle.spec_reference.specs.declared.saved_machine.whole.SavedLoad.{SavedLoad}
 
 -- ---- harts
 

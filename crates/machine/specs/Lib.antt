@@ -7,3 +7,12 @@ pub mod Resumed
 pub mod Standing
 pub mod Console
 pub mod Drawing
+pub mod Batches
+pub mod Beats
+pub mod EventsLimits
+pub mod Turns
+pub mod Approving
+pub mod Counting
+pub mod Parts
+pub mod Seating
+pub mod Timing

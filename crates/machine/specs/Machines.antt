@@ -2,8 +2,8 @@
 use Rattle.std.specs.Prelude.{◌+◌, ◌*◌, ◌^◌, ◌<◌, ◌≤◌, ℕ, List, [], ◌∷◌, length, Option, Some, None}
 use Rattle.spec_reference.specs.States.{State, Hart}
 use Rattle.spec_hardware.specs.StandsFor.{StandsFor}
-use Rattle.spec_saved_machine.specs.SavedStates.{gpa_at}
-use Rattle.machine_events.specs.Batches.{AreFreeWhere}
+use Rattle.spec_reference.specs.SavedStates.{gpa_at}
+use Rattle.machine.specs.Batches.{AreFreeWhere}
 use Rattle.machine.specs.declared.machine.Machine.TheInside.{Inside}
 
 -- the guest-physical address of a reservation is a number of 64 bits

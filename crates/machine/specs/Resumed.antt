@@ -2,7 +2,7 @@
 use Rattle.std.specs.Prelude.{◌≡◌, Some}
 use Rattle.sv_types.specs.Policies.{Rules}
 use Rattle.snapshot_format.specs.Snapshots.{Contents}
-use Rattle.snapshot_resume.specs.Judgements.{resume_refusal}
+use Rattle.snapshot_format.specs.Judgements.{resume_refusal}
 use Rattle.machine.specs.declared.resume.ResumeFailure.{ResumeFailure}
 use Rattle.machine.specs.declared.resume.ResumeFailure.TheVariants.{Refused, Memory}
 

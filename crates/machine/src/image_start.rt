@@ -9,25 +9,25 @@ ghost use Rattle.spec_processor.specs.Regions.{max_ram_pages};
 ghost use Rattle.gstage_tables.specs.Layout.{max_bound, table_size};
 ghost use Rattle.page_guard.specs.Guarded.{Guards};
 ghost use Rattle.elf64_load.specs.Images.{segments_of};
-ghost use Rattle.monitor_boot.specs.Placed.{ArePlaced};
+ghost use Rattle.secvisor_core.specs.Placed.{ArePlaced};
 ghost use Rattle.spec_reference.specs.Start.{image_start, AreWords};
 ghost use Rattle.spec_reference.specs.States.{has_number};
 ghost use Rattle.spec_reference.specs.Soundness.{IsSoundDisk};
 ghost use Rattle.spec_hardware.specs.Reaches.{IsNew};
 ghost use Rattle.spec_hardware.specs.StandsFor.{bound_pages};
 ghost use Rattle.hw_devices.specs.Ports.{port_disk};
-ghost use Rattle.laws_standing.specs.Starts.{image_machine, image_protections, journal_at_boot, IsGuarded};
+ghost use Rattle.laws_resume.specs.Starts.{image_machine, image_protections, journal_at_boot, IsGuarded};
 ghost use Rattle.machine.specs.Boot.{IsImageOf, image_text, RefusesFlat, RefusesImage};
 
 use crate::boot::BootRefusal;
+use crate::events::System;
 use crate::start::{at_boot, judge_measure};
 use elf64_load::KernelImage;
 use gstage_tables::Trees;
 use host_mem::HostMem;
 use hw_devices::Port;
-use machine_events::System;
-use monitor_boot::{approve_text, fill_ram};
 use page_guard::Guard;
+use secvisor_core::boot::{approve_text, fill_ram};
 use spec_processor::page_of;
 use std::alloc::{AllocError, Global};
 use std::thread::Threads;
@@ -35,7 +35,7 @@ use sv_types::{Digest, Policy};
 
 /// A machine of a kernel's image under a policy: the image's segments in RAM, its text approved, and hart 0 at its
 /// entry. First the text is measured against the policy, and the entry has to be one of the policy's.
-#[tactic(auto, unfolding(laws_standing::specs::Starts::machine_at_boot, laws_standing::specs::Starts::image_machine))]
+#[tactic(auto, unfolding(laws_resume::specs::Starts::machine_at_boot, laws_resume::specs::Starts::image_machine))]
 pub(crate) fn boot<R: Threads + Sync>(
     rt: &R,
     alloc: Global,
@@ -163,7 +163,7 @@ pub(crate) fn bound_pages(alloc: Global, policy: &Policy) -> Result<Vec<u32>, Al
 }
 
 // A region of so many pages of RAM with the image's segments, and room for its tables, where so many entries are bound.
-#[tactic(auto, using(machine_resume::proofs::Regions::tables_sized))]
+#[tactic(auto, using(crate::proofs::Regions::tables_sized))]
 fn image_region(
     alloc: Global,
     image: &KernelImage,

@@ -4,10 +4,12 @@
 
 mod boot;
 mod drawing;
+pub mod events;
 mod image_start;
 mod machine;
 mod machine_start;
 mod resume;
+pub mod resumed;
 mod running;
 mod saved;
 mod seen;

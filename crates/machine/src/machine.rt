@@ -11,16 +11,16 @@ ghost use Rattle.spec_reference.specs.States.{State};
 ghost use Rattle.spec_hardware.specs.HardwareEvent.{IsEvent};
 ghost use Rattle.spec_hardware.specs.Reaches.{Cleared};
 ghost use Rattle.spec_hardware.specs.StandsFor.{StandsFor};
-ghost use Rattle.laws_survey.specs.HwPassing.{hw_passed_over};
-ghost use Rattle.laws_survey.specs.Passing.{passed_over};
+ghost use Rattle.laws_simulation.specs.HwPassing.{hw_passed_over};
+ghost use Rattle.laws_simulation.specs.Passing.{passed_over};
 ghost use Rattle.machine.specs.Limits.{max_counts};
 ghost use Rattle.machine.specs.Repeats.{Made, MadeInBatch, Makes, MayMake, Repeats};
 ghost use Rattle.hw_platform.specs.Batches.{AreFree};
-ghost use Rattle.machine_events.specs.Batches.{MayBatch, reserves_nothing};
+ghost use Rattle.machine.specs.Batches.{MayBatch, reserves_nothing};
 ghost use Rattle.hw_fast_path.specs.Ends.{turns_of};
 
+use crate::events::System;
 use hw_fast_path::Batch;
-use machine_events::System;
 use std::marker::Model;
 use sv_types::{Counts, Event, Note, Verdict};
 

@@ -11,7 +11,7 @@ ghost use Rattle.spec_reference.specs.States.{has_number};
 ghost use Rattle.spec_reference.specs.Soundness.{IsSoundDisk};
 ghost use Rattle.spec_hardware.specs.Reaches.{IsNew};
 ghost use Rattle.hw_devices.specs.Ports.{port_disk};
-ghost use Rattle.laws_standing.specs.Starts.{journal_at_boot};
+ghost use Rattle.laws_resume.specs.Starts.{journal_at_boot};
 ghost use Rattle.machine.specs.Boot.{IsImageOf, IsRead, image_text, RefusesFlat, RefusesImage};
 
 use crate::boot::BootRefusal;

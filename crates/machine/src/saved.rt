@@ -6,17 +6,17 @@ ghost use Rattle.spec_reference.specs.States.{State};
 ghost use Rattle.spec_hardware.specs.StandsFor.{StandsFor};
 ghost use Rattle.monitor_exits.specs.HwOfSlots.{hw_at, hw_harts_of};
 ghost use Rattle.module_gate.specs.Parts.{loading_of};
-ghost use Rattle.spec_saved_machine.specs.SavedStates.{IsSaved};
+ghost use Rattle.spec_reference.specs.SavedStates.{IsSaved};
 ghost use Rattle.machine.specs.Keeping.{gpa_after, AreKeepable, IsKeepable, kept_hart, kept_harts, kept_load, IsKept};
 
+use crate::events::System;
 use crate::machine::Machine;
 use csr_file::at_guest_places;
 use hw_devices::Devices;
-use machine_events::System;
 use module_gate::Modules;
 use monitor_exits::HartSlot;
 use spec_processor::RAM_BASE;
-use spec_saved_machine::{Saved, SavedHart, SavedLoad};
+use spec_reference::saved_machine::{Saved, SavedHart, SavedLoad};
 use std::alloc::{AllocError, Global};
 
 impl Machine {

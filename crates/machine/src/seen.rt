@@ -5,16 +5,16 @@ ghost use Rattle.sv_types.specs.Clock.{timer_of};
 ghost use Rattle.sv_types.specs.Limits.{max_harts};
 ghost use Rattle.spec_reference.specs.States.{State};
 ghost use Rattle.spec_hardware.specs.StandsFor.{StandsFor};
-ghost use Rattle.spec_saved_machine.specs.SavedStates.{saved_hart};
+ghost use Rattle.spec_reference.specs.SavedStates.{saved_hart};
 ghost use Rattle.monitor_exits.specs.HwOfSlots.{hw_harts_of};
 ghost use Rattle.machine.specs.Keeping.{AreKeepable, kept_hart};
 
+use crate::events::System;
 use crate::machine::Machine;
 use crate::saved::saved_hart;
 use hw_devices::Devices;
-use machine_events::System;
 use monitor_exits::HartSlot;
-use spec_saved_machine::SavedHart;
+use spec_reference::saved_machine::SavedHart;
 
 impl Machine {
     /// The bytes of guest RAM.

@@ -13,12 +13,13 @@ ghost use Rattle.spec_reference.specs.Start.{flat_rules, flat_start};
 ghost use Rattle.spec_hardware.specs.Reaches.{IsNew};
 ghost use Rattle.spec_hardware.specs.StandsFor.{bound_pages};
 ghost use Rattle.module_gate.specs.Gates.{no_modules};
-ghost use Rattle.laws_standing.specs.Starts.{hw_at_boot, hw_harts_at_boot, machine_at_boot, first_approved, flat_ram, flat_machine, journal_at_boot, IsGuarded};
+ghost use Rattle.laws_resume.specs.Starts.{hw_at_boot, hw_harts_at_boot, machine_at_boot, first_approved, flat_ram, flat_machine, journal_at_boot, IsGuarded};
 ghost use Rattle.hw_devices.specs.Ports.{port_disk};
 ghost use Rattle.hw_tlb.specs.Usable.{nothing_kept};
 ghost use Rattle.machine.specs.Boot.{RefusesFlat};
 
 use crate::boot::BootRefusal;
+use crate::events::System;
 use gstage_tables::Trees;
 use hart::{Cpu, Hart};
 use host_mem::HostMem;
@@ -26,7 +27,6 @@ use hw_devices::{Devices, Port};
 use hw_fast_path::MicroOpCache;
 use hw_platform::Hardware;
 use hw_tlb::HartCaches;
-use machine_events::System;
 use machine_journal::Journal;
 use module_gate::Modules;
 use monitor_exits::HartSlot;
@@ -42,7 +42,7 @@ use sv_types::{Digest, FLAT_PAGES, FLAT_TRAP_OFFSET, PLAIN_FORMAT, Policy, Span}
 const FLAT_ENTRIES: [u64; 2] = [RAM_BASE, RAM_BASE + FLAT_TRAP_OFFSET];
 
 /// A machine under a policy, with pages that are guarded already and a disk behind its device: hart 0 begins at an entry, the others are stopped.
-#[tactic(auto, using(crate::proofs::Starting::empty_usable, crate::proofs::Starting::length_empty, crate::proofs::Starting::none_joined), unfolding(laws_standing::specs::Starts::machine_at_boot))]
+#[tactic(auto, using(crate::proofs::Starting::empty_usable, crate::proofs::Starting::length_empty, crate::proofs::Starting::none_joined), unfolding(laws_resume::specs::Starts::machine_at_boot))]
 pub(crate) fn at_boot(
     alloc: Global,
     policy: Policy,
@@ -92,7 +92,7 @@ pub(crate) fn at_boot(
 /// A machine of 16 pages of RAM with these pages at their start, all of them approved, where the hart begins. It has
 /// one hart, no modules and an empty disk. The pages are measured first: the SHA-256 of the pages' SHA-256 digests
 /// has to be the digest that is wanted.
-#[tactic(auto, unfolding(laws_standing::specs::Starts::machine_at_boot, laws_standing::specs::Starts::flat_machine))]
+#[tactic(auto, unfolding(laws_resume::specs::Starts::machine_at_boot, laws_resume::specs::Starts::flat_machine))]
 pub(crate) fn flat<R: Threads + Sync>(
     rt: &R,
     alloc: Global,

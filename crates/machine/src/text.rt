@@ -5,11 +5,11 @@ ghost use Rattle.spec_processor.specs.Bytes.{page_size};
 ghost use Rattle.spec_processor.specs.Regions.{max_ram_pages};
 ghost use Rattle.spec_reference.specs.States.{State};
 ghost use Rattle.spec_hardware.specs.StandsFor.{StandsFor};
-ghost use Rattle.laws_resumed_start.specs.TextPages.{digested_text, text_in};
+ghost use Rattle.laws_resume.specs.TextPages.{digested_text, text_in};
 
+use crate::events::System;
 use crate::machine::Machine;
-use laws_resumed_start::text_pages;
-use machine_events::System;
+use laws_resume::start::text_pages;
 use snapshot_format::TextPage;
 use std::alloc::{AllocError, Global};
 

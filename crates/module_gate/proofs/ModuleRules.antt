@@ -5,8 +5,8 @@ use Rattle.std.proofs.lemmas.Bool.{and_parts}
 use Rattle.std.proofs.lemmas.Bool.Decides.{nat_tests}
 use Rattle.std.proofs.lemmas.Option.{slice_get_within}
 use Rattle.sv_types.specs.Policies.{Rules, ModuleRule, rules_within}
-use Rattle.monitor_fields.specs.Pieces.{IsAligned}
-use Rattle.monitor_fields.proofs.RulesWithin.{sites_aligned}
+use Rattle.page_measure.specs.Pieces.{IsAligned}
+use Rattle.page_measure.proofs.RulesWithin.{sites_aligned}
 use Rattle.sv_types.proofs.PolicyLimits.{modules_part, rule_within}
 
 pub few_pages : (rules : Rules) (id : ℕ) (rule : ModuleRule) → IsTrue (rules_within rules) → slice_get rules.modules id ≡ Some rule → rule.pages ≤ 1024

@@ -6,7 +6,7 @@ use Rattle.std.proofs.lemmas.Bool.{eqb-true, eq-eqb}
 use Rattle.std.proofs.lemmas.Bool.Decides.{nat_tests}
 use Rattle.sv_types.specs.declared.module.Site.{Site}
 use Rattle.spec_hardware.specs.HwExits.{page_sites, moved_site, is_site_in}
-use Rattle.monitor_fields.specs.Pieces.{piece_sites, lies_in}
+use Rattle.page_measure.specs.Pieces.{piece_sites, lies_in}
 
 same_place : (n k : ℕ) (low high here : Bool) → nat_le (page_size * n) k ≡ low → nat_lt (k - page_size * n) page_size ≡ high → (k / page_size == n) ≡ here → (low && high) ≡ here
 same_place n k true true true a b c = refl

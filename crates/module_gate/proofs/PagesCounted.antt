@@ -9,7 +9,7 @@ use Rattle.spec_reference.specs.Loads.{module_bases}
 use Rattle.spec_reference.specs.Relocations.{masked_text, fields_right}
 use Rattle.spec_hardware.specs.HwExits.{page_counted, page_sites}
 use Rattle.spec_hardware.specs.Machine.{HwLoad}
-use Rattle.monitor_fields.specs.Pieces.{piece_sites}
+use Rattle.page_measure.specs.Pieces.{piece_sites}
 use Rattle.module_gate.specs.Gates.{next_counted}
 use Rattle.module_gate.proofs.PagePieces.{piece_is_page}
 

@@ -8,15 +8,15 @@ ghost use Rattle.sv_types.specs.declared.protection.Protection.TheVariants.{Free
 ghost use Rattle.spec_reference.specs.Relocations.{masked_text};
 ghost use Rattle.spec_reference.specs.States.{find_module, with_module, pages_in_rule};
 ghost use Rattle.spec_hardware.specs.HwExits.{hw_is_good};
-ghost use Rattle.monitor_fields.specs.Pieces.{piece_sites, IsAligned};
+ghost use Rattle.page_measure.specs.Pieces.{piece_sites, IsAligned};
 ghost use Rattle.page_guard.specs.Guarded.{with_span, IsInRam, AllAre, TablesMatchGuard, TablesStayMatched};
 ghost use Rattle.module_gate.specs.Gates.{hw_load, load_span, next_counted, with_digests};
 
 use crate::gate::Gate;
 use crate::rules::rule_of;
 use host_mem::HostMem;
-use monitor_fields::{fields_right, mask};
 use page_guard::{Guard, Hold};
+use page_measure::fields::{fields_right, mask};
 use page_measure::{join_digests, page_digest};
 use spec_processor::{PAGE_BYTES, PAGE_SIZE};
 use std::marker::Model;

@@ -6,3 +6,5 @@ pub mod Possible
 pub mod Seen
 pub mod Slots
 pub mod Trapped
+pub mod Known
+pub mod Masks

@@ -6,6 +6,7 @@ mod accesses;
 mod addresses;
 mod answers;
 mod asked;
+pub mod calls;
 mod device_accesses;
 mod exits;
 mod fetches;

@@ -1,1 +1,4 @@
 pub mod PageDigests
+pub mod RulesWithin
+pub mod Sites
+pub mod FieldsInPieces

@@ -7,6 +7,7 @@ ghost use Rattle.spec_processor.specs.Bytes.{page_size};
 ghost use Rattle.sv_types.specs.Measure.{digests_of};
 ghost use Rattle.sv_types.specs.Measure as spec;
 
+pub mod fields;
 mod meter;
 
 pub use meter::{Meter, Silent};

@@ -11,7 +11,7 @@ use Rattle.sv_types.specs.Kernel.{LoadedSegment, kernel_refusal, kernel_segments
 use Rattle.sv_types.specs.Measure.{measure}
 use Rattle.sv_types.specs.Policies.{Rules, all_bound, bound_within, each_within, entries_count_within, entries_within, exports_count_within, exports_within, format_within, harts_within, init_within, lists_within, modules_count_within, modules_within, numbers_within, ram_pages_within, rules_within}
 use Rattle.sv_types.specs.Steps.{◌>>=◌}
-use Rattle.elf64_sections.specs.Judged.{each}
+use Rattle.elf64_load.specs.Judged.{each}
 use Rattle.policy_making.specs.Binding.{bound_place, bound_places, bound_rules, each_once, entries_bound, measured_bound, with_places}
 use Rattle.policy_making.specs.Faults.{Judged}
 use Rattle.policy_making.specs.InText.{is_in_text}

@@ -9,8 +9,8 @@ use Rattle.sv_types.specs.declared.image_fault.HeaderFault.{HeaderFault}
 use Rattle.sv_types.specs.declared.image_fault.ImageFault.{ImageFault}
 use Rattle.sv_types.specs.declared.policy.Export.{Export}
 use Rattle.sv_types.specs.Steps.{◌>>=◌}
-use Rattle.elf64_sections.specs.Judged.{each}
-use Rattle.elf64_sections.specs.Sections.{Tables}
+use Rattle.elf64_load.specs.Judged.{each}
+use Rattle.elf64_load.specs.Sections.{Tables}
 use Rattle.elf64_load.specs.Exports as images
 use Rattle.elf64_load.specs.Refusals as refusals
 use Rattle.policy_making.specs.Making.{exports_for}

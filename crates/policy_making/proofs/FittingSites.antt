@@ -6,9 +6,9 @@ use Rattle.std.proofs.lemmas.Bool.{and_parts}
 use Rattle.std.proofs.lemmas.Bool.Decides.{nat_tests}
 use Rattle.sv_types.specs.Policies.{module_pages_within, sites_count_within, sites_within, each_within, next_site_within, site_within, is_after, place_within}
 use Rattle.sv_types.specs.declared.module.Site.{Site}
-use Rattle.monitor_fields.specs.Pieces.{piece_sites, lies_in, site_from, IsAligned}
+use Rattle.page_measure.specs.Pieces.{piece_sites, lies_in, site_from, IsAligned}
 use Rattle.elf64_reloc.specs.Modules.{Module, module_fits, pages_of}
-use Rattle.monitor_fields.proofs.RulesWithin.{sites_aligned, site_parts}
+use Rattle.page_measure.proofs.RulesWithin.{sites_aligned, site_parts}
 
 -- ---- one field
 

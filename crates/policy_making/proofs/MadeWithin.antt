@@ -11,8 +11,8 @@ use Rattle.sv_types.specs.Policies.{Rules, ModuleRule, each_within, is_module, m
 use Rattle.sv_types.specs.declared.policy.Export.{Export}
 use Rattle.sv_types.specs.declared.policy.Policy.{Policy}
 use Rattle.sv_types.specs.Steps.{◌>>=◌}
-use Rattle.elf64_sections.specs.Judged.{each}
-use Rattle.elf64_sections.proofs.Steps.{ok_same}
+use Rattle.elf64_load.specs.Judged.{each}
+use Rattle.elf64_load.proofs.Steps.{ok_same}
 use Rattle.elf64_reloc.specs.Modules.{Module, module_judged}
 use Rattle.elf64_reloc.specs.declared.fault.ObjectFault.{ObjectFault}
 use Rattle.elf64_reloc.proofs.ModuleLimits.{module_within}

@@ -12,7 +12,7 @@ use Rattle.spec_processor.specs.Regions.{max_ram_pages}
 use Rattle.sv_types.specs.declared.module.Site.{Site}
 use Rattle.sv_types.specs.declared.policy.Export.{Export}
 use Rattle.sv_types.specs.Steps.{◌>>=◌}
-use Rattle.elf64_sections.proofs.Steps.{ok_same}
+use Rattle.elf64_load.proofs.Steps.{ok_same}
 use Rattle.elf64_reloc.specs.Layouts.{padding, is_good_alignment, text_size}
 use Rattle.elf64_reloc.specs.Objects.{Object, object_judged}
 use Rattle.elf64_reloc.specs.Modules.{Module, text_of, text_from, whole_pages, zeros, is_too_large, fields_overlap, ordered_sites, module_with, module_of, sites_of, module_judged}

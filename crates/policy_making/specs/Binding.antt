@@ -9,7 +9,7 @@ use Rattle.sv_types.specs.Kernel.{LoadedSegment, text_of}
 use Rattle.sv_types.specs.Measure.{measure}
 use Rattle.sv_types.specs.Policies.{Rules}
 use Rattle.sv_types.specs.Steps.{◌>>=◌}
-use Rattle.elf64_sections.specs.Judged.{each}
+use Rattle.elf64_load.specs.Judged.{each}
 use Rattle.policy_making.specs.Faults.{Judged}
 use Rattle.policy_making.specs.declared.bind_fault.BindFault.TheVariants.{Convert, Measure}
 use Rattle.policy_making.specs.declared.bind_fault.ConvertFault.TheVariants.{OtherFormat, NoPlace, OtherByte}

@@ -14,7 +14,7 @@ use Rattle.sv_types.specs.declared.module.Span.{Span}
 use Rattle.sv_types.specs.declared.policy.Export.{Export}
 use Rattle.spec_reference.specs.Relocations.{masked_text}
 use Rattle.sv_types.specs.Steps.{◌>>=◌}
-use Rattle.elf64_sections.specs.Judged.{each}
+use Rattle.elf64_load.specs.Judged.{each}
 use Rattle.elf64_load.specs.Exports.{exports_judged}
 use Rattle.elf64_reloc.specs.Modules.{Module, pages_of, names_judged, module_judged}
 use Rattle.policy_making.specs.Refusals.{Judged, in_image, in_module}

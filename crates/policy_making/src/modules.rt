@@ -8,14 +8,14 @@ ghost use Rattle.sv_types.specs.Policies.{module_pages_within, module_rule};
 ghost use Rattle.spec_reference.specs.Relocations.{masked_text};
 ghost use Rattle.elf64_reloc.specs.Modules.{pages_of};
 ghost use Rattle.elf64_reloc.specs.ModuleViews.{module_view};
-ghost use Rattle.monitor_fields.specs.Pieces.{piece_sites, IsAligned};
+ghost use Rattle.page_measure.specs.Pieces.{piece_sites, IsAligned};
 ghost use Rattle.policy_making.specs.Making as spec;
 ghost use Rattle.policy_making.specs.Refusals.{Refuses};
 
 use crate::object_file::ObjectFile;
 use crate::refusal::{MakingRefusal, of_module};
 use elf64_reloc::{ModuleImage, read_module};
-use monitor_fields::mask;
+use page_measure::fields::mask;
 use page_measure::{Silent, measure};
 use spec_processor::PAGE_BYTES;
 use std::alloc::{AllocError, Global};

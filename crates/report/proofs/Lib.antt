@@ -1,1 +1,2 @@
 pub mod NoteLists
+pub mod Places

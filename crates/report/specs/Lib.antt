@@ -1,1 +1,4 @@
 pub mod Journals
+pub mod Findings
+pub mod Lines
+pub mod Views

@@ -2,6 +2,7 @@
 #![tactic(auto)]
 
 mod counts;
+pub mod findings;
 mod notes;
 mod verdict;
 mod whole;

@@ -3,6 +3,7 @@
 
 mod codes;
 mod range;
+pub mod text;
 mod words;
 
 ghost use Rattle.std.specs.Prelude.{◌≡◌, Some, IsTrue};

@@ -1,1 +1,4 @@
 mod Events
+mod Subsequences
+mod Counting
+mod Entries

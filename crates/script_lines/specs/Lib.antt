@@ -1,1 +1,4 @@
 pub mod Lines
+pub mod Minimal
+pub mod Tallies
+pub mod TallyLines

@@ -1,9 +1,9 @@
 // Lines made fewer, and their counts smaller.
 ghost use Rattle.std.specs.Prelude.{◌≡◌, ◌≤◌, ◌<◌, true, false, IfOk};
-ghost use Rattle.delta_debugging.specs.Minimal.{IsOneMinimal};
+ghost use Rattle.script_lines.specs.Minimal.{IsOneMinimal};
 
+use crate::delta_debugging::{Stops, minimize};
 use crate::listing::{Kind, halved, joined, lines_without};
-use delta_debugging::{Stops, minimize};
 use script::EventRun;
 use std::alloc::{AllocError, Global};
 use std::thread::Threads;

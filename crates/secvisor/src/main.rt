@@ -10,13 +10,13 @@ use cli_diagnostics::{
     Ending, MostBytes, WordRemark, help, remark, script_remark, stop_remark, word_remark,
 };
 use cli_dispatch::answer;
-use host_files::{Escaped, RealFiles, StdSink};
+use host_io::os_files::{Escaped, RealFiles, StdSink};
 use live_keys::ReaderKeys;
 use secvisor_cli::{
     Bench, MAX_DISK_BYTES, MAX_FLAT_BYTES, MAX_IMAGE_BYTES, MAX_OBJECT_BYTES, MAX_POLICY_BYTES,
     MAX_SCRIPT_BYTES, Status,
 };
-use snapshot_reader::MAX_SNAPSHOT_BYTES;
+use snapshot_format::reader::MAX_SNAPSHOT_BYTES;
 use std::alloc::AllocError;
 use std::env;
 use std::io::{ErrorKind, IsTerminal};

@@ -1,6 +1,6 @@
 -- What stands where `convert` is done.
 use Rattle.std.proofs.Common.{◌≡◌, ◌∙◌, ℕ, true, List, Option, Some, None, Ok, Err, refl, sym, ap, subst, inl, inr}
-use Rattle.cli_words.specs.Commands.{ConvertSplit}
+use Rattle.cli_plans.specs.Commands.{ConvertSplit}
 use Rattle.std.proofs.lemmas.Option.{same_Some}
 use Rattle.sv_types.specs.declared.image_fault.ImageFault.{ImageFault}
 use Rattle.sv_types.specs.declared.status.Status.{Status}

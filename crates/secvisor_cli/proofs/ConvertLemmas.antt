@@ -1,6 +1,6 @@
 -- The stages of a plan that binds a policy's entries.
 use Rattle.std.proofs.Common.{◌≡◌, ◌∙◌, ℕ, List, length, None, refl, sym, ap, subst, Ok, Err}
-use Rattle.cli_words.specs.Commands.{ConvertSplit}
+use Rattle.cli_plans.specs.Commands.{ConvertSplit}
 use Rattle.sv_types.specs.Kernel.{LoadedSegment, kernel_refusal, kernel_segments}
 use Rattle.sv_types.specs.Policies.{Rules}
 use Rattle.elf64_load.specs.Images.{segments_of}

@@ -18,7 +18,7 @@ use Rattle.sv_types.specs.Measure.{measure}
 use Rattle.sv_types.specs.Boot.{no_counts}
 use Rattle.sv_types.specs.Limits.{max_events}
 use Rattle.spec_reference.specs.Start.{start, flat_start, boot_start, virtio_start}
-use Rattle.cli_words.specs.declared.command.DiskKind.{DiskKind}
+use Rattle.cli_plans.specs.declared.command_words.command.DiskKind.{DiskKind}
 use Rattle.host_io.specs.Outside.{FilesState}
 use Rattle.machine.specs.declared.boot.BootRefusal.{BootRefusal}
 use Rattle.machine.specs.Boot.{RefusesFlat}

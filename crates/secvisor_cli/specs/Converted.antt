@@ -1,6 +1,6 @@
 -- What stands outside where `convert` is done.
 use Rattle.std.specs.Prelude.{◌≡◌, true, ℕ, List, length, IsTrue, Some, Ok}
-use Rattle.cli_words.specs.Commands.{ConvertSplit}
+use Rattle.cli_plans.specs.Commands.{ConvertSplit}
 use Rattle.std.specs.List.{list_all}
 use Rattle.sv_types.specs.Kernel.{kernel_segments}
 use Rattle.sv_types.specs.Policies.{Rules}

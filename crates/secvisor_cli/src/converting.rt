@@ -6,13 +6,13 @@ ghost use Rattle.spec_processor.specs.Counters.{CanCount};
 ghost use Rattle.cli_plans.specs.Plans.{bound_plan, convert_plan, converted_line, kernel_part};
 ghost use Rattle.cli_plans.specs.Reading.{MayFollow};
 ghost use Rattle.secvisor_cli.specs.Ready.{IsMade, Prepares};
-ghost use Rattle.cli_words.specs.Values.{convert_split_of};
+ghost use Rattle.cli_plans.specs.Values.{convert_split_of};
 
 use crate::image_run::{MAX_IMAGE_BYTES, judge_kernel, read_policy};
 use crate::parts::read_part;
 use crate::ready::{Made, Ready, Stop};
 use cli_plans::Part;
-use cli_words::ConvertWords;
+use cli_plans::command_words::ConvertWords;
 use host_io::Files;
 use policy_making::bind;
 use std::alloc::{AllocError, Global};

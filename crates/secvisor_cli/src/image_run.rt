@@ -20,8 +20,8 @@ ghost use Rattle.spec_processor.specs.Counters.{CanCount};
 
 use crate::parts::read_part;
 use crate::ready::{PreparedRun, Stop};
+use cli_plans::command_words::DiskKind;
 use cli_plans::{FileFault, Part, Refusal, Run, Source};
-use cli_words::DiskKind;
 use elf64_load::{ElfRefusal, KernelImage, read_kernel};
 use host_io::Files;
 use machine::{BootRefusal, Machine, SECTOR_BYTES};

@@ -1,7 +1,7 @@
 // Laws of the definitions alone. A law takes no argument and does nothing; its clause is the theorem.
 
 ghost use Rattle.std.specs.Prelude.{Ok};
-ghost use Rattle.cli_words.specs.Commands.{ConvertSplit};
+ghost use Rattle.cli_plans.specs.Commands.{ConvertSplit};
 ghost use Rattle.sv_types.specs.declared.status.Status.{Status};
 ghost use Rattle.secvisor_cli.specs.Answers.{Headline, Outside};
 ghost use Rattle.cli_plans.specs.CommandLine.{Convert};

@@ -1,2 +1,4 @@
 pub mod Serving
 pub mod Visors
+pub mod Placed
+pub mod Whole

@@ -14,7 +14,7 @@ ghost use Rattle.spec_hardware.specs.Served.{is_again};
 ghost use Rattle.spec_hardware.specs.Steps.{WithTables};
 ghost use Rattle.spec_hardware.specs.declared.exits.ExitAnswer.TheVariants.{Traps, Returns, Demotes, LeavesEntry, StopsAtWrite, LoadsDevice, StoresDevice};
 ghost use Rattle.sv_types.specs.Limits.{max_printed};
-ghost use Rattle.monitor_calls.specs.Known.{StartsOneOf};
+ghost use Rattle.monitor_exits.specs.Known.{StartsOneOf};
 ghost use Rattle.monitor_exits.specs.HwOfSlots.{hw_harts_of};
 ghost use Rattle.monitor_exits.specs.Possible.{IsPossible};
 ghost use Rattle.module_gate.specs.Parts.{loading_of};
@@ -27,7 +27,7 @@ use hw_platform::Hardware;
 use hw_tlb::fence;
 use machine_journal::Journal;
 use module_gate::{give_pages, module_answer};
-use monitor_calls::law_starts;
+use monitor_exits::calls::law_starts;
 use monitor_exits::{
     Asked, Trap, device_load, device_store, exit_answer, guest_demotion, guest_return, guest_trap,
     leave_entry, stop_at_write,
@@ -181,7 +181,7 @@ impl Visor {
                 &asked,
             )
         } else {
-            monitor_calls::answer_of(
+            monitor_exits::calls::answer_of(
                 &hardware.slots,
                 &self.entries,
                 hardware.devices.input(),
@@ -207,7 +207,7 @@ impl Visor {
         ensures answer { WithTables (machine_of self.old hardware.old journal.old) (hw_given (machine_of self.old hardware.old journal.old) hart
             answer.now) (machine_of self.new hardware.new journal.new) }
     {
-        monitor_calls::give(
+        monitor_exits::calls::give(
             hart,
             &mut hardware.slots,
             &mut hardware.devices,

@@ -2,6 +2,7 @@
 //! each answer does to the hardware and to the journal; and the turns of a load.
 #![tactic(auto)]
 
+pub mod boot;
 mod exits;
 mod loads;
 mod visor;

@@ -13,7 +13,7 @@ use crate::visor::Visor;
 use hw_platform::Hardware;
 use machine_journal::Journal;
 use module_gate::load_turn;
-use monitor_calls::law_starts;
+use monitor_exits::calls::law_starts;
 
 impl Visor {
     /// A load of a hart is under way.

@@ -5,7 +5,7 @@ use Rattle.std.proofs.lemmas.Bool.{eqb-true, leb-true, not-true, ne_eqb}
 use Rattle.spec_processor.specs.Registers.{legal_status, legal_interrupts, legal_tvec, legal_counteren, legal_epc, legal_satp}
 use Rattle.spec_processor.specs.declared.mode.Mode.{Mode}
 use Rattle.spec_processor.specs.declared.mode.Mode.TheVariants.{Kernel, User}
-use Rattle.spec_saved_machine.specs.declared.harts.SavedHart.{SavedHart}
+use Rattle.spec_reference.specs.declared.saved_machine.harts.SavedHart.{SavedHart}
 use Rattle.snapshot_format.specs.FormLaw.{IsForm}
 use Rattle.snapshot_format.specs.Forms.{is_word, number, within, always}
 use Rattle.snapshot_format.specs.HartForms.{flag_number, flag, mode_of, is_user, mode, place_number, place_of, place, address_number, address_of, is_nonzero, is_reservable, reservation, multiple_of, legal, privilege, trap_status, status, registers, hart_parts, hart_of, begins_with_0, hart, harts}

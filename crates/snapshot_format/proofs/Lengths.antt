@@ -12,7 +12,7 @@ use Rattle.sv_types.specs.Limits.{max_disk_bytes, max_notes}
 use Rattle.sv_types.specs.declared.event.Verdict.{Verdict}
 use Rattle.sv_types.specs.declared.block.BlockState.{BlockState}
 use Rattle.spec_reference.specs.BlockDisk.{sector_size}
-use Rattle.spec_saved_machine.specs.declared.harts.SavedHart.{SavedHart}
+use Rattle.spec_reference.specs.declared.saved_machine.harts.SavedHart.{SavedHart}
 use Rattle.sv_types.specs.SbiCodes.{code_word}
 use Rattle.snapshot_format.specs.DeviceForms.{console, goes_with, has_beats, transfer, standing_status, block, holds_transfer, disk, devices, is_block, block_in, port}
 use Rattle.snapshot_format.specs.Forms.{Form, encode_number, is_word, number, byte, plain, nothing, within, and_then, ◌⨾◌, map_form, always, encode_all, has_all, list_form, counted_list, counted_bytes}

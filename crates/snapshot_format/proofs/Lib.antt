@@ -5,3 +5,13 @@ pub mod DeviceLaws
 pub mod JournalLaws
 pub mod Lengths
 pub mod SnapshotLaws
+pub mod ModuleSites
+pub mod SameProtections
+pub mod Spans
+pub mod TakenLoops
+pub mod TakenSpans
+pub mod WrittenLists
+pub mod ReadLists
+pub mod ReadRegisters
+pub mod ReadRows
+pub mod WholeRead

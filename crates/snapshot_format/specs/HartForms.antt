@@ -1,6 +1,6 @@
 -- The form of a hart. This project's own; the registers are those of the RISC-V Privileged manual, "Supervisor CSRs".
 use Rattle.std.specs.Prelude.{ℕ, ◌+◌, ◌-◌, ◌%◌, List, [], ◌∷◌, drop, Bool, true, false, not, ◌&&◌, ◌||◌, Option, Some, None, nat_le, ◌==◌, if◌then◌else◌}
-use Rattle.spec_saved_machine.specs.declared.harts.SavedHart.{SavedHart}
+use Rattle.spec_reference.specs.declared.saved_machine.harts.SavedHart.{SavedHart}
 use Rattle.snapshot_format.specs.Forms.{Form, number, within, and_then, ◌⨾◌, map_form, always, list_form}
 use Rattle.spec_processor.specs.Bytes.{instruction_size, is_ram_address}
 use Rattle.spec_processor.specs.IntegerRegisters.{register_count}

@@ -8,3 +8,10 @@ pub mod JournalForms
 pub mod Snapshots
 pub mod SnapshotLaw
 pub mod Typed
+pub mod Judgements
+pub mod ModuleSites
+pub mod ResumedStates
+pub mod Taking
+pub mod Reading
+pub mod Rows
+pub mod Views

@@ -1,8 +1,8 @@
 -- The bytes of a snapshot: a machine's parts one after the other, RAM last. This project's own.
 use Rattle.std.specs.Prelude.{ℕ, ◌*◌, ◌^◌, List, length, take, drop, Bool, Option, Result, Ok, Err, codes, nat_lt, nat_le, ◌==◌, if◌then◌else◌}
 use Rattle.std.specs.Str.{bytes_eq}
-use Rattle.spec_saved_machine.specs.declared.harts.SavedHart.{SavedHart}
-use Rattle.spec_saved_machine.specs.declared.whole.SavedLoad.{SavedLoad}
+use Rattle.spec_reference.specs.declared.saved_machine.harts.SavedHart.{SavedHart}
+use Rattle.spec_reference.specs.declared.saved_machine.whole.SavedLoad.{SavedLoad}
 use Rattle.snapshot_format.specs.DeviceForms.{Devices, devices}
 use Rattle.sv_types.specs.Steps.{◌>>=◌}
 use Rattle.snapshot_format.specs.Forms.{Taken, Form, number, plain, within, and_then, ◌⨾◌, map_form, always}

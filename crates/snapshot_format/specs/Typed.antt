@@ -10,8 +10,8 @@ use Rattle.sv_types.specs.declared.event.Rule.TheVariants.{Entry, Write}
 use Rattle.sv_types.specs.declared.event.Verdict.{Verdict}
 use Rattle.sv_types.specs.declared.event.Verdict.TheVariants.{Running, Shutdown, Stopped}
 use Rattle.sv_types.specs.declared.saved.ModulePlacement.{ModulePlacement}
-use Rattle.spec_saved_machine.specs.declared.harts.SavedHart.{SavedHart}
-use Rattle.spec_saved_machine.specs.declared.whole.SavedLoad.{SavedLoad}
+use Rattle.spec_reference.specs.declared.saved_machine.harts.SavedHart.{SavedHart}
+use Rattle.spec_reference.specs.declared.saved_machine.whole.SavedLoad.{SavedLoad}
 use Rattle.snapshot_format.specs.Forms.{is_word}
 use Rattle.snapshot_format.specs.Snapshots.{Contents}
 use Rattle.snapshot_format.specs.declared.whole.TextPage.{TextPage}

@@ -6,9 +6,12 @@ ghost use Rattle.snapshot_format.specs.SnapshotLaw.{SnapshotLaw};
 
 pub mod note_kind;
 pub mod protection_number;
+pub mod reader;
 mod refusal;
+pub mod resume;
 pub mod verdict_kind;
 mod whole;
+pub mod writer;
 
 pub use refusal::SnapRefusal;
 pub use whole::{MAGIC, MAGIC_BYTES, Snapshot, TextPage};

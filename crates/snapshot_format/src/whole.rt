@@ -1,6 +1,6 @@
 // A machine between two events, as a file keeps it.
 
-use spec_saved_machine::Saved;
+use spec_reference::saved_machine::Saved;
 use sv_types::Digest;
 
 /// The first bytes of a snapshot.

@@ -27,3 +27,5 @@ pub mod Start
 pub mod Origins
 pub mod Soundness
 pub mod Report
+pub mod SavedStates
+pub mod VirtioStates

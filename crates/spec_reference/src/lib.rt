@@ -9,6 +9,7 @@ ghost use Rattle.spec_reference.specs.States.{State, is_protected, protection};
 
 mod answers;
 mod rules;
+pub mod saved_machine;
 
 pub use answers::{Answer, Extension, Reply, SideEffect};
 pub use rules::pages_of;

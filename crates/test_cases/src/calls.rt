@@ -10,7 +10,7 @@ use secvisor_cli::{
     MAX_DISK_BYTES, MAX_FLAT_BYTES, MAX_IMAGE_BYTES, MAX_OBJECT_BYTES, MAX_POLICY_BYTES,
     MAX_SCRIPT_BYTES, Status,
 };
-use snapshot_reader::MAX_SNAPSHOT_BYTES;
+use snapshot_format::reader::MAX_SNAPSHOT_BYTES;
 use std::alloc::{AllocError, Global};
 use std::io;
 use std::io::Write;

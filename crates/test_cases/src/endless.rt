@@ -1,8 +1,8 @@
 // Files of the operating system that have no end.
 
 use crate::values::line_of;
-use host_files::RealFiles;
 use host_io::MemSink;
+use host_io::os_files::RealFiles;
 use live_keys::{MemKeys, Still};
 use secvisor_cli::Bench;
 use std::io;

@@ -5,8 +5,8 @@ ghost use Rattle.std.specs.Prelude.{◌<◌};
 use crate::line::{columns, is_next, number};
 use crate::names::name_of;
 use rv64_decode::decode;
+use rv64_encode::text::instruction_text;
 use rv64_exec::{Effect, Regs, amo, effect};
-use rv64_text::instruction_text;
 use std::alloc::{AllocError, Global};
 
 /// Where the vectors' instructions stood.

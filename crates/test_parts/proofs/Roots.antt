@@ -6,7 +6,7 @@ use Rattle.sv_types.specs.Views.{AreViews, OfKernel, OfUser, view_hgatp}
 use Rattle.spec_processor.specs.GStage.{WalksApart}
 use Rattle.sv_types.specs.declared.protection.Protection.{Protection}
 use Rattle.sv_types.specs.declared.view.View.TheVariants.{Kernel, User}
-use Rattle.laws_attempt.proofs.Views.{view_walks_apart}
+use Rattle.laws_simulation.proofs.Views.{view_walks_apart}
 
 pub roots_walk_apart : (r : Region) (ram_pages hgatp : ℕ) (protections : ℕ → Protection) → AreViews r.tables ram_pages [] protections
     → length r.ram ≡ page_size * ram_pages → (hgatp ≡ view_hgatp Kernel) ⊎ (hgatp ≡ view_hgatp User) → WalksApart r hgatp

@@ -6,10 +6,10 @@ ghost use Rattle.sv_types.specs.declared.protection.Protection.TheVariants.{Appr
 ghost use Rattle.gstage_tables.specs.Layout.{table_size};
 
 use crate::modes::{hypervisor_registers, registers_after};
-use gstage_cache::Cache;
 use gstage_tables::Trees;
 use hart::{Core, Cpu, Outcome, Wrote};
 use host_mem::HostMem;
+use hw_tlb::gstage_cache::Cache;
 use spec_processor::{Cause, Exit, ExitCause, Interrupt, Lines, Mode};
 use std::alloc::{AllocError, Global};
 use std::process::Abort;

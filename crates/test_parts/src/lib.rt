@@ -5,6 +5,8 @@
 
 #[cfg(test)]
 mod attempts;
+pub mod edges;
+pub mod examples;
 #[cfg(test)]
 mod fields;
 #[cfg(test)]

@@ -5,7 +5,7 @@ ghost use Rattle.spec_processor.specs.Regions.{max_ram_pages};
 
 use elf64_load::{ElfRefusal, read_kernel};
 use host_mem::HostMem;
-use monitor_boot::fill_ram;
+use secvisor_core::boot::fill_ram;
 use std::alloc::{AllocError, Global};
 use std::test::Fail;
 

@@ -2,9 +2,9 @@
 ghost use Rattle.std.specs.Prelude.{◌≡◌, ◌&&◌, nat_eq, nat_le, IfOk};
 ghost use Rattle.std.specs.List.{list_any};
 
-use delta_debugging::{Stops, minimize};
-use run_tally::{Outcome, sweep_text, tally_runs};
 use script::EventRun;
+use script_lines::delta_debugging::{Stops, minimize};
+use script_lines::tally::{Outcome, sweep_text, tally_runs};
 use script_lines::{script_text, shrink_lines};
 use std::alloc::AllocError;
 use std::thread::Threads;

@@ -1,6 +1,6 @@
 // Calls over the files of the operating system, standard input and standard output, as the program makes them.
 
-use host_files::{RealFiles, StdSink};
+use host_io::os_files::{RealFiles, StdSink};
 use live_keys::{ReaderKeys, Still};
 use secvisor_cli::Bench;
 use std::alloc::{AllocError, Global};

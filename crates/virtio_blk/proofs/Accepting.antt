@@ -5,7 +5,7 @@ use Rattle.std.proofs.lemmas.List.{take-append-le, drop-append-le, get_or_append
 use Rattle.std.proofs.lemmas.List.Folds.{list_all_at}
 use Rattle.spec_reference.specs.VirtioChain.{no_part, between, max_parts, data_of, result_of}
 use Rattle.spec_reference.specs.VirtioRequests.{bytes_in, data_moves, moves_by, last_moves}
-use Rattle.spec_saved_machine.specs.VirtioStates.{behind, moves_left}
+use Rattle.spec_reference.specs.VirtioStates.{behind, moves_left}
 use Rattle.virtio_blk.specs.Held.{padded_parts, new_of}
 use Rattle.sv_types.specs.declared.virtio.VirtioMove.{VirtioMove}
 use Rattle.sv_types.specs.declared.virtio.VirtioPart.{VirtioPart}

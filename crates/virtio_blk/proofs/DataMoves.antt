@@ -5,7 +5,7 @@ use Rattle.std.proofs.lemmas.List.{drop_more, take_more, get_or-drop}
 use Rattle.spec_reference.specs.VirtioChain.{no_part, between}
 use Rattle.spec_reference.specs.VirtioRequests.{bytes_in, piece_size, piece, pieces, data_moves}
 use Rattle.spec_reference.specs.VirtioBeats.{is_last}
-use Rattle.spec_saved_machine.specs.VirtioStates.{behind}
+use Rattle.spec_reference.specs.VirtioStates.{behind}
 use Rattle.sv_types.specs.declared.virtio.VirtioMove.{VirtioMove}
 use Rattle.sv_types.specs.declared.virtio.VirtioPart.{VirtioPart}
 

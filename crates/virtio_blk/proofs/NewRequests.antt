@@ -6,7 +6,7 @@ use Rattle.std.proofs.lemmas.List.{get_or-drop, get_or-take, length-replicate, l
 use Rattle.spec_processor.specs.Bytes.{in_ram}
 use Rattle.spec_reference.specs.VirtioChain.{no_part, between, data_of}
 use Rattle.spec_reference.specs.VirtioRequests.{bytes_in, lies_in, fits_type, are_sectors, can_move, result_by}
-use Rattle.spec_saved_machine.specs.VirtioStates.{behind}
+use Rattle.spec_reference.specs.VirtioStates.{behind}
 use Rattle.virtio_blk.specs.Held.{padded_parts, new_of, IsPlaced, IsOnDisk}
 use Rattle.sv_types.specs.declared.virtio.VirtioPart.{VirtioPart}
 use Rattle.virtio_blk.proofs.DataMoves.{between_none, behind_none}

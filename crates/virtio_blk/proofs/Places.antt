@@ -5,7 +5,7 @@ use Rattle.std.proofs.lemmas.List.{drop-drop}
 use Rattle.spec_reference.specs.VirtioChain.{between}
 use Rattle.spec_reference.specs.VirtioRequests.{bytes_in, piece_size, piece, data_moves, last_moves}
 use Rattle.spec_reference.specs.VirtioBeats.{is_last}
-use Rattle.spec_saved_machine.specs.VirtioStates.{behind, part_at, last_place, data_left, disk_offset, last_left, moves_left}
+use Rattle.spec_reference.specs.VirtioStates.{behind, part_at, last_place, data_left, disk_offset, last_left, moves_left}
 use Rattle.virtio_blk.specs.Held.{first_move, IsPlaced, IsOnDisk, IsSame, CanBeMade}
 use Rattle.virtio_blk.proofs.DataMoves.{between_first, between_none, bytes_in_more, data_moves_first, data_moves_passed, data_moves_none, data_moves_not_last, behind_none, after_more}
 use Rattle.sv_types.specs.declared.virtio.VirtioMove.{VirtioMove}

@@ -7,7 +7,7 @@ use Rattle.spec_reference.specs.VirtioQueue.{ring_header_size, available_entry_s
 use Rattle.spec_reference.specs.VirtioStores.{is_size, descriptors_alignment, available_alignment, used_alignment}
 use Rattle.spec_reference.specs.VirtioChain.{descriptor_size, header_size, no_part, max_parts, header_of, least_parts}
 use Rattle.spec_reference.specs.VirtioRequests.{bytes_in}
-use Rattle.spec_saved_machine.specs.VirtioStates.{last_place, part_at, data_left, disk_offset, moves_left, virtio_of}
+use Rattle.spec_reference.specs.VirtioStates.{last_place, part_at, data_left, disk_offset, moves_left, virtio_of}
 use Rattle.sv_types.specs.declared.virtio.VirtioMove.{VirtioMove}
 use Rattle.sv_types.specs.declared.virtio.VirtioPart.{VirtioPart}
 use Rattle.sv_types.specs.declared.virtio.VirtioRequest.{VirtioRequest}

@@ -9,7 +9,7 @@ ghost use Rattle.spec_reference.specs.VirtioQueue.{rings_in_ram, available_index
 ghost use Rattle.spec_reference.specs.VirtioChain.{no_part, data_of, result_of, chain, max_parts};
 ghost use Rattle.spec_reference.specs.VirtioRequests.{type_of, sector_of, result_by, moves_by, last_moves};
 ghost use Rattle.spec_reference.specs.VirtioBeats.{accept_request, accept, look};
-ghost use Rattle.spec_saved_machine.specs.VirtioStates.{request_of};
+ghost use Rattle.spec_reference.specs.VirtioStates.{request_of};
 ghost use Rattle.virtio_blk.specs.Held.{HaveRings, HasHeader, IsPlaced, IsOnDisk, device_of, padded_parts, new_of};
 ghost use Rattle.spec_reference.specs.VirtioDevice.{index_values};
 

@@ -8,7 +8,7 @@ ghost use Rattle.spec_reference.specs.Disk.{is_writable};
 ghost use Rattle.spec_reference.specs.Move.{OutsideRam};
 ghost use Rattle.dma_guard.specs.Transfers.{beat_of, after_move};
 ghost use Rattle.spec_reference.specs.VirtioBeats.{broken_beat, last_moves_alone, with_written, with_request, finish_request, is_last, make, make_first, to_memory, to_disk, put_last, is_live, virtio_beat};
-ghost use Rattle.spec_saved_machine.specs.VirtioStates.{request_of, moves_left};
+ghost use Rattle.spec_reference.specs.VirtioStates.{request_of, moves_left};
 ghost use Rattle.virtio_blk.specs.Held.{IsPlaced, IsOnDisk, CanBeMade, device_of};
 
 use crate::Virtio;
@@ -29,7 +29,7 @@ const REQUEST_DONE: u32 = 1;
 const STATE_CHANGED: u32 = 2;
 
 // The request after a move that wrote so many bytes into memory.
-#[tactic(auto, unfolding(spec_saved_machine::specs::VirtioStates::moves_left))]
+#[tactic(auto, unfolding(spec_reference::specs::VirtioStates::moves_left))]
 fn with_written(request: &VirtioRequest, size: u64) -> VirtioRequest
     requires small { size ≤ beat_size }
     ensures request { (accepted : ℕ) → request_of accepted result ≡ with_written (request_of accepted request.now) size }

@@ -4,7 +4,7 @@ ghost use Rattle.std.specs.Prelude.{◌≡◌, ℕ, ◌+◌, ◌-◌, ◌^◌, �
 ghost use Rattle.spec_reference.specs.VirtioQueue.{used_gpa};
 ghost use Rattle.spec_reference.specs.VirtioRequests.{piece_size, piece};
 ghost use Rattle.spec_reference.specs.VirtioBeats.{is_last};
-ghost use Rattle.spec_saved_machine.specs.VirtioStates.{part_at, last_place, disk_offset, last_left, moves_left};
+ghost use Rattle.spec_reference.specs.VirtioStates.{part_at, last_place, disk_offset, last_left, moves_left};
 ghost use Rattle.virtio_blk.specs.Held.{IsPlaced, IsOnDisk, IsSame, CanBeMade, first_move, tail_moves};
 ghost use Rattle.spec_reference.specs.VirtioDevice.{index_values};
 ghost use Rattle.spec_reference.specs.VirtioStores.{used_alignment};

@@ -1,4 +1,4 @@
-use Rattle.cli_words.specs.Values.{measure_split_of}
+use Rattle.cli_plans.specs.Values.{measure_split_of}
 use Rattle.cli_plans.proofs.WordLemmas.{has_module_names}
 use Rattle.cli_plans.proofs.asking.ask_measure.Goals as goal
 

@@ -3,7 +3,7 @@ use Rattle.sv_types.specs.declared.event.Note.{Note}
 use Rattle.sv_types.specs.declared.event.Verdict.{Verdict}
 use Rattle.sv_types.specs.declared.status.Status.{Status}
 use Rattle.spec_reference.specs.Report.{report}
-use Rattle.survey_findings.specs.Views.{writes_view}
+use Rattle.report.specs.Views.{writes_view}
 use Rattle.host_io.specs.declared.trouble.Trouble.TheVariants.{Write}
 use Rattle.secvisor_cli.specs.Answers.{Writes as WritesAll, is_answer}
 use Rattle.secvisor_cli.proofs.ReadyLemmas.{err_by}

@@ -1,5 +1,5 @@
 use Rattle.std.proofs.Common.{◌∙◌, ap, sym}
-use Rattle.survey_findings.specs.Views.{writes_view}
+use Rattle.report.specs.Views.{writes_view}
 use Rattle.cli_survey.specs.Surveys.{is_running}
 use Rattle.cli_survey.proofs.SurveyLemmas.{keeps_writes, pass_running, running_is}
 use Rattle.cli_survey.proofs.surveying.goes_on.Goals as goal

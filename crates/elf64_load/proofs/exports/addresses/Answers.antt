@@ -1,5 +1,5 @@
 use Rattle.std.proofs.Common.{◌∙◌, arith}
-use Rattle.elf64_sections.specs.Sections.{symbol_count}
+use Rattle.elf64_load.specs.Sections.{symbol_count}
 use Rattle.elf64_load.specs.Exports.{address_of}
 use Rattle.elf64_load.proofs.ExportsFound.{address_before, none_found, all_found}
 use Rattle.elf64_load.proofs.exports.addresses.Goals as goal

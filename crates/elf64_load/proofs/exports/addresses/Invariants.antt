@@ -1,6 +1,6 @@
 use Rattle.std.proofs.Common.{◌≡◌, ℕ, ◌-◌, List}
-use Rattle.elf64_sections.specs.Sections.{symbols_from, symbol_count}
-use Rattle.elf64_sections.specs.NameTables.{number_by_name}
+use Rattle.elf64_load.specs.Sections.{symbols_from, symbol_count}
+use Rattle.elf64_load.specs.NameTables.{number_by_name}
 use Rattle.elf64_load.specs.Exports.{address_among}
 use Rattle.elf64_load.proofs.exports.addresses.Given as goal
 

@@ -2,12 +2,12 @@ use Rattle.std.proofs.Common.{◌≡◌, ◌∙◌, ◌+◌, ◌<◌, ◌≤◌,
 use Rattle.std.proofs.lemmas.List.{at_drop_more, at_drop_all}
 use Rattle.sv_types.specs.declared.image_fault.ImageFault.{ImageFault}
 use Rattle.sv_types.specs.declared.policy.Export.{Export}
-use Rattle.elf64_sections.proofs.Refusals.{refusal_known}
+use Rattle.elf64_load.proofs.Refusals.{refusal_known}
 use Rattle.sv_types.specs.Steps.{◌>>=◌}
-use Rattle.elf64_sections.specs.Judged.{each}
-use Rattle.elf64_sections.specs.Sections.{Tables}
-use Rattle.elf64_sections.specs.Views.{tables_view}
-use Rattle.elf64_sections.specs.NameTables as at_name
+use Rattle.elf64_load.specs.Judged.{each}
+use Rattle.elf64_load.specs.Sections.{Tables}
+use Rattle.elf64_load.specs.Views.{tables_view}
+use Rattle.elf64_load.specs.NameTables as at_name
 use Rattle.elf64_load.specs.Exports.{address_of, export_at, export_of}
 use Rattle.elf64_load.specs.Refusals.{Judged, Refuses, as_answer}
 use Rattle.elf64_load.specs.declared.read.ElfRefusal.TheVariants.{Fault, Memory}

@@ -1,6 +1,6 @@
 use Rattle.std.proofs.Common.{◌≡◌, [], drop}
-use Rattle.elf64_sections.specs.Judged.{each}
-use Rattle.elf64_sections.specs.Views.{tables_view}
+use Rattle.elf64_load.specs.Judged.{each}
+use Rattle.elf64_load.specs.Views.{tables_view}
 use Rattle.elf64_load.specs.Exports.{export_of}
 use Rattle.elf64_load.proofs.exports.exports_in.Given as goal
 

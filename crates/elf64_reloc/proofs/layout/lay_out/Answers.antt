@@ -1,6 +1,6 @@
 use Rattle.std.proofs.Common.{List, ◌++◌, sym, ap, ◌∙◌}
 use Rattle.std.proofs.lemmas.List.{append-nil, at_drop_all}
-use Rattle.elf64_sections.specs.declared.sections.SectionHeader.{SectionHeader}
+use Rattle.elf64_load.specs.declared.sections.sections.SectionHeader.{SectionHeader}
 use Rattle.elf64_reloc.specs.Layouts.{placed_from, ends_from}
 use Rattle.elf64_reloc.specs.declared.layout.Ends.{Ends}
 use Rattle.elf64_reloc.proofs.Lists.{placed_more, ends_more}

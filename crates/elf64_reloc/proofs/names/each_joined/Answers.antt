@@ -1,8 +1,8 @@
 use Rattle.std.proofs.Common.{◌≡◌, ◌+◌, ◌<◌, ℕ, List, [], length, drop, get_or, Ok, ap, sym, ◌∙◌}
 use Rattle.std.proofs.lemmas.List.{drop_more}
-use Rattle.elf64_sections.proofs.Refusals.{refusal_known}
-use Rattle.elf64_sections.specs.Sections.{Tables}
-use Rattle.elf64_sections.specs.Views.{tables_view}
+use Rattle.elf64_load.proofs.Refusals.{refusal_known}
+use Rattle.elf64_load.specs.Sections.{Tables}
+use Rattle.elf64_load.specs.Views.{tables_view}
 use Rattle.sv_types.specs.Steps.{◌>>=◌}
 use Rattle.elf64_reloc.specs.Modules.{each_joined, joined_by}
 use Rattle.elf64_reloc.specs.NameKeys.{names_of}

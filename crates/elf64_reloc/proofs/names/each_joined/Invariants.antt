@@ -1,5 +1,5 @@
 use Rattle.std.proofs.Common.{◌≡◌, [], drop}
-use Rattle.elf64_sections.specs.Views.{tables_view}
+use Rattle.elf64_load.specs.Views.{tables_view}
 use Rattle.elf64_reloc.specs.Modules as spec
 use Rattle.elf64_reloc.specs.NameKeys.{names_of, AreNamed}
 use Rattle.elf64_reloc.proofs.names.each_joined.Given as goal

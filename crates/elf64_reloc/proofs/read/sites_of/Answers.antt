@@ -3,7 +3,7 @@ use Rattle.std.specs.Prelude.{find, IfOk, IfErr}
 use Rattle.std.specs.BTreeMap.{get}
 use Rattle.std.specs.Ordering.{nat_cmp}
 use Rattle.sv_types.specs.declared.module.Site.{Site}
-use Rattle.elf64_sections.specs.NameTables.{number_by_name}
+use Rattle.elf64_load.specs.NameTables.{number_by_name}
 use Rattle.elf64_reloc.specs.Modules.{is_high_at}
 use Rattle.elf64_reloc.specs.Refusals.{Judged, Refuses}
 use Rattle.elf64_reloc.specs.Views.{object_view}

@@ -1,6 +1,6 @@
 use Rattle.std.proofs.Common.{◌≡◌, ◌+◌, ◌<◌, ℕ, List, ◌++◌, length, drop, get_or, append_assoc, ap, sym, ◌∙◌}
 use Rattle.std.proofs.lemmas.List.{drop_more}
-use Rattle.elf64_sections.specs.declared.sections.SectionHeader.{SectionHeader}
+use Rattle.elf64_load.specs.declared.sections.sections.SectionHeader.{SectionHeader}
 use Rattle.elf64_reloc.specs.Objects.{is_good_part}
 use Rattle.elf64_reloc.specs.Relocations.{all_relocations, relocations_of}
 use Rattle.elf64_reloc.specs.declared.layout.PlacedSection.{PlacedSection}

@@ -1,7 +1,7 @@
 use Rattle.std.proofs.Common.{◌≡◌, ◌+◌, ◌<◌, ℕ, List, [], ◌++◌, length, drop, get_or, Err, refl, ap, sym, ◌∙◌}
 use Rattle.std.proofs.lemmas.List.{at_drop_all, drop_more}
 use Rattle.sv_types.specs.declared.module.Site.{Site}
-use Rattle.elf64_sections.proofs.Refusals.{refusal_known}
+use Rattle.elf64_load.proofs.Refusals.{refusal_known}
 use Rattle.sv_types.specs.Steps.{◌>>=◌}
 use Rattle.elf64_reloc.specs.JudgingViews.{judging_view}
 use Rattle.elf64_reloc.specs.Modules.{Judging, each_judged, fields_judged, found_sites}

@@ -2,7 +2,7 @@ use Rattle.std.proofs.Common.{◌≡◌, ℕ, ◌+◌, ◌≤◌, List, [], ◌+
 use Rattle.spec_processor.specs.Bytes.{page_size}
 use Rattle.std.specs.List.{list_all}
 use Rattle.std.proofs.lemmas.List.{at_drop_all}
-use Rattle.elf64_sections.specs.declared.sections.SectionHeader.{SectionHeader}
+use Rattle.elf64_load.specs.declared.sections.sections.SectionHeader.{SectionHeader}
 use Rattle.elf64_reloc.specs.Layouts.{is_good_alignment, padding}
 use Rattle.elf64_reloc.specs.Modules.{text_from, text_of, whole_pages, zeros}
 use Rattle.elf64_reloc.specs.Objects.{is_good_part}

@@ -1,5 +1,5 @@
 use Rattle.std.proofs.Common.{◌≡◌, ◌+◌, ◌-◌, ◌*◌, ◌%◌, ◌<◌, ◌∙◌, suc, sym, subst, arith}
-use Rattle.gstage_cache.specs.Fills.{filled_further}
+use Rattle.hw_tlb.specs.Fills.{filled_further}
 use Rattle.hw_tlb.specs.declared.entries.Entries.{Entries}
 use Rattle.hw_tlb.specs.Kept.{Above, IsThere, IsPlace, EndsAt}
 use Rattle.hw_tlb.proofs.Levels.{GoOn, with_more, with_all, goes_on, ends_there, nowhere_over, nowhere_unread}

@@ -1,5 +1,5 @@
 use Rattle.sv39_walk.specs.Levels.{IsTable}
-use Rattle.gstage_cache.specs.CacheWalks.{Walked}
+use Rattle.hw_tlb.specs.CacheWalks.{Walked}
 use Rattle.hw_tlb.specs.Kept.{Above, IsThere, IsPlace}
 use Rattle.hw_tlb.proofs.Levels.{GoOn}
 use Rattle.hw_tlb.proofs.walk.read_entries.Given as goal

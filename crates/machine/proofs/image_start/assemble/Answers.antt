@@ -1,6 +1,6 @@
 use Rattle.std.proofs.Common.{◌≡◌}
 use Rattle.std.proofs.lemmas.Result.{IfOk-weaker}
-use Rattle.laws_standing.specs.Starts.{machine_at_boot, image_machine}
+use Rattle.laws_resume.specs.Starts.{machine_at_boot, image_machine}
 use Rattle.elf64_load.specs.Images.{segments_of}
 use Rattle.hw_devices.specs.Ports.{port_disk}
 use Rattle.sv_types.specs.Policies.{rules_of}

@@ -1,4 +1,4 @@
-use Rattle.laws_standing.proofs.StartsStand.{flat_start_law}
+use Rattle.laws_resume.proofs.StartsStand.{flat_start_law}
 use Rattle.machine.proofs.start.flat.Goals as goal
 
 pub returns-clause-new : goal.returns-clause-new

@@ -1,5 +1,5 @@
 use Rattle.std.proofs.Common.{◌∙◌}
-use Rattle.machine_resume.proofs.Regions.{tables_sized}
+use Rattle.machine.proofs.Regions.{tables_sized}
 use Rattle.machine.proofs.Starting.{pages_fit, pages_copied}
 use Rattle.machine.proofs.start.flat_region.Goals as goal
 

@@ -1,6 +1,6 @@
 use Rattle.std.proofs.Common.{◌≡◌, ◌≤◌, length}
 use Rattle.monitor_exits.specs.HwOfSlots.{hw_harts_of}
-use Rattle.laws_standing.specs.Starts.{hw_harts_at_boot}
+use Rattle.laws_resume.specs.Starts.{hw_harts_at_boot}
 use Rattle.machine.proofs.start.slots_at_boot.Given as goal
 
 -- the harts so far

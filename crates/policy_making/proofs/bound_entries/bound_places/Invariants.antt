@@ -1,5 +1,5 @@
 use Rattle.std.proofs.Common.{◌≡◌, [], drop, map}
-use Rattle.elf64_sections.specs.Judged.{each}
+use Rattle.elf64_load.specs.Judged.{each}
 use Rattle.elf64_load.specs.Images.{segment_of}
 use Rattle.policy_making.specs.Binding.{bound_place}
 use Rattle.policy_making.proofs.bound_entries.bound_places.Given as goal

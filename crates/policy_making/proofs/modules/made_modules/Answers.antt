@@ -1,8 +1,8 @@
 use Rattle.std.proofs.Common.{◌≡◌, ◌∙◌, ◌+◌, ◌<◌, ◌≤◌, ℕ, List, [], ◌∷◌, ◌++◌, length, map, drop, get_or, Ok, refl, ap, sym}
 use Rattle.std.proofs.lemmas.List.{at_drop_more, at_drop_all, map-append}
-use Rattle.elf64_sections.proofs.Refusals.{refusal_known}
+use Rattle.elf64_load.proofs.Refusals.{refusal_known}
 use Rattle.sv_types.specs.Steps.{◌>>=◌}
-use Rattle.elf64_sections.specs.Judged.{each}
+use Rattle.elf64_load.specs.Judged.{each}
 use Rattle.sv_types.specs.Policies.{ModuleRule, module_rule}
 use Rattle.sv_types.specs.declared.policy.Export.{Export}
 use Rattle.sv_types.specs.declared.policy.ModulePolicy.{ModulePolicy}

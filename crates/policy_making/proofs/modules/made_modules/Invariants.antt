@@ -1,5 +1,5 @@
 use Rattle.std.proofs.Common.{◌≡◌, [], drop, map}
-use Rattle.elf64_sections.specs.Judged.{each}
+use Rattle.elf64_load.specs.Judged.{each}
 use Rattle.sv_types.specs.Policies.{module_rule}
 use Rattle.policy_making.specs.Making.{module_made, file_of}
 use Rattle.policy_making.proofs.modules.made_modules.Given as goal

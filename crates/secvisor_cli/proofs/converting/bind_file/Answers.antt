@@ -4,7 +4,7 @@ use Rattle.elf64_load.specs.Images.{segments_of}
 use Rattle.secvisor_cli.specs.declared.ready.Stop.TheVariants.{Memory}
 use Rattle.cli_plans.specs.Plans.{bound_plan, kernel_part}
 use Rattle.secvisor_cli.specs.Ready.{Prepares, stop_of_binding}
-use Rattle.cli_words.specs.Values.{convert_split_of}
+use Rattle.cli_plans.specs.Values.{convert_split_of}
 use Rattle.secvisor_cli.proofs.ReadyLemmas.{err_by}
 use Rattle.secvisor_cli.proofs.StageLemmas.{kernel_stopped}
 use Rattle.secvisor_cli.proofs.ConvertLemmas.{bound_ready, bound_stops, bound_wants, of_kernel}

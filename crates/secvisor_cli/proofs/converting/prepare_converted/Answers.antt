@@ -3,7 +3,7 @@ use Rattle.sv_types.specs.Policies.{rules_of}
 use Rattle.cli_plans.specs.declared.file_fault.Part.{Part}
 use Rattle.cli_plans.specs.Plans.{max_image_bytes, policy_part, kernel_part, bound_plan, binding_plan, convert_plan}
 use Rattle.secvisor_cli.specs.Ready.{Prepares}
-use Rattle.cli_words.specs.Values.{convert_split_of}
+use Rattle.cli_plans.specs.Values.{convert_split_of}
 use Rattle.secvisor_cli.proofs.ReadyLemmas.{err_by, stopped_ready, read_ready}
 use Rattle.secvisor_cli.proofs.StageLemmas.{pass_ready}
 use Rattle.secvisor_cli.proofs.converting.prepare_converted.Goals as goal

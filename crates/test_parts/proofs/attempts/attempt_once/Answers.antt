@@ -1,6 +1,6 @@
 use Rattle.sv_types.specs.Views.{protect, all_free}
 use Rattle.sv_types.specs.declared.protection.Protection.TheVariants.{Approved}
-use Rattle.gstage_cache.proofs.Lines.{none_agrees}
+use Rattle.hw_tlb.proofs.GstageCacheLines.{none_agrees}
 use Rattle.test_parts.proofs.Roots.{roots_walk_apart}
 use Rattle.test_parts.proofs.attempts.attempt_once.Goals as goal
 

@@ -1,7 +1,7 @@
 use Rattle.std.proofs.Common.{ap}
 use Rattle.spec_processor.specs.Regions.{Region}
 use Rattle.elf64_load.specs.Images.{segments_of}
-use Rattle.monitor_boot.proofs.Accepted.{image_placed}
+use Rattle.secvisor_core.proofs.Accepted.{image_placed}
 use Rattle.test_parts.proofs.loading.ram_of_file.Goals as goal
 
 pub fill_ram-requires-clause-zeros : goal.fill_ram-requires-clause-zeros

@@ -2,7 +2,7 @@ use Rattle.std.proofs.Common.{◌∙◌, List, sym, ap, subst}
 use Rattle.spec_reference.specs.VirtioDevice.{Request}
 use Rattle.spec_reference.specs.VirtioRequests.{type_of, sector_of, result_by}
 use Rattle.spec_reference.specs.VirtioChain.{data_of}
-use Rattle.spec_saved_machine.specs.VirtioStates.{request_of}
+use Rattle.spec_reference.specs.VirtioStates.{request_of}
 use Rattle.virtio_blk.specs.Held.{IsPlaced, IsOnDisk}
 use Rattle.sv_types.specs.declared.virtio.VirtioMove.{VirtioMove}
 use Rattle.virtio_blk.proofs.Accepting.{new_moves}

@@ -1,5 +1,5 @@
 use Rattle.std.proofs.Common.{◌≡◌, ℕ, ◌+◌, ◌<◌, ◌≤◌, refl, sym, subst, arith}
-use Rattle.spec_saved_machine.specs.VirtioStates.{part_at, last_place}
+use Rattle.spec_reference.specs.VirtioStates.{part_at, last_place}
 use Rattle.virtio_blk.specs.Held.{IsPlaced, IsSame}
 use Rattle.virtio_blk.proofs.Places.{passed_placed, passed_same}
 use Rattle.virtio_blk.proofs.moves.settle.Goals as goal

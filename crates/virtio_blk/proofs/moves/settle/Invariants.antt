@@ -1,5 +1,5 @@
 use Rattle.std.proofs.Common.{◌≡◌}
-use Rattle.spec_saved_machine.specs.VirtioStates.{last_place}
+use Rattle.spec_reference.specs.VirtioStates.{last_place}
 use Rattle.virtio_blk.specs.Held.{IsPlaced, IsSame}
 use Rattle.virtio_blk.proofs.moves.settle.Given as goal
 

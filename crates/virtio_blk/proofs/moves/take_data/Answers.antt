@@ -1,6 +1,6 @@
 use Rattle.std.proofs.Common.{◌≡◌, ℕ, ◌+◌, ◌-◌, ◌∷◌, ◌∙◌, sym, ap, subst, arith}
 use Rattle.spec_reference.specs.VirtioRequests.{piece_size, piece}
-use Rattle.spec_saved_machine.specs.VirtioStates.{part_at, disk_offset, moves_left}
+use Rattle.spec_reference.specs.VirtioStates.{part_at, disk_offset, moves_left}
 use Rattle.virtio_blk.specs.Held.{CanBeMade}
 use Rattle.sv_types.specs.declared.virtio.VirtioMove.{VirtioMove}
 use Rattle.virtio_blk.proofs.DataMoves.{piece_size_most}

@@ -1,5 +1,5 @@
 use Rattle.std.proofs.Common.{◌≡◌, ◌^◌, ◌∙◌, drop, sym, ap, subst, arith}
-use Rattle.spec_saved_machine.specs.VirtioStates.{last_place}
+use Rattle.spec_reference.specs.VirtioStates.{last_place}
 use Rattle.virtio_blk.specs.Held.{first_move}
 use Rattle.sv_types.specs.declared.virtio.VirtioRequest.{VirtioRequest}
 use Rattle.virtio_blk.proofs.Places.{last_moves_left, no_data}

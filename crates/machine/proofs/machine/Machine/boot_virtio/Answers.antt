@@ -5,7 +5,7 @@ use Rattle.spec_reference.specs.Soundness.{IsSoundDisk}
 use Rattle.spec_reference.specs.Start.{image_start, virtio_start}
 use Rattle.spec_reference.specs.States.{Disk}
 use Rattle.spec_hardware.specs.Reaches.{IsNew}
-use Rattle.laws_invariants.proofs.StartsSound.{virtio_quiet}
+use Rattle.laws_simulation.proofs.StartsSound.{virtio_quiet}
 use Rattle.machine.proofs.machine.Machine.boot_virtio.Goals as goal
 
 pub boot_after-requires-clause-quiet : goal.boot_after-requires-clause-quiet

@@ -2,7 +2,7 @@ use Rattle.std.proofs.Common.{◌≡◌, ◌<◌, sym, ap, subst, arith}
 use Rattle.spec_hardware.specs.Machine.{Machine}
 use Rattle.spec_hardware.specs.StandsFor.{StandsFor}
 use Rattle.machine.proofs.Stepped.{Bounded, cleared_stands, cleared_bounded}
-use Rattle.machine_events.specs.Batches.{AreFreeWhere}
+use Rattle.machine.specs.Batches.{AreFreeWhere}
 use Rattle.machine.proofs.machine.Machine.clear_printed.Goals as goal
 
 pub clear_printed-requires : goal.clear_printed-requires

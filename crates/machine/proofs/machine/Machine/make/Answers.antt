@@ -9,7 +9,7 @@ use Rattle.machine.proofs.Ready.{guarded, may_turn}
 use Rattle.machine.proofs.Repeated.{step_counts}
 use Rattle.machine.proofs.Reservations.{step_free}
 use Rattle.machine.proofs.Stepped.{step_bounded, step_happens, step_stands}
-use Rattle.machine_events.specs.Batches.{AreFreeWhere}
+use Rattle.machine.specs.Batches.{AreFreeWhere}
 use Rattle.machine.proofs.machine.Machine.make.Goals as goal
 
 pub step-requires-clause-guarded : goal.step-requires-clause-guarded

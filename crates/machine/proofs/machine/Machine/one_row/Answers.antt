@@ -9,7 +9,7 @@ use Rattle.machine.proofs.Reservations.{free_where, leaving_free}
 use Rattle.machine.proofs.Batches.{Rowed}
 use Rattle.machine.specs.Limits.{max_counts}
 use Rattle.machine.specs.Repeats.{MadeInBatch}
-use Rattle.machine_events.specs.Batches.{MayBatch}
+use Rattle.machine.specs.Batches.{MayBatch}
 use Rattle.machine.proofs.machine.Machine.one_row.Goals as goal
 
 pub batch-batch-requires-clause-may : goal.batch-batch-requires-clause-may

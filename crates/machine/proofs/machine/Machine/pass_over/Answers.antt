@@ -2,11 +2,11 @@ use Rattle.std.proofs.Common.{◌≡◌, ◌+◌, ◌*◌, ◌<◌, ◌≤◌, �
 use Rattle.spec_hardware.specs.Machine.{Machine}
 use Rattle.spec_hardware.specs.StandsFor.{StandsFor}
 use Rattle.spec_reference.specs.States.{State}
-use Rattle.machine_events.specs.Batches.{AreFreeWhere}
+use Rattle.machine.specs.Batches.{AreFreeWhere}
 use Rattle.machine.proofs.Passes.{pass_rest, free_after, pass_addresses}
-use Rattle.laws_survey.specs.HwPassing.{hw_passed_over}
-use Rattle.laws_survey.specs.Passing.{passed_over}
-use Rattle.laws_survey.proofs.HwPassesHold.{hw_pass_law}
+use Rattle.laws_simulation.specs.HwPassing.{hw_passed_over}
+use Rattle.laws_simulation.specs.Passing.{passed_over}
+use Rattle.laws_simulation.proofs.HwPassesHold.{hw_pass_law}
 use Rattle.machine.proofs.machine.Machine.pass_over.Goals as goal
 
 pub returns-clause-stands : goal.returns-clause-stands

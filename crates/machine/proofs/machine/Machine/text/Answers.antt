@@ -1,7 +1,7 @@
 use Rattle.std.proofs.Common.{◌≡◌, subst}
 use Rattle.std.specs.Prelude.{IfOk}
 use Rattle.spec_hardware.specs.Machine.{Machine}
-use Rattle.laws_resumed_start.specs.TextPages.{text_in}
+use Rattle.laws_resume.specs.TextPages.{text_in}
 use Rattle.machine.proofs.Texts.{pages_few, ram_paged, text_states}
 use Rattle.machine.proofs.machine.Machine.text.Goals as goal
 

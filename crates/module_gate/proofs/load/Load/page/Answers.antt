@@ -6,7 +6,7 @@ use Rattle.sv_types.specs.Policies.{rules_of, module_rule}
 use Rattle.spec_reference.specs.Loads.{module_bases}
 use Rattle.spec_reference.specs.Relocations.{masked_text, fields_right}
 use Rattle.spec_reference.specs.States.{pages_in_rule}
-use Rattle.monitor_fields.specs.Pieces.{piece_sites, IsAligned}
+use Rattle.page_measure.specs.Pieces.{piece_sites, IsAligned}
 use Rattle.module_gate.specs.Gates.{Progress, Records, hw_load, next_counted, with_digests}
 use Rattle.module_gate.specs.InsideLoad.{progress_of}
 use Rattle.module_gate.proofs.ModuleRules.{aligned_sites}

@@ -1,7 +1,7 @@
 use Rattle.std.proofs.Common.{[], length, sym, ◌∙◌, subst}
 use Rattle.module_gate.specs.Parts.{facts_in}
 use Rattle.sv_types.specs.Policies.{rules_of}
-use Rattle.monitor_calls.specs.Known.{StartsOneOf}
+use Rattle.monitor_exits.specs.Known.{StartsOneOf}
 use Rattle.monitor_exits.specs.HwOfSlots.{hw_harts_of}
 use Rattle.spec_hardware.specs.HwCalls.{hw_facts}
 use Rattle.spec_reference.specs.declared.answers.Answer.{Answer}

@@ -1,5 +1,0 @@
-use Rattle.cli_resume.proofs.OneRun.{snap_and_resume_law}
-use Rattle.cli_resume.proofs.laws.law_snap_and_resume.Goals as goal
-
-pub returns : goal.returns
-returns c = snap_and_resume_law

@@ -1,4 +1,0 @@
-pub mod ResumePlans
-pub mod ResumeReady
-pub mod SnapAndResume
-pub mod ResumeEnds

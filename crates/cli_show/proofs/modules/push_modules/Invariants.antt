@@ -1,9 +1,0 @@
-use Rattle.std.proofs.Common.{◌≡◌, ◌++◌, string_bytes}
-use Rattle.cli_show.specs.DeviceTexts.{module_line}
-use Rattle.cli_show.specs.Lines.{lines_of}
-use Rattle.cli_show.proofs.LineLists.{lines_from}
-use Rattle.cli_show.proofs.modules.push_modules.Given as goal
-
-abbrev pub invariant-modules : goal.invariant-modules
-invariant-modules l =
-    string_bytes l.text ++ lines_from (λ place m. module_line m) l.modules l.place ≡ string_bytes l.fn.text ++ lines_of (λ place m. module_line m) 0 l.modules

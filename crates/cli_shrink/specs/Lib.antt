@@ -1,3 +1,0 @@
-pub mod Shrinking
-pub mod Lines
-pub mod ShrinkAnswers

@@ -1,3 +1,0 @@
-pub mod AnswerLemmas
-mod Chunks
-mod Outcomes

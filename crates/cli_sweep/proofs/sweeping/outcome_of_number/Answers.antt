@@ -1,5 +1,0 @@
-use Rattle.cli_sweep.proofs.Outcomes.{number_ends}
-use Rattle.cli_sweep.proofs.sweeping.outcome_of_number.Goals as goal
-
-pub returns : goal.returns
-returns g c = number_ends c.args.sweep.now c.args.number _ _ c.order_of-order.ensures c.in_ok-ending.ensures.outcome

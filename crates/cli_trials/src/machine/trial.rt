@@ -1,0 +1,42 @@
+// Trials.
+ghost use Rattle.std.specs.Prelude.{◌≡◌, ◌≤◌, ◌%◌, IfOk, IsErrOf, Some, None, length};
+ghost use Rattle.sv_types.specs.Limits.{max_events};
+ghost use Rattle.spec_reference.specs.BlockDisk.{sector_size};
+ghost use Rattle.cli_trials.specs.Trials as spec;
+
+use crate::machine::beginning::{boot, read_policy};
+use crate::machine::ending::{Ending, end_of_run};
+use crate::machine::files::{NoOutcome, RunFiles};
+use crate::machine::order::{Order, script_for};
+use script::Script;
+use std::alloc::Global;
+use std::thread::Threads;
+
+/// How the run of these files ends over the first events of an order. `Script` is answered only of a text that is refused.
+pub fn try_order<R: Threads + Sync>(
+    rt: &R,
+    alloc: Global,
+    files: &RunFiles<'_>,
+    order: &Order<'_>,
+    events: u64,
+) -> Result<Ending, NoOutcome>
+    requires sectors { length files.now.disk.now % sector_size ≡ 0 }
+    requires few { events ≤ max_events }
+    ensures outcome { IfOk result (λ ending. spec.outcome_in files.now events order.now ≡ Some ending.outcome) }
+    ensures refused { IsErrOf result NoOutcome.Script → spec.outcome_in files.now events order.now ≡ None }
+{
+    let policy = read_policy(alloc, files.policy)?;
+    let script = script_for(alloc, order, policy.harts)?;
+    let machine = boot(rt, alloc, files, policy)?;
+    Ok(end_of_run(machine, script, events))
+}
+
+/// The events of an order for the harts of a policy's text.
+pub fn script_of_order(
+    alloc: Global,
+    policy: &[u8],
+    order: &Order<'_>,
+) -> Result<Script, NoOutcome> {
+    let policy = read_policy(alloc, policy)?;
+    script_for(alloc, order, policy.harts)
+}

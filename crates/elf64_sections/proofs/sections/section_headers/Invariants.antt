@@ -1,6 +1,0 @@
-use Rattle.std.proofs.Common.{◌≡◌}
-use Rattle.elf64_sections.specs.Sections.{sections_among}
-use Rattle.elf64_sections.proofs.sections.section_headers.Given as goal
-
-abbrev pub invariant-sections : goal.invariant-sections
-invariant-sections l = l.sections.items ≡ sections_among l.file l.i

@@ -1,4 +1,0 @@
-pub mod Judged
-pub mod Sections
-pub mod Views
-pub mod NameTables

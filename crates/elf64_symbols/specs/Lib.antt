@@ -1,5 +1,0 @@
-pub mod Symbols
-pub mod Names
-pub mod Printed
-pub mod KernelViews
-pub mod Views

@@ -1,3 +1,0 @@
-pub mod Walks
-pub mod Lines
-pub mod WritesAndWalks

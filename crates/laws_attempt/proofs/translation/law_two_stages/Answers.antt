@@ -1,5 +1,0 @@
-use Rattle.laws_attempt.proofs.Views.{two_stages_under_view}
-use Rattle.laws_attempt.proofs.translation.law_two_stages.Goals as goal
-
-pub returns : goal.returns
-returns c = two_stages_under_view

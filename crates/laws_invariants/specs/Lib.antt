@@ -1,3 +1,0 @@
-pub mod StateLaws
-pub mod GrowthLaws
-pub mod EntryLaws

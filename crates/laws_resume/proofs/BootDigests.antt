@@ -1,0 +1,172 @@
+-- The digests of a machine's text after its boot are those that the run keeps.
+use Rattle.std.proofs.Common.{◌≡◌, ℕ, inl, inr, zero, suc, ◌+◌, ◌*◌, ◌/◌, ◌<◌, ◌≤◌, List, [], ◌∷◌, flat_map, length, map, refl, sym, ◌∙◌, ap, subst, Bool, true, ◌||◌, arith, slice_get, length-append}
+use Rattle.std.specs.Prelude.{Some, ◌==◌}
+use Rattle.std.proofs.lemmas.List.{take_at, drop_at}
+use Rattle.std.proofs.lemmas.Option.{same_Some}
+use Rattle.spec_processor.specs.Bytes.{page_bytes, page_size}
+use Rattle.sv_types.specs.ApprovedPages.{approved_pages}
+use Rattle.sv_types.specs.Kernel.{kernel_segments, header_entry, segments_ram, text_pages}
+use Rattle.sv_types.specs.Measure.{joined_digests, measure, page_digest, page_digests}
+use Rattle.sv_types.specs.Policies.{Rules}
+use Rattle.spec_reference.specs.Protections.{protection_at}
+use Rattle.spec_reference.specs.Soundness.{IsSound}
+use Rattle.spec_reference.specs.Start.{IsStart, block_disk, boot_start, start}
+use Rattle.spec_reference.specs.States.{State, Disk, has_number, is_approved_in, protection_in, protections_of}
+use Rattle.snapshot_format.specs.declared.whole.TextPage.{TextPage}
+use Rattle.laws_processor.proofs.ByteLemmas.{length_part}
+use Rattle.elf64_load.proofs.LoadedText.{text_in_ram}
+use Rattle.laws_simulation.proofs.ProtectionsChange.{at_page}
+use Rattle.laws_resume.specs.Keepable.{AscendFrom}
+use Rattle.laws_resume.specs.Resumed.{KeepsDigests}
+use Rattle.laws_resume.proofs.KeepableStarts.{text_pages_ascend}
+use Rattle.laws_resume.proofs.ResumedPages.{approved_is}
+use Rattle.laws_resume.proofs.TakenPages.{AllBelow, or_true}
+use Rattle.laws_simulation.proofs.StateLawsHold.{reached_sound}
+use Rattle.laws_simulation.proofs.Lookups.{same_number, length_pages}
+use Rattle.laws_resume.specs.SnapLaws.{BootDigestsLaw, IsMeasuredBoot}
+use Rattle.sv_types.specs.Protections.{is_approved}
+use Rattle.laws_resume.specs.TextPages.{approved_among, digest_in, digested_text, text_in}
+use Rattle.laws_resume.proofs.Ascending.{picked, picked_same}
+use Rattle.laws_simulation.proofs.ModulesMirrored.{approved_by}
+
+-- ---- digests of pages
+
+-- the pages are whole
+abbrev AreWhole : List ℕ → List ℕ → Type 0
+AreWhole ram pages = (page : ℕ) → has_number pages page ≡ true → length (page_bytes ram page) ≡ page_size
+
+first_whole : (ram : List ℕ) (page : ℕ) (pages : List ℕ) → AreWhole ram (page ∷ pages) → length (page_bytes ram page) ≡ page_size
+first_whole ram page pages whole = whole page (ap (λ (b : Bool). b || has_number pages page) (same_number page))
+
+rest_whole : (ram : List ℕ) (page : ℕ) (pages : List ℕ) → AreWhole ram (page ∷ pages) → AreWhole ram pages
+rest_whole ram page pages whole k there = whole k (ap (λ (b : Bool). (page == k) || b) there ∙ or_true (page == k))
+
+abbrev digest_at : List ℕ → ℕ → List ℕ
+digest_at ram page = page_digest (page_bytes ram page)
+
+-- their digests where they lie one after the other
+digests_after : (ram pages : List ℕ) → AreWhole ram pages → page_digests (length pages) (flat_map (page_bytes ram) pages) ≡ map (digest_at ram) pages
+digests_after ram [] whole = refl
+digests_after ram (page ∷ pages) whole =
+    let size = first_whole ram page pages whole in
+    rw (take_at (page_bytes ram page) (flat_map (page_bytes ram) pages) page_size size, drop_at (page_bytes ram page) (flat_map (page_bytes ram) pages) page_size size)
+    (ap (◌∷◌ (digest_at ram page)) (digests_after ram pages (rest_whole ram page pages whole)))
+
+size_after : (ram pages : List ℕ) → AreWhole ram pages → length (flat_map (page_bytes ram) pages) ≡ page_size * length pages
+size_after ram [] whole = refl
+size_after ram (page ∷ pages) whole =
+    let one = first_whole ram page pages whole in
+    let rest = size_after ram pages (rest_whole ram page pages whole) in
+    length-append (page_bytes ram page) (flat_map (page_bytes ram) pages) ∙ sum (length (page_bytes ram page)) (length (flat_map (page_bytes ram) pages)) (length pages) one rest
+  where
+    sum : (a b n : ℕ) → a ≡ page_size → b ≡ page_size * n → a + b ≡ page_size * suc n
+    sum a b n s t = omega (arith, s, t)
+
+pages_in : (size n : ℕ) → size ≡ page_size * n → size / page_size ≡ n
+pages_in size n e = omega (arith, e)
+
+measured : (ram pages : List ℕ) → AreWhole ram pages → measure (flat_map (page_bytes ram) pages) ≡ joined_digests (map (digest_at ram) pages)
+unfolding measure
+measured ram pages whole =
+    ap (λ (n : ℕ). joined_digests (page_digests n (flat_map (page_bytes ram) pages))) (pages_in (length (flat_map (page_bytes ram) pages)) (length pages) (size_after ram pages whole))
+    ∙ ap joined_digests (digests_after ram pages whole)
+
+-- ---- the list of a machine's text
+
+numbers_back : (ram pages : List ℕ) → map (λ (t : TextPage). t.page) (map (digest_in ram) pages) ≡ pages
+numbers_back ram [] = refl
+numbers_back ram (page ∷ pages) = ap (◌∷◌ page) (numbers_back ram pages)
+
+digests_back : (ram pages : List ℕ) → map (λ (t : TextPage). t.digest) (map (digest_in ram) pages) ≡ map (digest_at ram) pages
+digests_back ram [] = refl
+digests_back ram (page ∷ pages) = ap (◌∷◌ (digest_at ram page)) (digests_back ram pages)
+
+digest_is : (ram pages : List ℕ) (i : ℕ) (t : TextPage) → slice_get (map (digest_in ram) pages) i ≡ Some t → digest_at ram t.page ≡ t.digest
+digest_is ram [] i t at = cc
+digest_is ram (page ∷ pages) zero t at = subst (λ (x : TextPage). digest_at ram x.page ≡ x.digest) (same_Some (digest_in ram page) t at) refl
+digest_is ram (page ∷ pages) (suc i) t at = digest_is ram pages i t at
+
+-- ---- a start with its text approved
+
+picks_text : (rules : Rules) (ram text : List ℕ) (entry : ℕ) (disk : Disk) (page : ℕ) → page < rules.ram_pages
+    → is_approved (protection_at (protections_of (start rules ram text entry disk)) page) ≡ has_number text page
+unfolding start protection_in
+picks_text rules ram text entry disk page below =
+    ap is_approved (at_page (start rules ram text entry disk) page below)
+    ∙ approved_by (is_approved_in (approved_pages ram text) page) (has_number [] page)
+    ∙ approved_is ram text page
+
+text_is : (rules : Rules) (ram text : List ℕ) (entry : ℕ) (disk : Disk) → AscendFrom 0 text → AllBelow rules.ram_pages text
+    → approved_among (protections_of (start rules ram text entry disk)) (length (protections_of (start rules ram text entry disk))) ≡ text
+unfolding start
+text_is rules ram text entry disk up inside =
+    let r : State = start rules ram text entry disk in
+    ap (approved_among (protections_of r)) (length_pages (protection_in r.approved r.held) 0 rules.ram_pages)
+    ∙ picked_same (λ page. is_approved (protection_at (protections_of r) page)) (has_number text) 0 rules.ram_pages
+    (λ page low high. picks_text rules ram text entry disk page (plain page rules.ram_pages high))
+    ∙ picked 0 rules.ram_pages text up (λ page there. from_none page rules.ram_pages (inside page there))
+  where
+    plain : (page pages : ℕ) → page < 0 + pages → page < pages
+    plain page pages less = omega (arith, less)
+
+    from_none : (page pages : ℕ) → page < pages → page < 0 + pages
+    from_none page pages less = omega (arith, less)
+
+whole_in : (ram : List ℕ) (page pages : ℕ) → length ram ≡ page_size * pages → page < pages → length (page_bytes ram page) ≡ page_size
+whole_in ram page pages size below = length_part ram (page_size * page) page_size (rw size (room page pages below))
+  where
+    room : (page pages : ℕ) → page < pages → page_size * page + page_size ≤ page_size * pages
+    room page pages below = omega (arith, below)
+
+text_inside : (rules : Rules) (ram text : List ℕ) (entry : ℕ) (disk : Disk) → IsSound (start rules ram text entry disk) → AllBelow rules.ram_pages text
+unfolding start
+text_inside rules ram text entry disk sound page there = sound.pages.inside page (approved_is ram text page ∙ there)
+
+ram_size : (rules : Rules) (ram text : List ℕ) (entry : ℕ) (disk : Disk) → IsSound (start rules ram text entry disk) → length ram ≡ page_size * rules.ram_pages
+unfolding start
+ram_size rules ram text entry disk sound = sound.size
+
+digested_is : (rules : Rules) (ram text : List ℕ) (entry : ℕ) (disk : Disk) → AscendFrom 0 text → AllBelow rules.ram_pages text
+    → digested_text (start rules ram text entry disk) ≡ map (digest_in ram) text
+unfolding text_in start
+digested_is rules ram text entry disk up inside = ap (map (digest_in ram)) (text_is rules ram text entry disk up inside)
+
+start_digests : (rules : Rules) (ram text : List ℕ) (entry : ℕ) (disk : Disk) → AscendFrom 0 text
+    → measure (flat_map (page_bytes ram) text) ≡ rules.kernel → IsSound (start rules ram text entry disk)
+    → KeepsDigests (start rules ram text entry disk) (map (digest_in ram) text)
+unfolding start
+start_digests rules ram text entry disk up kernel sound = record {
+  pages = numbers_back ram text;
+  each = λ i t at kept. digest_is ram text i t at;
+  joined = ap joined_digests (digests_back ram text)
+      ∙ sym (measured ram text (λ page there. whole_in ram page rules.ram_pages (ram_size rules ram text entry disk sound) (text_inside rules ram text entry disk sound page there)))
+      ∙ kernel;
+}
+
+of_start : (rules : Rules) (ram text : List ℕ) (entry : ℕ) (disk : Disk) → AscendFrom 0 text
+    → measure (flat_map (page_bytes ram) text) ≡ rules.kernel → IsSound (start rules ram text entry disk)
+    → KeepsDigests (start rules ram text entry disk) (digested_text (start rules ram text entry disk))
+of_start rules ram text entry disk up kernel sound =
+    subst (KeepsDigests (start rules ram text entry disk)) (sym (digested_is rules ram text entry disk up (text_inside rules ram text entry disk sound)))
+    (start_digests rules ram text entry disk up kernel sound)
+
+-- ---- the laws
+
+pub boot_is : (rules : Rules) (file disk : List ℕ) → IsMeasuredBoot rules file → IsStart (boot_start rules file disk)
+boot_is rules file disk k = inr (inl (record {
+  rules = rules;
+  file = file;
+  disk = disk;
+  bootable = k.bootable;
+  same = refl;
+}))
+
+digests_of_boot : (rules : Rules) (file disk : List ℕ) → IsMeasuredBoot rules file → IsSound (boot_start rules file disk)
+    → KeepsDigests (boot_start rules file disk) (digested_text (boot_start rules file disk))
+unfolding boot_start
+digests_of_boot rules file disk k sound =
+    of_start rules (segments_ram (kernel_segments file) rules.ram_pages) (text_pages (kernel_segments file)) (header_entry file) (block_disk disk)
+    (text_pages_ascend (kernel_segments file)) (ap measure (sym (text_in_ram file rules.ram_pages k.bootable.accepted)) ∙ k.measured) sound
+
+pub boot_digests_law : BootDigestsLaw
+boot_digests_law rules file disk k = digests_of_boot rules file disk k (reached_sound (boot_start rules file disk) [] (boot_is rules file disk k))

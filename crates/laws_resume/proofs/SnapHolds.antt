@@ -1,0 +1,74 @@
+-- A snapshot after any events of a run that began with a measured boot.
+use Rattle.std.proofs.Common.{◌≡◌, ℕ, List, [], take, refl, sym, ◌∙◌, subst, true}
+use Rattle.std.specs.Prelude.{None}
+use Rattle.sv_types.specs.Policies.{Rules}
+use Rattle.sv_types.specs.declared.event.Event.{Event}
+use Rattle.spec_reference.specs.Run.{run}
+use Rattle.spec_reference.specs.Start.{IsStart, boot_start, start}
+use Rattle.spec_reference.specs.States.{State}
+use Rattle.spec_reference.specs.SavedStates.{IsSaved}
+use Rattle.snapshot_format.specs.Snapshots.{Contents, contents, snapshot}
+use Rattle.snapshot_format.specs.Typed.{IsTyped}
+use Rattle.snapshot_format.specs.declared.whole.Snapshot.{Snapshot}
+use Rattle.snapshot_format.proofs.SnapshotLaws.{snapshot_law}
+use Rattle.snapshot_format.specs.Judgements.{resume_refusal}
+use Rattle.snapshot_format.specs.ResumedStates.{resumed_state}
+use Rattle.laws_resume.specs.Continues.{Alike}
+use Rattle.laws_resume.specs.Resumed.{KeepsDigests}
+use Rattle.laws_resume.specs.SavedForm.{HasBlock, IsCounted}
+use Rattle.laws_resume.proofs.ContinuesHolds.{continues_law}
+use Rattle.laws_resume.proofs.KeepableStarts.{keepable_law}
+use Rattle.laws_resume.proofs.ResumedHolds.{resumed_law}
+use Rattle.laws_resume.proofs.SavedAccepted.{saved_accepted_law}
+use Rattle.laws_resume.proofs.SavedForms.{saved_form_law}
+use Rattle.laws_resume.proofs.SavedResumes.{saved_resumes_law}
+use Rattle.laws_simulation.proofs.StateLawsHold.{reached_sound}
+use Rattle.laws_resume.specs.SnapLaws.{IsMeasuredBoot, IsSnapAfter, SnapAcceptedLaw, SnapContinuesLaw, SnapReadLaw}
+use Rattle.laws_resume.proofs.BootDigests.{boot_digests_law, boot_is}
+
+rules_are : (rules : Rules) (file disk : List ℕ) → (boot_start rules file disk).rules ≡ rules
+unfolding boot_start start
+rules_are rules file disk = refl
+
+pub nothing_printed : (rules : Rules) (s : Contents) → (resumed_state rules s).journal.printed ≡ []
+unfolding resumed_state
+nothing_printed rules s = refl
+
+-- after any events of the run
+record IsGood (start : State) (rules : Rules) (events : List Event) (s : Snapshot) : Type 0 where
+  alike : Alike (run start events).journal.printed (run start events) (resumed_state rules (contents s))
+  accepted : resume_refusal rules (contents s) ≡ None
+  form : IsTyped (contents s) → HasBlock (contents s) → IsCounted (contents s) → snapshot.has (contents s) ≡ true
+
+good_at : (start : State) (rules : Rules) (events : List Event) (s : Snapshot) → IsStart start → start.rules ≡ rules → KeepsDigests start s.text.items
+    → IsSaved (run start events) s.«machine» → IsGood start rules events s
+good_at start rules events s is same digests saved =
+    let r = run start events in
+    let goes = resumed_law start events (reached_sound start [] is) in
+    let keepable = keepable_law start events is in
+    let right = goes.digests s.text.items digests in
+    record {
+      alike = subst (λ (x : Rules). Alike r.journal.printed r (resumed_state x (contents s))) (goes.origins.rules ∙ same)
+          (saved_resumes_law r s goes.sound keepable saved right);
+      accepted = subst (λ (x : Rules). resume_refusal x (contents s) ≡ None) (goes.origins.rules ∙ same)
+          (saved_accepted_law r s goes.sound keepable saved right);
+      form = saved_form_law r s goes.sound keepable saved right;
+    }
+
+snap_is_good : (rules : Rules) (file disk : List ℕ) (events : List Event) (k : ℕ) (s : Snapshot) → IsMeasuredBoot rules file → IsSnapAfter rules file disk events k s
+    → IsGood (boot_start rules file disk) rules (take k events) s
+snap_is_good rules file disk events k s boot snap =
+    good_at (boot_start rules file disk) rules (take k events) s (boot_is rules file disk boot) (rules_are rules file disk)
+    (subst (KeepsDigests (boot_start rules file disk)) (sym snap.text) (boot_digests_law rules file disk boot)) snap.state
+
+pub snap_accepted_law : SnapAcceptedLaw
+snap_accepted_law rules file disk events k s boot snap = (snap_is_good rules file disk events k s boot snap).accepted
+
+pub snap_read_law : SnapReadLaw
+snap_read_law rules file disk events k s boot snap typed block counted =
+    snapshot_law.again (contents s) ((snap_is_good rules file disk events k s boot snap).form typed block counted)
+
+pub snap_continues_law : SnapContinuesLaw
+snap_continues_law rules file disk events k s boot snap =
+    continues_law (boot_start rules file disk) k events (resumed_state rules (contents s)) (nothing_printed rules (contents s))
+    (snap_is_good rules file disk events k s boot snap).alike

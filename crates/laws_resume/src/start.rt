@@ -1,0 +1,34 @@
+// The machine that goes on from a snapshot: before its first event it stands for the state that the snapshot says. And what a
+// snapshot keeps of a machine from its boot on, the digests of its text, by which the run goes on as the whole one.
+
+ghost use Rattle.laws_resume.specs.Resuming.{ResumedStartLaw};
+ghost use Rattle.laws_resume.specs.SnapLaws.{BootDigestsLaw, SnapAcceptedLaw, SnapContinuesLaw, SnapReadLaw};
+
+mod text;
+
+pub use text::text_pages;
+
+/// A machine that is made of a snapshot that isn't refused stands for the state in which the reference machine goes on.
+pub fn law_resumed_start()
+    ensures { ResumedStartLaw }
+{}
+
+/// The pages of the text with their digests, as they are before the first event, are those that a run keeps.
+pub fn law_boot_digests()
+    ensures { BootDigestsLaw }
+{}
+
+/// A snapshot that was taken after any events of such a run isn't refused under its policy.
+pub fn law_snap_accepted()
+    ensures { SnapAcceptedLaw }
+{}
+
+/// What is written of it is read again as it was.
+pub fn law_snap_read()
+    ensures { SnapReadLaw }
+{}
+
+/// A run that goes on from a snapshot, which was taken after any of its events, prints what is left of the whole run.
+pub fn law_snap_continues()
+    ensures { SnapContinuesLaw }
+{}

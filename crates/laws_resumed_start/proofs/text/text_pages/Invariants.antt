@@ -1,6 +1,0 @@
-use Rattle.std.proofs.Common.{◌≡◌}
-use Rattle.laws_resumed_start.specs.TextPages.{text_among}
-use Rattle.laws_resumed_start.proofs.text.text_pages.Given as goal
-
-abbrev pub invariant-pages : goal.invariant-pages
-invariant-pages l = l.text.items ≡ text_among l.ram l.protections l.page

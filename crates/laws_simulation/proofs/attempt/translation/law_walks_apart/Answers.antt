@@ -1,0 +1,5 @@
+use Rattle.laws_simulation.proofs.Views.{view_walks_apart}
+use Rattle.laws_simulation.proofs.attempt.translation.law_walks_apart.Goals as goal
+
+pub returns : goal.returns
+returns c = view_walks_apart

@@ -1,4 +1,0 @@
-pub mod Standings
-pub mod Loads
-pub mod Determines
-pub mod StartsStand

@@ -1,5 +1,0 @@
-use Rattle.laws_standing.proofs.Standings.{hart_in_may_attempt}
-use Rattle.laws_standing.proofs.law_hart_in.Goals as goal
-
-pub returns : goal.returns
-returns c = hart_in_may_attempt

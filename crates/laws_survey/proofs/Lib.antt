@@ -1,4 +1,0 @@
-pub mod PassesHold
-pub mod SurveysHold
-pub mod HwPassesHold
-pub mod RowsHold

@@ -1,5 +1,0 @@
-use Rattle.laws_survey.proofs.RowsHold.{passes_on_law}
-use Rattle.laws_survey.proofs.law_passes_on.Goals as goal
-
-pub returns : goal.returns
-returns c = passes_on_law

@@ -1,4 +1,0 @@
-pub mod Passing
-pub mod SurveyLaws
-pub mod HwPassing
-pub mod Passes

@@ -1,2 +1,0 @@
-pub mod SurveysKeep
-pub mod SurveysGuarded

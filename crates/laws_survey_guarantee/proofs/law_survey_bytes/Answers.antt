@@ -1,5 +1,0 @@
-use Rattle.laws_survey_guarantee.proofs.SurveysGuarded.{survey_bytes_law}
-use Rattle.laws_survey_guarantee.proofs.law_survey_bytes.Goals as goal
-
-pub returns : goal.returns
-returns c = survey_bytes_law

@@ -1,5 +1,0 @@
-use Rattle.laws_survey_guarantee.proofs.SurveysGuarded.{survey_reached_law}
-use Rattle.laws_survey_guarantee.proofs.law_survey_reached.Goals as goal
-
-pub returns : goal.returns
-returns c = survey_reached_law

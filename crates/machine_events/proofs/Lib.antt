@@ -1,5 +1,0 @@
-pub mod Batches
-pub mod BeatsFollow
-mod Seen
-pub mod Turns
-pub mod Passings

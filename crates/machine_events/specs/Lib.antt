@@ -1,4 +1,0 @@
-pub mod Batches
-pub mod Beats
-pub mod Limits
-pub mod Turns

@@ -1,5 +1,0 @@
-use Rattle.machine_resume.proofs.Seated.{sits_at}
-use Rattle.machine_resume.proofs.slots.slots_of.Goals as goal
-
-pub slot_of-requires : goal.slot_of-requires
-slot_of-requires c = sits_at c.args.tables c.args.entries.now c.args.harts.now c.seated.saved-index _ c.requires c.seated-test.true

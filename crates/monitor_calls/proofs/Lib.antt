@@ -1,5 +1,0 @@
-mod Bits
-mod Changed
-mod Inputs
-mod Started
-mod Starting

@@ -1,3 +1,0 @@
-pub mod RulesWithin
-pub mod Sites
-pub mod FieldsInPieces

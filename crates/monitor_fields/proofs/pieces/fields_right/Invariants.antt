@@ -1,8 +1,0 @@
-use Rattle.std.proofs.Common.{◌≡◌, length, drop}
-use Rattle.spec_reference.specs.Relocations.{fields_right}
-use Rattle.monitor_fields.specs.Pieces.{piece_sites}
-use Rattle.monitor_fields.proofs.pieces.fields_right.Given as goal
-
-abbrev pub invariant-sites : goal.invariant-sites
-invariant-sites l =
-    fields_right l.exports l.bases (piece_sites l.first (length l.text) l.sites) l.text ≡ fields_right l.exports l.bases (piece_sites l.first (length l.text) (drop l.site-index l.sites)) l.text

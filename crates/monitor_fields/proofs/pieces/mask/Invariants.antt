@@ -1,8 +1,0 @@
-use Rattle.std.proofs.Common.{◌≡◌, length, drop}
-use Rattle.spec_reference.specs.Relocations.{masked_text}
-use Rattle.monitor_fields.specs.Pieces.{piece_sites}
-use Rattle.monitor_fields.proofs.pieces.mask.Given as goal
-
-abbrev pub invariant-sites : goal.invariant-sites
-invariant-sites l =
-    masked_text l.text (piece_sites l.first (length l.text) (drop l.site-index l.sites)) ≡ masked_text l.initial.text (piece_sites l.first (length l.text) l.sites)

@@ -1,4 +1,0 @@
-pub mod ReadLists
-pub mod ReadRegisters
-pub mod ReadRows
-pub mod WholeRead

@@ -1,4 +1,0 @@
-pub mod Judgements
-pub mod ModuleSites
-pub mod ResumedStates
-pub mod Taking

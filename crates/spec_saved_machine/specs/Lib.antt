@@ -1,2 +1,0 @@
-pub mod SavedStates
-pub mod VirtioStates

@@ -1,7 +1,0 @@
-use Rattle.std.proofs.Common.{◌≡◌, ◌++◌, flat_map, take}
-use Rattle.elf64_symbols.specs.KernelViews.{names_view}
-use Rattle.survey_findings.specs.Lines.{fetch_line}
-use Rattle.survey_findings.proofs.lines.push_fetch_lines.Given as goal
-
-abbrev pub invariant-findings : goal.invariant-findings
-invariant-findings l = l.text.items ≡ l.initial.text.items ++ flat_map (fetch_line (names_view l.names)) (take l.finding-index l.findings)
