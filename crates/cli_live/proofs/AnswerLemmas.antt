@@ -43,7 +43,8 @@ may_under name other f0 f1 same is may text =
     (subst (λ (n : List ℕ). IsTrue (f0.permits_save ((n, text) ∷ []))) (sym is) (may text))
 
 ready_answers : (reached : Option Due) (ready : LiveReady) (name : List ℕ) (old new : LiveOutside) (result : Result Status Trouble) → IsLiveReadyWhere reached (Ok ready) → ready.out.now ≡ name →
-    ((start : State) → IsNew ready.live.machine start → TriesAndRuns start (first_events ready.live.events ready.live.script) ready.out.now old new result) → AnswersLiveReached name reached old new result
+    ((start : State) → IsNew ready.live.machine start → TriesAndRuns start (first_events ready.live.events ready.live.script) ready.out.now old new result) →
+    AnswersLiveReached name reached old new result
 ready_answers None ready name old new result it is a = absurd (cc it)
 ready_answers (Some (Refuse refusal)) ready name old new result it is a = absurd it
 ready_answers (Some (Make out rules line)) ready name old new result it is a = absurd it
@@ -52,7 +53,8 @@ ready_answers (Some (RunFrom start asked save)) ready name old new result it is 
 
 pub ready_performs : (words : Result LiveWords Refusal) (f0 f1 f2 : FilesState) (s0 s1 : SinkState) (k0 k1 : KeysState) (b0 b1 : Option Machine) (ready : LiveReady) (result : Result Status Trouble) →
     PreparesLive (live_plan words) f0 f1 (Ok ready) → ready.out.now ≡ out_of words →
-    ((start : State) → IsNew ready.live.machine start → TriesAndRuns start (first_events ready.live.events ready.live.script) ready.out.now (live_outside f1 s0 k0 b0) (live_outside f2 s1 k1 b1) result) →
+    ((start : State) → IsNew ready.live.machine start →
+    TriesAndRuns start (first_events ready.live.events ready.live.script) ready.out.now (live_outside f1 s0 k0 b0) (live_outside f2 s1 k1 b1) result) →
     PerformsLive words (live_outside f0 s0 k0 b0) (live_outside f2 s1 k1 b1) result
 ready_performs words f0 f1 f2 s0 s1 k0 k1 b0 b1 ready result p is a =
     record { reached = p.reached; read = f1; follows = p.follows; answers = ready_answers p.reached ready (out_of words) _ _ result p.ready is a }

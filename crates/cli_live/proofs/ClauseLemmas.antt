@@ -47,7 +47,8 @@ record HasSaved (harts : ℕ) (journal : List Event) (name : List ℕ) (old new 
   pub held : IsTrue old.tells → new.held name ≡ Some text
   pub answer_is : answer ≡ read_status failed status
 
-saved_ok : (harts : ℕ) (journal : List Event) (name : List ℕ) (old new : FilesState) (status answer : Status) (failed : Bool) (saved : Result Status Trouble) (text : List ℕ) → IsScriptOf harts journal text →
+saved_ok : (harts : ℕ) (journal : List Event) (name : List ℕ) (old new : FilesState) (status answer : Status) (failed : Bool) (saved : Result Status Trouble) (text : List ℕ) →
+    IsScriptOf harts journal text →
     SavedAfter (Some (exact_saving name text)) old new (Ok status) saved → Ok answer ≡ after_reading failed saved → HasSaved harts journal name old new (Ok status) failed answer
 saved_ok harts journal name old new status answer failed saved text script (inl it) is =
     let same : Ok answer ≡ Ok (read_status failed status) = is ∙ ap (λ (r : Result Status Trouble). after_reading failed r) it.1 in
@@ -72,7 +73,8 @@ has_saved harts journal name old new (Ok status) saved failed answer it is = sav
 abbrev pub RunAnswer : Verdict → (old new : KeysState) → Status → Type 0
 RunAnswer verdict old new answer = (answer ≡ run_status verdict) ⊎ ((answer ≡ Status.ReadFault) × (old.faults < new.faults))
 
-answer_by : (failed : Bool) (verdict : Verdict) (old new : KeysState) (status answer : Status) → (failed ≡ true → old.faults < new.faults) → status ≡ run_status verdict → answer ≡ read_status failed status →
+answer_by : (failed : Bool) (verdict : Verdict) (old new : KeysState) (status answer : Status) → (failed ≡ true → old.faults < new.faults) → status ≡ run_status verdict → answer ≡
+    read_status failed status →
     RunAnswer verdict old new answer
 answer_by true verdict old new status answer rose is same = inr (same, rose refl)
 answer_by false verdict old new status answer rose is same = inl (same ∙ is)
@@ -85,7 +87,8 @@ pub record IsDone (start : State) (journal : List Event) (name : List ℕ) (old 
   pub script : IsScriptOf start.rules.harts journal text
   pub held : IsTrue old.files.tells → new.files.held name ≡ Some text
 
-pub is_done : (start : State) (asked : List Event) (name : List ℕ) (old new : LiveOutside) (answer : Status) → (r : RunsLive start asked name old new (Ok answer)) → IsDone start r.journal name old new answer
+pub is_done : (start : State) (asked : List Event) (name : List ℕ) (old new : LiveOutside) (answer : Status) → (r : RunsLive start asked name old new (Ok answer)) →
+    IsDone start r.journal name old new answer
 is_done start asked name old new answer r =
     let last : State = run start r.journal in
     let s = has_saved start.rules.harts r.journal name old.files new.files r.written r.saved r.ended.read_failed answer r.saves r.status in
@@ -102,11 +105,13 @@ is_done start asked name old new answer r =
 -- ---- the replay
 
 run_replays : (line : LiveLine) (words : LiveWords) (old new : LiveOutside) (read : FilesState) (start : State) (asked : List Event) (save : Option (List ℕ)) (answer : Status) → LineGood line words →
-    Follows (live_plan (Ok words)) old.files read (Some (RunFrom start asked save)) → RunsLive start asked words.out (live_outside read old.sink old.keys old.bench) new (Ok answer) → Replays line old new answer
+    Follows (live_plan (Ok words)) old.files read (Some (RunFrom start asked save)) →
+    RunsLive start asked words.out (live_outside read old.sink old.keys old.bench) new (Ok answer) → Replays line old new answer
 unfolding live_plan
 run_replays line words old new read start asked save answer good follows r =
     let reads : Follows (run_plan (block_run line.image line.policy line.disk (Auto 0) good.count)) old.files read (Some (RunFrom start asked save)) =
-    subst (λ (w : LiveWords). Follows (run_plan w.run) old.files read (Some (RunFrom start asked save))) good.words_are (judge_gives (run_plan words.run) old.files read (RunFrom start asked save) follows) in
+    subst (λ (w : LiveWords). Follows (run_plan w.run) old.files read (Some (RunFrom start asked save))) good.words_are
+    (judge_gives (run_plan words.run) old.files read (RunFrom start asked save) follows) in
     let g : RunGives line good.count old.files start asked = run_gives line good.count old.files read start asked save reads in
     let d : IsDone start r.journal words.out (live_outside read old.sink old.keys old.bench) new answer = is_done start asked words.out (live_outside read old.sink old.keys old.bench) new answer r in
     let k : Keeps old.files read = follows_keeps _ old.files read _ reads in
@@ -182,7 +187,8 @@ answer_no_refusal : (verdict : Verdict) (old new : KeysState) (answer : Status) 
 answer_no_refusal verdict old new answer (inl is) refused = cc (refused, ap is_refusal is, run_no_refusal verdict)
 answer_no_refusal verdict old new answer (inr it) refused = cc (refused, ap is_refusal it.0)
 
-run_unrefused : (start : State) (asked : List Event) (name : List ℕ) (old new : LiveOutside) (result : Result Status Trouble) → RunsLive start asked name old new result → is_refusal (status_of_end result) ≡ true → ⊥
+run_unrefused : (start : State) (asked : List Event) (name : List ℕ) (old new : LiveOutside) (result : Result Status Trouble) → RunsLive start asked name old new result →
+    is_refusal (status_of_end result) ≡ true → ⊥
 run_unrefused start asked name old new (Ok answer) r refused =
     answer_no_refusal (run start r.journal).journal.verdict old.keys new.keys answer (is_done start asked name old new answer r).status refused
 run_unrefused start asked name old new (Err Write) r refused = cc refused
@@ -220,19 +226,22 @@ live_keys words old new result p = reached_keys (out_of words) p.reached (live_o
 
 -- ---- no key was read
 
-reached_keyless : (name : List ℕ) (reached : Option Due) (old new : LiveOutside) (result : Result Status Trouble) → AnswersLiveReached name reached old new result → is_refusal (status_of_end result) ≡ true → new.keys ≡ old.keys
+reached_keyless : (name : List ℕ) (reached : Option Due) (old new : LiveOutside) (result : Result Status Trouble) → AnswersLiveReached name reached old new result →
+    is_refusal (status_of_end result) ≡ true → new.keys ≡ old.keys
 reached_keyless name None old new result a refused = ap (λ (o : LiveOutside). o.keys) a.1
 reached_keyless name (Some (Refuse refusal)) old new result a refused = a.1
 reached_keyless name (Some (RunFrom start asked save)) old new result (inl a) refused = absurd (run_unrefused start asked name old new result a.1 refused)
 reached_keyless name (Some (RunFrom start asked save)) old new result (inr a) refused = a.1
 reached_keyless name (Some (Make out rules line)) old new result a refused = absurd a
 
-pub live_keyless : (words : Result LiveWords Refusal) (old new : LiveOutside) (result : Result Status Trouble) → PerformsLive words old new result → is_refusal (status_of_end result) ≡ true → new.keys ≡ old.keys
+pub live_keyless : (words : Result LiveWords Refusal) (old new : LiveOutside) (result : Result Status Trouble) → PerformsLive words old new result →
+    is_refusal (status_of_end result) ≡ true → new.keys ≡ old.keys
 live_keyless words old new result p = reached_keyless (out_of words) p.reached (live_outside p.read old.sink old.keys old.bench) new result p.answers
 
 -- ---- the files
 
-script_changes : (harts : ℕ) (journal : List Event) (name : List ℕ) (old new : FilesState) (written saved : Result Status Trouble) → SavesScript harts journal name old new written saved → ChangesOut name old new
+script_changes : (harts : ℕ) (journal : List Event) (name : List ℕ) (old new : FilesState) (written saved : Result Status Trouble) →
+    SavesScript harts journal name old new written saved → ChangesOut name old new
 script_changes harts journal name old new (Err trouble) saved it = changes_none name old new it.0
 script_changes harts journal name old new (Ok status) saved it = record { bytes = it.0; changes = changes (Some (exact_saving name it.0)) old new (Ok status) saved it.2 }
 
@@ -255,7 +264,8 @@ after_unsaved : (asked : Saving) (old new : FilesState) (status : Status) (saved
 after_unsaved asked old new status saved (inl it) is = absurd (cc (it.1, is))
 after_unsaved asked old new status saved (inr it) is = absurd (cc (it.1, is))
 
-memory_unsaved : (harts : ℕ) (journal : List Event) (name : List ℕ) (old new : FilesState) (written saved : Result Status Trouble) → SavesScript harts journal name old new written saved → saved ≡ Err Memory → new ≡ old
+memory_unsaved : (harts : ℕ) (journal : List Event) (name : List ℕ) (old new : FilesState) (written saved : Result Status Trouble) →
+    SavesScript harts journal name old new written saved → saved ≡ Err Memory → new ≡ old
 memory_unsaved harts journal name old new (Err trouble) saved it is = it.0
 memory_unsaved harts journal name old new (Ok status) saved it is = after_unsaved (exact_saving name it.0) old new status saved it.2 is
 
@@ -267,7 +277,8 @@ answer_no_memory : (verdict : Verdict) (old new : KeysState) (answer : Status) �
 answer_no_memory verdict old new answer (inl is) memory = run_no_memory verdict (sym is ∙ memory)
 answer_no_memory verdict old new answer (inr it) memory = cc (it.0, memory)
 
-run_unsaved : (start : State) (asked : List Event) (name : List ℕ) (old new : LiveOutside) (result : Result Status Trouble) → RunsLive start asked name old new result → status_of_end result ≡ Status.Memory → new.files ≡ old.files
+run_unsaved : (start : State) (asked : List Event) (name : List ℕ) (old new : LiveOutside) (result : Result Status Trouble) → RunsLive start asked name old new result →
+    status_of_end result ≡ Status.Memory → new.files ≡ old.files
 run_unsaved start asked name old new (Ok answer) r memory =
     absurd (answer_no_memory (run start r.journal).journal.verdict old.keys new.keys answer (is_done start asked name old new answer r).status memory)
 run_unsaved start asked name old new (Err Write) r memory = absurd (cc memory)
@@ -293,7 +304,8 @@ live_unsaved words old new result p is =
 
 -- ---- words that are refused
 
-refused_same : (name : List ℕ) (refusal : Refusal) (reached : Option Due) (old new : LiveOutside) (result : Result Status Trouble) → reached ≡ Some (Refuse refusal) → AnswersLiveReached name reached old new result →
+refused_same : (name : List ℕ) (refusal : Refusal) (reached : Option Due) (old new : LiveOutside) (result : Result Status Trouble) → reached ≡ Some (Refuse refusal) →
+    AnswersLiveReached name reached old new result →
     new.files ≡ old.files
 refused_same name refusal reached old new result is a =
     (subst (λ (r : Option Due). AnswersLiveReached name r old new result) is a).0.saves.0
@@ -320,18 +332,21 @@ answer_fault : (verdict : Verdict) (old new : KeysState) (answer : Status) → R
 answer_fault verdict old new answer (inl same) is = absurd (run_no_read_fault verdict (sym same ∙ is))
 answer_fault verdict old new answer (inr it) is = it.1
 
-run_fault : (start : State) (asked : List Event) (name : List ℕ) (old new : LiveOutside) (result : Result Status Trouble) → RunsLive start asked name old new result → status_of_end result ≡ Status.ReadFault →
+run_fault : (start : State) (asked : List Event) (name : List ℕ) (old new : LiveOutside) (result : Result Status Trouble) → RunsLive start asked name old new result →
+    status_of_end result ≡ Status.ReadFault →
     old.keys.faults < new.keys.faults
 run_fault start asked name old new (Ok answer) r is = answer_fault (run start r.journal).journal.verdict old.keys new.keys answer (is_done start asked name old new answer r).status is
 run_fault start asked name old new (Err Write) r is = absurd (cc is)
 run_fault start asked name old new (Err Memory) r is = absurd (cc is)
 
-reached_fault : (plan : Plan) (name : List ℕ) (reached : Option Due) (old new : LiveOutside) (read : FilesState) (result : Result Status Trouble) → HasFoundFaults plan → Follows plan old.files read reached →
+reached_fault : (plan : Plan) (name : List ℕ) (reached : Option Due) (old new : LiveOutside) (read : FilesState) (result : Result Status Trouble) → HasFoundFaults plan →
+    Follows plan old.files read reached →
     AnswersLiveReached name reached (live_outside read old.sink old.keys old.bench) new result → status_of_end result ≡ Status.ReadFault → LiveFault plan old new
 reached_fault plan name None old new read (Ok answer) never follows a is = absurd (cc a.0)
 reached_fault plan name None old new read (Err Write) never follows a is = absurd (cc is)
 reached_fault plan name None old new read (Err Memory) never follows a is = absurd (cc is)
-reached_fault plan name (Some (Refuse refusal)) old new read result never follows a is = inl (refused_fault plan refusal (outside old.files old.sink old.bench) (outside new.files new.sink new.bench) read result never follows a.0 is)
+reached_fault plan name (Some (Refuse refusal)) old new read result never follows a is = inl (refused_fault plan refusal (outside old.files old.sink old.bench)
+    (outside new.files new.sink new.bench) read result never follows a.0 is)
 reached_fault plan name (Some (RunFrom start asked save)) old new read result never follows (inl a) is =
     inr (run_fault start asked name (live_outside read old.sink old.keys old.bench) new result a.1 is)
 reached_fault plan name (Some (RunFrom start asked save)) old new read result never follows (inr a) is = absurd (cc (sym (ap status_of_end a.2) ∙ is))

@@ -86,7 +86,8 @@ wanting_ends start old new (Ok answer) wants = absurd (cc wants)
 wanting_ends start old new (Err Write) wants = absurd (cc wants)
 wanting_ends start old new (Err Memory) wants = record { journal = []; ends = inl (inr (inr refl)) }
 
-reached_ends : (words : Result LiveWords Refusal) (start : State) (events : List Event) (save : Option (List ℕ)) (old new : LiveOutside) (read : FilesState) (reached : Option Due) (result : Result Status Trouble) →
+reached_ends : (words : Result LiveWords Refusal) (start : State) (events : List Event) (save : Option (List ℕ)) (old new : LiveOutside) (read : FilesState) (reached : Option Due)
+    (result : Result Status Trouble) →
     AreReadWhole old.files new.files → due_in old.files.held (live_plan words) ≡ RunFrom start events save → Follows (live_plan words) old.files read reached →
     AnswersLiveReached (out_of words) reached (live_outside read old.sink old.keys old.bench) new result → LiveEnds start old new (status_of_end result)
 reached_ends words start events save old new read None result whole is follows a = wanting_ends start old new result a.0
@@ -98,7 +99,8 @@ reached_ends words start events save old new read (Some due) result whole is fol
     let ended : LiveEnds start before new (status_of_end result) = tried_ends start events (out_of words) before new result r in
     record {
       journal = ended.journal;
-      ends = ends_before (run_status (run start ended.journal).journal.verdict) old read new (status_of_end result) (follows_keeps (live_plan words) old.files read (Some due) follows).saves ended.ends;
+      ends = ends_before (run_status (run start ended.journal).journal.verdict) old read new (status_of_end result) (follows_keeps (live_plan words) old.files read (Some due)
+          follows).saves ended.ends;
     }
 
 pub live_ends : LiveEndsLaw

@@ -131,7 +131,8 @@ pub record EndsLive (start : State) (journal : List Event) (machine : Machine) (
   pub came : CameRunning start journal
   pub bench : StandsBehind start journal machine old new
 
-ran_ends : (first : Machine) (start : State) (events : List Event) (m : Machine) (old mid new : SinkState) (written : Result Status Trouble) → IsNew first start → HasDriven first start events m old mid →
+ran_ends : (first : Machine) (start : State) (events : List Event) (m : Machine) (old mid new : SinkState) (written : Result Status Trouble) → IsNew first start →
+    HasDriven first start events m old mid →
     Writes (run_status m.journal.verdict) (machine_output m) mid new written → EndsLive start events m old new written
 ran_ends first start events m old mid new written is_new ran writes = record {
   writes = ran_writes first start m events old mid new written ran.run writes;

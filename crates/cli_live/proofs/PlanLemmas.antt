@@ -17,7 +17,8 @@ pub record PartGives (name : List ℕ) (limit : ℕ) (next : List ℕ → Plan) 
   pub keeps : Keeps old now
   pub rest : Follows (next bytes) now read (Some due)
 
-found_gives : (part : Part) (name : List ℕ) (limit : ℕ) (next : List ℕ → Plan) (old read : FilesState) (start : State) (events : List Event) (save : Option (List ℕ)) (found : Found) (now : FilesState) →
+found_gives : (part : Part) (name : List ℕ) (limit : ℕ) (next : List ℕ →
+    Plan) (old read : FilesState) (start : State) (events : List Event) (save : Option (List ℕ)) (found : Found) (now : FilesState) →
     FoundAs old now name limit found → Follows (found_plan part next found) now read (Some (RunFrom start events save)) → PartGives name limit next old read (RunFrom start events save)
 unfolding found_plan
 found_gives part name limit next old read start events save Faulty now it rest = absurd (cc rest.0)

@@ -1,5 +1,6 @@
 -- From what `live` did to what `run` is due.
-use Rattle.std.proofs.Common.{◌≡◌, ◌≤◌, ◌+◌, ℕ, List, [], ◌∷◌, ◌++◌, length, Bool, true, false, ◌&&◌, ◌||◌, nat_le, IsTrue, refl, sym, ◌∙◌, ap, subst, arith, Option, Some, None, Result, Ok, Err, if◌then◌else◌, take_all, length-append}
+use Rattle.std.proofs.Common.{◌≡◌, ◌≤◌, ◌+◌, ℕ, List, [], ◌∷◌, ◌++◌, length, Bool, true, false, ◌&&◌, ◌||◌, nat_le, IsTrue, refl, sym, ◌∙◌}
+use Rattle.std.proofs.Common.{ap, subst, arith, Option, Some, None, Result, Ok, Err, if◌then◌else◌, take_all, length-append}
 use Rattle.std.proofs.lemmas.Bool.{leb-true, ne_eqb, or_from}
 use Rattle.std.specs.Char.{is_ascii_digit}
 use Rattle.std.specs.Fmt.{decimal}
@@ -32,8 +33,11 @@ use Rattle.cli_plans.specs.declared.file_fault.Part.{Part}
 use Rattle.cli_plans.specs.declared.refusal.Refusal.{Refusal}
 use Rattle.cli_plans.specs.declared.refusal.Refusal.TheVariants.{NoCommand, Measure, Entry}
 use Rattle.cli_plans.specs.declared.command_words.command.DiskKind.{DiskKind}
-use Rattle.cli_plans.specs.CommandLine.{Command, Run, RunWords, Source, Text, Auto, judgement_of_words, named_judged, command_after, live_after, run_words, unless_none, LiveWords, block_run, live_words, live_judged, max_live_events}
-use Rattle.cli_plans.specs.Plans.{Due, Refuse, RunFrom, Plan, End, Judge, max_policy_bytes, max_image_bytes, max_script_bytes, policy_judged, policy_part, part_judged, kernel_part, disk_refusal, disk_part, text_part, script_part, image_measure, boot_judged, boot_plan, image_plan, run_plan, command_plan, plan_of}
+use Rattle.cli_plans.specs.CommandLine.{Command, Run, RunWords, Source, Text, Auto, judgement_of_words, named_judged, command_after}
+use Rattle.cli_plans.specs.CommandLine.{live_after, run_words, unless_none, LiveWords, block_run, live_words, live_judged, max_live_events}
+use Rattle.cli_plans.specs.Plans.{Due, Refuse, RunFrom, Plan, End, Judge, max_policy_bytes, max_image_bytes, max_script_bytes}
+use Rattle.cli_plans.specs.Plans.{policy_judged, policy_part, part_judged, kernel_part, disk_refusal, disk_part, text_part, script_part}
+use Rattle.cli_plans.specs.Plans.{image_measure, boot_judged, boot_plan, image_plan, run_plan, command_plan, plan_of}
 use Rattle.cli_plans.specs.Reading.{Follows}
 use Rattle.cli_plans.proofs.PlanLemmas.{Keeps}
 use Rattle.cli_live.specs.LiveAnswers.{IsScriptOf}
@@ -93,7 +97,8 @@ record BootGives (measured entered : Bool) (first : State) (asked again : List E
   pub start_is : start ≡ first
   pub boots : (if measured then (if entered then RunFrom first again other else Refuse by_entry) else Refuse by_measure) ≡ RunFrom start again other
 
-boot_gives : (measured entered : Bool) (first : State) (asked again : List Event) (one other : Option (List ℕ)) (by_measure by_entry : Refusal) (start : State) (events : List Event) (save : Option (List ℕ)) →
+boot_gives : (measured entered : Bool) (first : State) (asked again : List Event) (one other : Option (List ℕ)) (by_measure by_entry : Refusal) (start : State)
+    (events : List Event) (save : Option (List ℕ)) →
     (if measured then (if entered then RunFrom first asked one else Refuse by_entry) else Refuse by_measure) ≡ RunFrom start events save →
     BootGives measured entered first asked again other by_measure by_entry start events
 boot_gives true true first asked again one other by_measure by_entry start events save is =
@@ -137,7 +142,8 @@ after_image : (line : LiveLine) (count : ℕ) (rules : Rules) (file : List ℕ) 
     Follows (boot_plan (block_run line.image line.policy line.disk (Auto 0) count) rules file) old read (Some (RunFrom start asked save)) → AfterImage line count rules file old start asked
 unfolding boot_plan script_part
 after_image line count rules file old read start asked save follows =
-    let d = disk_gives (unless_none line.disk) (λ disk. Judge (End (boot_judged DiskKind.Block rules file disk (first_events count (Schedule.Auto rules.harts 0)) None))) old read start asked save follows in
+    let d = disk_gives (unless_none line.disk) (λ disk. Judge (End (boot_judged DiskKind.Block rules file disk (first_events count (Schedule.Auto rules.harts 0)) None))) old read
+    start asked save follows in
     let ended = judge_gives (End (boot_judged DiskKind.Block rules file d.bytes (first_events count (Schedule.Auto rules.harts 0)) None)) d.now read (RunFrom start asked save) d.rest in
     let is : boot_judged DiskKind.Block rules file d.bytes (first_events count (Schedule.Auto rules.harts 0)) None ≡ RunFrom start asked save = sym (same_Some _ _ ended.0) in
     let it = booted rules file d.bytes (first_events count (Schedule.Auto rules.harts 0)) [] None None start asked save is in
@@ -166,7 +172,8 @@ after_policy : (line : LiveLine) (count : ℕ) (rules : Rules) (old read : Files
 unfolding image_plan kernel_part
 after_policy line count rules old read start asked save follows =
     let words : RunWords = block_run line.image line.policy line.disk (Auto 0) count in
-    let p = part_gives Part.Image line.image max_image_bytes (λ file. Judge (part_judged FileFault.Image (boot_plan words rules file) (kernel_refusal file rules.ram_pages))) old read start asked save follows in
+    let p = part_gives Part.Image line.image max_image_bytes (λ file. Judge (part_judged FileFault.Image (boot_plan words rules file) (kernel_refusal file rules.ram_pages))) old
+    read start asked save follows in
     let checked = judge_gives (part_judged FileFault.Image (boot_plan words rules p.bytes) (kernel_refusal p.bytes rules.ram_pages)) p.now read (RunFrom start asked save) p.rest in
     let g = part_good FileFault.Image (boot_plan words rules p.bytes) (kernel_refusal p.bytes rules.ram_pages) p.now read start asked save checked in
     record { bytes = p.bytes; few = p.few; good = g.0; held = p.held; now = p.now; keeps = p.keeps; rest = after_image line count rules p.bytes p.now read start asked save g.1 }
@@ -177,7 +184,8 @@ unfolding run_plan policy_part
 run_gives line count old read start asked save follows =
     let words : RunWords = block_run line.image line.policy line.disk (Auto 0) count in
     let p = part_gives Part.Policy line.policy max_policy_bytes (λ bytes. Judge (policy_judged (image_plan words) (rules_of_text bytes))) old read start asked save follows in
-    let g = policy_good (image_plan words) (rules_of_text p.bytes) p.now read start asked save (judge_gives (policy_judged (image_plan words) (rules_of_text p.bytes)) p.now read (RunFrom start asked save) p.rest) in
+    let g = policy_good (image_plan words) (rules_of_text p.bytes) p.now read start asked save (judge_gives (policy_judged (image_plan words) (rules_of_text p.bytes)) p.now read
+    (RunFrom start asked save) p.rest) in
     let i : AfterPolicy line count g.0 p.now start asked = after_policy line count g.0 p.now read start asked save g.2 in
     let d : AfterImage line count g.0 i.bytes i.now start asked = i.rest in
     record {
@@ -238,7 +246,9 @@ boot_due : (line : LiveLine) (rules : Rules) (parts : Parts) (start : State) (jo
     due_in held (boot_plan (again_run line script events save) rules parts.image) ≡ RunFrom start journal save
 unfolding boot_plan
 boot_due line rules parts start journal held script text events save good holds is it few =
-    disk_due held (unless_none line.disk) (λ disk. script_part rules.harts (Text script) (λ schedule. Judge (End (boot_judged DiskKind.Block rules parts.image disk (first_events events schedule) save)))) parts.disk holds.disk good.disk_few good.disk
+    disk_due held (unless_none line.disk)
+    (λ disk. script_part rules.harts (Text script) (λ schedule. Judge (End (boot_judged DiskKind.Block rules parts.image disk (first_events events schedule) save))))
+    parts.disk holds.disk good.disk_few good.disk
     ∙ script_due held rules.harts script text journal (λ schedule. Judge (End (boot_judged DiskKind.Block rules parts.image parts.disk (first_events events schedule) save))) is it
     ∙ good.boots (first_events events (Schedule.Listed journal)) save
     ∙ ap (λ (es : List Event). RunFrom start es save) (first_all events journal few)
@@ -292,7 +302,8 @@ within_high low high n text is =
     let it = within_by (is_number text) (nat_le low (decimal_value 0 text)) (nat_le (decimal_value 0 text) high) (decimal_value 0 text) n is in
     subst (λ (k : ℕ). k ≤ high) it.value_is (leb-true (decimal_value 0 text) high it.high_is)
 
-named_good : (line : LiveLine) (count : Option ℕ) (words : LiveWords) → ((n : ℕ) → count ≡ Some n → n ≤ max_live_events) → has_dash line.image ≡ false → has_dash line.policy ≡ false → has_dash line.disk ≡ false →
+named_good : (line : LiveLine) (count : Option ℕ) (words : LiveWords) → ((n : ℕ) → count ≡ Some n → n ≤ max_live_events) → has_dash line.image ≡ false → has_dash line.policy ≡
+    false → has_dash line.disk ≡ false →
     live_words line.image line.policy line.disk line.out count ≡ Ok words → LineGood line words
 unfolding live_words
 named_good line None words within image policy disk is = absurd (cc is)
@@ -360,7 +371,8 @@ run_judged_as line words script events save good names saves few =
     ∙ ap (λ (count : Option ℕ). run_words split (Some (Text script)) count) (number_of_run events few)
 
 -- what `run` is due by its words is due by its plan
-pub words_due : (line : LiveLine) (words : LiveWords) (script : List ℕ) (events : ℕ) (save : List ℕ) (held : List ℕ → Option (List ℕ)) → LineGood line words → NamesScript script → has_dash save ≡ false →
+pub words_due : (line : LiveLine) (words : LiveWords) (script : List ℕ) (events : ℕ) (save : List ℕ) (held : List ℕ → Option (List ℕ)) → LineGood line words → NamesScript script →
+    has_dash save ≡ false →
     events ≤ max_events → due_in held (plan_of (judgement_of_words (run_line line script events save))) ≡ due_in held (run_plan (again_run line script events (unless_none save)))
 unfolding plan_of command_plan
 words_due line words script events save held good names saves few =
@@ -377,7 +389,8 @@ events_among (Tick ticks ∷ events) = let rest = events_among events in omega a
 events_among (Poke gpa value ∷ events) = let rest = events_among events in omega arith
 
 -- with every key the events of a live run are at most 2^32
-pub journal_few : (journal left asked : List Event) (bytes keys : List ℕ) (count : ℕ) (script : Schedule) → others_among journal ++ left ≡ asked → first_events count script ≡ asked → count ≤ max_live_events →
+pub journal_few : (journal left asked : List Event) (bytes keys : List ℕ) (count : ℕ) (script : Schedule) → others_among journal ++ left ≡ asked → first_events count script ≡
+    asked → count ≤ max_live_events →
     keys_among journal ≡ keys → StartsWith bytes keys → length bytes ≤ max_keys → length journal ≤ max_events
 journal_few journal left asked bytes keys count script others drawn few keys_are front most =
     let all : length journal ≡ length (keys_among journal) + length (others_among journal) = events_among journal in

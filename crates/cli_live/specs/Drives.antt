@@ -39,7 +39,8 @@ pub record HasBroken (early : Bool) (first : Machine) (start : State) (events : 
 
 -- whichever run had made the events so far has made these, and then a write failed
 pub record Breaks (early : Bool) (made more : List Event) (old new : Machine) (before after : SinkState) : Type 0 where
-  pub broke : (first : Machine) (start : State) (sink : SinkState) → HasDriven first start made old sink before → HasBroken early first start more new sink after
+  pub broke : (first : Machine) (start : State) (sink : SinkState) → HasDriven first start made old sink before →
+      HasBroken early first start more new sink after
 
 -- a live run has made the events up to another, and the sink took the console's bytes
 abbrev pub WentOn : (old new : LiveRun) (before after : SinkState) → Type 0

@@ -43,7 +43,8 @@ fn report_and_save<F: Files, O: Sink>(
     requires permitted { MaySaveUnder name.now (F.state files.old) }
     requires way { IsUnderWay live.now }
     requires autos { live.now.journal.autos ≤ max_events }
-    ensures { (written : Result Answer Ending) × Writes (run_status live.now.machine.journal.verdict) (machine_output live.now.machine) (O.state out.old) (O.state out.new) written
+    ensures { (written : Result Answer Ending) ×
+        Writes (run_status live.now.machine.journal.verdict) (machine_output live.now.machine) (O.state out.old) (O.state out.new) written
         × SavesScript (harts_of live.now.script) (events_made live.now) name.now (F.state files.old) (F.state files.new) written result }
 {
     let text = journal_text(alloc, &live.journal)?;
@@ -111,7 +112,8 @@ fn carry_out<R: Threads + Wait + Sync, F: Files, K: Keys + Send, O: Sink, P: Pac
     requires reads { CanCount (K.state keys.old).faults }
     requires saves { CanCount (F.state files.old).save_faults }
     requires permitted { MaySaveUnder ready.out.now (F.state files.old) }
-    ensures { (start : State) → IsNew ready.entry.live.machine start → TriesAndRuns start (first_events ready.entry.live.events ready.entry.live.script) ready.entry.out.now
+    ensures { (start : State) → IsNew ready.entry.live.machine start →
+        TriesAndRuns start (first_events ready.entry.live.events ready.entry.live.script) ready.entry.out.now
         (live_outside (F.state files.old) (O.state out.old) (K.state keys.old) bench.old.machine)
         (live_outside (F.state files.new) (O.state out.new) (K.state keys.new) bench.new.machine) result }
 {
@@ -192,7 +194,8 @@ pub fn secvisor_live<R: Threads + Wait + Sync, F: Files, K: Keys + Send, O: Sink
     // A read fault is answered only where the files tell that a name of the words isn't held, or a count of reads rose: that of
     // the files, or that of the keys.
     ensures read_fault { result ≡ Status.ReadFault →
-        ((IsTrue (F.state files.old).tells × ((name : List ℕ) × IsNamed (live_plan (live_judged (map string_bytes words.now))) name × ((F.state files.old).held name ≡ None)))
+        ((IsTrue (F.state files.old).tells × ((name : List ℕ) × IsNamed (live_plan (live_judged (map string_bytes words.now))) name ×
+        ((F.state files.old).held name ≡ None)))
         ⊎ ((F.state files.old).read_faults < (F.state files.new).read_faults))
         ⊎ ((K.state keys.old).faults < (K.state keys.new).faults) }
 

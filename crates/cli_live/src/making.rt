@@ -60,8 +60,10 @@ fn make_key<O: Sink>(
     requires may { MayStep machine.old }
     requires places { HasRoom journal.old }
     requires few { vec_len journal.old.keys < max_keys }
-    ensures on { OnOk result ((harts : ℕ) → GoesOn (events_of harts journal.old) (events_of harts journal.new) machine.old machine.new (O.state out.old) (O.state out.new)) }
-    ensures broke { OnErr result ((harts : ℕ) → Breaks false (events_of harts journal.old) (events_of harts journal.new) machine.old machine.new (O.state out.old) (O.state out.new)) }
+    ensures on { OnOk result ((harts : ℕ) →
+        GoesOn (events_of harts journal.old) (events_of harts journal.new) machine.old machine.new (O.state out.old) (O.state out.new)) }
+    ensures broke { OnErr result ((harts : ℕ) →
+        Breaks false (events_of harts journal.old) (events_of harts journal.new) machine.old machine.new (O.state out.old) (O.state out.new)) }
     ensures keys { key_bytes journal.new ≡ key_bytes journal.old ++ byte ∷ [] }
     ensures places { HasRoom journal.new }
     ensures autos { journal.new.autos ≡ journal.old.autos }

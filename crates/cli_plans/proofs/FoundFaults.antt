@@ -32,7 +32,13 @@ use Rattle.cli_plans.specs.declared.file_fault.Part.{Part}
 use Rattle.cli_plans.specs.declared.refusal.Refusal.TheVariants.{File, Measure, Entry}
 use Rattle.cli_plans.specs.declared.command_words.command.DiskKind.{DiskKind}
 use Rattle.cli_plans.specs.CommandLine.{Command, Flat, Generated, Run, RunWords, Source, Rounds, Auto, Bursts, Text, MakePolicy, PolicyWords, Convert, judgement_of_words}
-use Rattle.cli_plans.specs.Plans.{Refuse, RunFrom, max_image_bytes, max_object_bytes, making_fault, made_judged, made_part, Kernel, digest_part, Modules, no_modules, with_module, module_part, modules_part, making_plan, measure_plan, Plan, End, status_due, found_plan, flat_plan, command_plan, plan_of, measure_judged, pages_judged, is_whole_pages, flat_events, gen_plan, gen_due, gen_disk, policy_judged, policy_part, part_judged, kernel_part, disk_refusal, disk_part, text_part, script_part, image_measure, boot_judged, boot_plan, image_plan, run_plan, start_with, due_of_measure, binding_refusal, converted_judged, bound_plan, binding_plan, convert_plan}
+use Rattle.cli_plans.specs.Plans.{Refuse, RunFrom, max_image_bytes, max_object_bytes, making_fault, made_judged, made_part, Kernel}
+use Rattle.cli_plans.specs.Plans.{digest_part, Modules, no_modules, with_module, module_part, modules_part, making_plan, measure_plan, Plan}
+use Rattle.cli_plans.specs.Plans.{End, status_due, found_plan, flat_plan, command_plan, plan_of, measure_judged, pages_judged}
+use Rattle.cli_plans.specs.Plans.{is_whole_pages, flat_events, gen_plan, gen_due, gen_disk, policy_judged, policy_part, part_judged}
+use Rattle.cli_plans.specs.Plans.{kernel_part, disk_refusal, disk_part, text_part, script_part, image_measure, boot_judged, boot_plan}
+use Rattle.cli_plans.specs.Plans.{image_plan, run_plan, start_with, due_of_measure, binding_refusal, converted_judged, bound_plan}
+use Rattle.cli_plans.specs.Plans.{binding_plan, convert_plan}
 use Rattle.cli_plans.proofs.WordLemmas.{NoReadFault, words_no_read_fault}
 use Rattle.cli_plans.proofs.PlanLemmas.{HasFoundFaults}
 
@@ -74,16 +80,18 @@ pub policy_found_faults : (next : Rules → Plan) (judged : Judged Rules) → ((
 policy_found_faults next (Ok rules) never = never rules
 policy_found_faults next (Err refused) never = λ e. cc e
 
-boot_no_read_fault : (kind : DiskKind) (rules : Rules) (file disk : List ℕ) (events : List Event) (save : Option (List ℕ)) → status_due (boot_judged kind rules file disk events save) ≢ Status.ReadFault
+boot_no_read_fault : (kind : DiskKind) (rules : Rules) (file disk : List ℕ) (events : List Event) (save : Option (List ℕ)) →
+    status_due (boot_judged kind rules file disk events save) ≢ Status.ReadFault
 unfolding boot_judged
 boot_no_read_fault kind rules file disk events save =
     elim (bytes_eq (image_measure file) rules.kernel) as (λ b. status_due (if b then
     (if has_number rules.entries (header_entry file) then RunFrom (start_with kind rules file disk) events save else Refuse (Entry (header_entry file)))
     else Refuse (Measure (image_measure file) rules.kernel)) ≢ Status.ReadFault) [
-      | true ↦ elim (has_number rules.entries (header_entry file)) as (λ b. status_due (if b then RunFrom (start_with kind rules file disk) events save else Refuse (Entry (header_entry file))) ≢ Status.ReadFault) [
-        | true ↦ run_no_read_fault (run (start_with kind rules file disk) events).journal.verdict
-        | false ↦ λ e. cc e
-      ]
+      | true ↦ elim (has_number rules.entries (header_entry file)) as (λ b. status_due (if b then RunFrom (start_with kind rules file disk) events save else
+          Refuse (Entry (header_entry file))) ≢ Status.ReadFault) [
+            | true ↦ run_no_read_fault (run (start_with kind rules file disk) events).journal.verdict
+            | false ↦ λ e. cc e
+          ]
       | false ↦ λ e. cc e
     ]
 

@@ -1,5 +1,6 @@
 -- The first word names the command, and the words after it have no dash.
-use Rattle.std.proofs.Common.{◌≡◌, ◌∙◌, ◌<◌, ◌≤◌, ◌-◌, ℕ, Bool, true, false, true≢false, ◌||◌, List, [], ◌∷◌, length, slice_index_or, take, drop, map, cond, None, refl, ap, sym, arith, String, Global, string_bytes}
+use Rattle.std.proofs.Common.{◌≡◌, ◌∙◌, ◌<◌, ◌≤◌, ◌-◌, ℕ, Bool, true, false, true≢false, ◌||◌, List, [], ◌∷◌, length, slice_index_or, take}
+use Rattle.std.proofs.Common.{drop, map, cond, None, refl, ap, sym, arith, String, Global, string_bytes}
 use Rattle.std.specs.List.{list_any}
 use Rattle.std.proofs.lemmas.Bool.{or_parts}
 use Rattle.std.proofs.lemmas.List.{take_all}

@@ -13,7 +13,10 @@ use Rattle.cli_plans.specs.declared.command_words.command.DiskKind.{DiskKind}
 use Rattle.cli_plans.specs.declared.command_words.table.CommandName.{CommandName}
 use Rattle.cli_plans.specs.declared.command_words.table.CommandName.TheVariants as command
 use Rattle.cli_plans.specs.Commands.{flat_split, gen_split, run_split, survey_split, live_split, snap_split, sweep_split, resume_split, show_split, measure_split, convert_split, has_dash}
-use Rattle.cli_plans.specs.Parsing.{Finds, HasWords, IsKnown, Want, app_of_wants, bare_app, rule_of_want, flat_wants, gen_wants, run_wants, survey_wants, live_wants, snap_wants, sweep_wants, resume_wants, show_wants, measure_wants, convert_wants, wants_of, flat_found, gen_found, run_found, survey_found, live_found, snap_found, sweep_found, resume_found, show_found, measure_found, convert_found}
+use Rattle.cli_plans.specs.Parsing.{Finds, HasWords, IsKnown, Want, app_of_wants, bare_app, rule_of_want, flat_wants, gen_wants, run_wants}
+use Rattle.cli_plans.specs.Parsing.{survey_wants, live_wants, snap_wants, sweep_wants, resume_wants, show_wants, measure_wants}
+use Rattle.cli_plans.specs.Parsing.{convert_wants, wants_of, flat_found, gen_found, run_found, survey_found, live_found, snap_found}
+use Rattle.cli_plans.specs.Parsing.{sweep_found, resume_found, show_found, measure_found, convert_found}
 use Rattle.cli_plans.proofs.PlainWords.{IsOn, NoneTrails, walk_after, placed_pass, pass_is, walk_is}
 
 -- ---- the words of any command

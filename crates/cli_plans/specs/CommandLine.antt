@@ -5,7 +5,9 @@ use Rattle.std.specs.Str.{bytes_eq}
 use Rattle.cli_plans.specs.declared.command_words.command.DiskKind.{DiskKind}
 use Rattle.cli_plans.specs.declared.command_words.table.CommandName.{CommandName}
 use Rattle.cli_plans.specs.declared.command_words.table.CommandName.TheVariants as command
-use Rattle.cli_plans.specs.Commands.{Named, FlatSplit, RunSplit, SurveySplit, LiveSplit, SnapSplit, SweepSplit, ResumeSplit, MeasureSplit, ConvertSplit, flat_split, gen_split, run_split, survey_split, live_split, snap_split, sweep_split, resume_split, show_split, measure_split, convert_split, named_words}
+use Rattle.cli_plans.specs.Commands.{Named, FlatSplit, RunSplit, SurveySplit, LiveSplit, SnapSplit, SweepSplit, ResumeSplit, MeasureSplit}
+use Rattle.cli_plans.specs.Commands.{ConvertSplit, flat_split, gen_split, run_split, survey_split, live_split, snap_split, sweep_split}
+use Rattle.cli_plans.specs.Commands.{resume_split, show_split, measure_split, convert_split, named_words}
 use Rattle.sv_types.specs.Numbers.{number_within, digest_of}
 use Rattle.spec_processor.specs.Regions.{max_ram_pages}
 use Rattle.sv_types.specs.declared.module.Span.{Span}
@@ -283,7 +285,8 @@ terms_words init (Some ram_pages) (Some harts) None = Err (OutOfRange Word.Entri
 terms_words init (Some ram_pages) (Some harts) (Some entries) = terms_with ram_pages harts entries (init_of ram_pages init)
 
 abbrev pub terms_judged : (ram harts entries init : List ℕ) → Result Terms Refusal
-terms_judged ram harts entries init = terms_words init (number_within min_ram_pages max_ram_pages ram) (number_within 1 max_harts harts) (entries_judged entries)
+terms_judged ram harts entries init = terms_words init (number_within min_ram_pages max_ram_pages ram) (number_within 1 max_harts harts)
+    (entries_judged entries)
 
 -- the modules are judged after the other words
 unfoldable pub making_words : MeasureSplit → Result Terms Refusal → Result Command Refusal

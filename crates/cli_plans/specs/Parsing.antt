@@ -8,7 +8,9 @@ use Rattle.cli_plans.specs.declared.command_words.table.CommandName.{CommandName
 use Rattle.cli_plans.specs.declared.command_words.table.CommandName.TheVariants as command
 use Rattle.cli_plans.specs.declared.command_words.table.Argument.{Argument}
 use Rattle.cli_plans.specs.declared.command_words.table.Argument.TheVariants as argument
-use Rattle.cli_plans.specs.Commands.{FlatSplit, RunSplit, SurveySplit, LiveSplit, SnapSplit, SweepSplit, ResumeSplit, MeasureSplit, ConvertSplit, flat_split, gen_split, run_split, survey_split, live_split, snap_split, sweep_split, resume_split, show_split, measure_split, convert_split}
+use Rattle.cli_plans.specs.Commands.{FlatSplit, RunSplit, SurveySplit, LiveSplit, SnapSplit, SweepSplit, ResumeSplit, MeasureSplit}
+use Rattle.cli_plans.specs.Commands.{ConvertSplit, flat_split, gen_split, run_split, survey_split, live_split, snap_split, sweep_split}
+use Rattle.cli_plans.specs.Commands.{resume_split, show_split, measure_split, convert_split}
 
 -- what a command has under a name
 pub data Want : Type 0 where
@@ -41,7 +43,8 @@ snap_wants = One (codes "IMAGE") ∷ One (codes "POLICY") ∷ One (codes "DISK")
 
 abbrev pub sweep_wants : List Want
 sweep_wants =
-    One (codes "IMAGE") ∷ One (codes "POLICY") ∷ One (codes "DISK") ∷ One (codes "SCHEDULE") ∷ One (codes "FIRST") ∷ One (codes "COUNT") ∷ One (codes "EVENTS") ∷ []
+    One (codes "IMAGE") ∷ One (codes "POLICY") ∷ One (codes "DISK") ∷ One (codes "SCHEDULE") ∷ One (codes "FIRST") ∷ One (codes "COUNT") ∷ One
+    (codes "EVENTS") ∷ []
 
 abbrev pub resume_wants : List Want
 resume_wants = One (codes "SNAPSHOT") ∷ One (codes "POLICY") ∷ One (codes "SCRIPT") ∷ One (codes "EVENTS") ∷ One (codes "SAVE") ∷ []

@@ -1,6 +1,7 @@
 -- What is asked, as a plan: which files are read, under which names, in which order, and what is due by what is found in
 -- them. This project's own.
-use Rattle.std.specs.Prelude.{ℕ, ◌%◌, ◌*◌, ◌^◌, List, [], ◌∷◌, ◌++◌, length, map, codes, Bool, ◌&&◌, ◌==◌, nat_lt, if◌then◌else◌, Option, Some, None, Result, Ok, Err}
+use Rattle.std.specs.Prelude.{ℕ, ◌%◌, ◌*◌, ◌^◌, List, [], ◌∷◌, ◌++◌, length, map, codes, Bool, ◌&&◌, ◌==◌, nat_lt, if◌then◌else◌, Option}
+use Rattle.std.specs.Prelude.{Some, None, Result, Ok, Err}
 use Rattle.cli_plans.specs.Commands.{ConvertSplit}
 use Rattle.std.specs.Fmt.{decimal}
 use Rattle.std.specs.Str.{bytes_eq}
@@ -40,7 +41,8 @@ use Rattle.cli_plans.specs.declared.file_fault.FileFault.{FileFault}
 use Rattle.cli_plans.specs.declared.refusal.Refusal.{Refusal}
 use Rattle.cli_plans.specs.declared.refusal.Refusal.TheVariants.{ReadFault, File, Measure, Entry}
 use Rattle.cli_plans.specs.Refusals.{refusal_line, refusal_status}
-use Rattle.cli_plans.specs.CommandLine.{Command, Flat, Generated, Run, RunWords, LiveWords, SnapWords, MakePolicy, PolicyWords, Convert, Source, Rounds, Auto, Bursts, Text}
+use Rattle.cli_plans.specs.CommandLine.{Command, Flat, Generated, Run, RunWords, LiveWords, SnapWords, MakePolicy, PolicyWords, Convert}
+use Rattle.cli_plans.specs.CommandLine.{Source, Rounds, Auto, Bursts, Text}
 
 -- ---- what is due
 

@@ -23,7 +23,8 @@ use Rattle.cli_plans.specs.declared.words.Resume.{Resume}
 use Rattle.cli_plans.specs.declared.asking.Unread.{Unread}
 use Rattle.cli_plans.specs.declared.asking.Unread.TheVariants.{Refused, Memory}
 use Rattle.cli_plans.specs.declared.words.MakePolicy.{MakePolicy as AskedPolicy}
-use Rattle.cli_plans.specs.CommandLine.{Command, Flat, Generated, Run, RunWords, LiveWords, SnapWords, SweepWords, ResumeWords, max_live_events, MakePolicy, PolicyWords, Convert, Source, Rounds, Auto, Bursts, Text}
+use Rattle.cli_plans.specs.CommandLine.{Command, Flat, Generated, Run, RunWords, LiveWords, SnapWords, SweepWords, ResumeWords}
+use Rattle.cli_plans.specs.CommandLine.{max_live_events, MakePolicy, PolicyWords, Convert, Source, Rounds, Auto, Bursts, Text}
 
 -- where the events come from, by value
 abbrev pub source_value : Named → Source

@@ -2,9 +2,14 @@
 ghost use Rattle.std.specs.Prelude.{◌≡◌, ◌≤◌, IfOk, Ok, false, map, string_bytes};
 ghost use Rattle.std.specs.List.{list_any};
 ghost use Rattle.sv_types.specs.Limits.{max_events};
-ghost use Rattle.cli_plans.specs.Commands.{has_dash, flat_split, gen_split, run_split, live_split, snap_split, sweep_split, resume_split, show_split, measure_split, convert_split, survey_split};
-ghost use Rattle.cli_plans.specs.CommandLine.{Convert, split_judged, flat_judged, gen_judged, run_judged, live_of, snap_of, sweep_of, resume_of, making_judged, command_after, live_after, snap_after, sweep_after, shrink_after, resume_after, show_after, judgement_of_words, live_judged, snap_judged, sweep_judged, shrink_judged, resume_judged, show_judged, survey_of, survey_after, survey_judged};
-ghost use Rattle.cli_plans.specs.Words.{IsAsked, IsInRange, IsDrawnRun, IsBlockRun, AreNumbers, command_of, live_value, snap_value, sweep_value, resume_value, IsSurveyRun, run_value};
+ghost use Rattle.cli_plans.specs.Commands.{has_dash, flat_split, gen_split, run_split, live_split, snap_split, sweep_split, resume_split};
+ghost use Rattle.cli_plans.specs.Commands.{show_split, measure_split, convert_split, survey_split};
+ghost use Rattle.cli_plans.specs.CommandLine.{Convert, split_judged, flat_judged, gen_judged, run_judged, live_of, snap_of, sweep_of};
+ghost use Rattle.cli_plans.specs.CommandLine.{resume_of, making_judged, command_after, live_after, snap_after, sweep_after, shrink_after};
+ghost use Rattle.cli_plans.specs.CommandLine.{resume_after, show_after, judgement_of_words, live_judged, snap_judged, sweep_judged};
+ghost use Rattle.cli_plans.specs.CommandLine.{shrink_judged, resume_judged, show_judged, survey_of, survey_after, survey_judged};
+ghost use Rattle.cli_plans.specs.Words.{IsAsked, IsInRange, IsDrawnRun, IsBlockRun, AreNumbers, command_of, live_value, snap_value};
+ghost use Rattle.cli_plans.specs.Words.{sweep_value, resume_value, IsSurveyRun, run_value};
 ghost use Rattle.cli_plans.specs.declared.asking.Unread.TheVariants.{Refused, Memory};
 
 use crate::command_words::{

@@ -1,7 +1,9 @@
 // The judgement of the words after a command's name by their places, from left to right, which takes no memory.
 ghost use Rattle.std.specs.Prelude.{Ok, map, string_bytes};
-ghost use Rattle.cli_plans.specs.Commands.{flat_split, gen_split, run_split, survey_split, live_split, snap_split, sweep_split, resume_split, show_split, measure_split, convert_split};
-ghost use Rattle.cli_plans.specs.CommandLine.{Convert, split_judged, flat_judged, gen_judged, run_judged, survey_of, live_of, snap_of, sweep_of, resume_of, making_judged};
+ghost use Rattle.cli_plans.specs.Commands.{flat_split, gen_split, run_split, survey_split, live_split, snap_split, sweep_split};
+ghost use Rattle.cli_plans.specs.Commands.{resume_split, show_split, measure_split, convert_split};
+ghost use Rattle.cli_plans.specs.CommandLine.{Convert, split_judged, flat_judged, gen_judged, run_judged, survey_of, live_of, snap_of};
+ghost use Rattle.cli_plans.specs.CommandLine.{sweep_of, resume_of, making_judged};
 ghost use Rattle.cli_plans.specs.Words.{IsJudged};
 
 use crate::command_words::{

@@ -6,9 +6,13 @@ ghost use Rattle.sv_types.specs.Limits.{max_events, max_harts, min_ram_pages};
 ghost use Rattle.spec_processor.specs.Regions.{max_ram_pages};
 ghost use Rattle.policy_making.specs.WordRanges.{entries_of, are_module_names};
 ghost use Rattle.cli_plans.specs.declared.command_words.command.DiskKind.{DiskKind};
-ghost use Rattle.cli_plans.specs.Values.{flat_split_of, run_split_of, survey_split_of, live_split_of, snap_split_of, sweep_split_of, resume_split_of, measure_split_of};
-ghost use Rattle.cli_plans.specs.CommandLine.{flat_judged, gen_judged, run_judged, run_of, block_run, survey_of, live_of, snap_of, sweep_of, sweep_with, drawn_order_of, most_runs, resume_of, unless_none, source_of, auto_of, bursts_of, making_judged, terms_judged, terms_with, init_of};
-ghost use Rattle.cli_plans.specs.Words.{IsRead, IsInRange, IsDrawnRun, IsSurveyRun, IsBlockRun, AreNumbers, command_of, source_value, run_value, live_value, snap_value, sweep_value, resume_value, terms_value};
+ghost use Rattle.cli_plans.specs.Values.{flat_split_of, run_split_of, survey_split_of, live_split_of, snap_split_of, sweep_split_of};
+ghost use Rattle.cli_plans.specs.Values.{resume_split_of, measure_split_of};
+ghost use Rattle.cli_plans.specs.CommandLine.{flat_judged, gen_judged, run_judged, run_of, block_run, survey_of, live_of, snap_of};
+ghost use Rattle.cli_plans.specs.CommandLine.{sweep_of, sweep_with, drawn_order_of, most_runs, resume_of, unless_none, source_of, auto_of};
+ghost use Rattle.cli_plans.specs.CommandLine.{bursts_of, making_judged, terms_judged, terms_with, init_of};
+ghost use Rattle.cli_plans.specs.Words.{IsRead, IsInRange, IsDrawnRun, IsSurveyRun, IsBlockRun, AreNumbers, command_of, source_value};
+ghost use Rattle.cli_plans.specs.Words.{run_value, live_value, snap_value, sweep_value, resume_value, terms_value};
 
 use crate::command_words::{
     ConvertWords, DiskKind, FlatWords, LiveWords, MeasureWords, ResumeWords, RunWords, SnapWords,
@@ -315,7 +319,8 @@ fn sweep_from<'a>(
     order: DrawnOrder,
     first: u64,
 ) -> Result<Sweep<'a>, Refusal>
-    ensures read { IsRead sweep_value (sweep_with (sweep_split_of words.now) order first (number_within 1 (most_runs first) words.now.count.now) (number_within 0 max_events words.now.events.now)) result }
+    ensures read { IsRead sweep_value (sweep_with (sweep_split_of words.now) order first (number_within 1 (most_runs first) words.now.count.now)
+        (number_within 0 max_events words.now.events.now)) result }
     ensures numbers { IfOk result AreNumbers }
 {
     let Some(count) = number_within(words.count.as_bytes(), 1, most_runs(first)) else {

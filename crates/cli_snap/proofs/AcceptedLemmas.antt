@@ -15,9 +15,12 @@ use Rattle.spec_reference.specs.States.{State, has_number}
 use Rattle.script.specs.AutoScripts.{events_of_text, first_refused}
 use Rattle.cli_plans.specs.Commands.{RunSplit, has_dash, named_shape, named_words}
 use Rattle.cli_plans.specs.declared.command_words.command.DiskKind.{DiskKind}
-use Rattle.cli_plans.specs.CommandLine.{RunWords, Source, Rounds, Auto, Bursts, Text, judgement_of_words, run_words, source_of, command_after, named_judged, snap_after, unless_none, SnapWords, block_run, snap_judged, snap_words}
+use Rattle.cli_plans.specs.CommandLine.{RunWords, Source, Rounds, Auto, Bursts, Text, judgement_of_words, run_words, source_of}
+use Rattle.cli_plans.specs.CommandLine.{command_after, named_judged, snap_after, unless_none, SnapWords, block_run, snap_judged, snap_words}
 use Rattle.secvisor_cli.specs.DueIn.{due_in}
-use Rattle.cli_plans.specs.Plans.{Due, Refuse, RunFrom, Make, Plan, Found, Faulty, Missing, Longer, Held, boot_judged, boot_plan, command_plan, disk_part, disk_refusal, found_plan, image_measure, image_plan, kernel_part, part_judged, plan_of, policy_judged, policy_part, run_plan, script_part, start_with, text_part, snap_plan}
+use Rattle.cli_plans.specs.Plans.{Due, Refuse, RunFrom, Make, Plan, Found, Faulty, Missing, Longer, Held, boot_judged, boot_plan}
+use Rattle.cli_plans.specs.Plans.{command_plan, disk_part, disk_refusal, found_plan, image_measure, image_plan, kernel_part, part_judged}
+use Rattle.cli_plans.specs.Plans.{plan_of, policy_judged, policy_part, run_plan, script_part, start_with, text_part, snap_plan}
 use Rattle.cli_plans.specs.declared.file_fault.FileFault.{FileFault}
 use Rattle.cli_plans.specs.declared.file_fault.Part.{Part}
 use Rattle.cli_plans.specs.declared.refusal.Refusal.{Refusal}
@@ -160,6 +163,7 @@ line_by held line save false start events kept good any due =
     let none : list_any has_dash (snap_line line) ≡ false = last_dash (line.image ∷ line.policy ∷ line.disk ∷ line.script ∷ line.events ∷ []) save line.out good any in
     words_by held line save (source_of line.script) (number_within 0 max_events line.events) start events kept (undashed line none) due
 
-pub snap_accepted : (held : List ℕ → Option (List ℕ)) (line : SnapLine) (start : State) (events : List Event) → has_dash line.out ≡ false → IsAccepted held line start events → SnapAccepted held line start events
+pub snap_accepted : (held : List ℕ → Option (List ℕ)) (line : SnapLine) (start : State) (events : List Event) → has_dash line.out ≡ false → IsAccepted held line start events →
+    SnapAccepted held line start events
 unfolding judgement_of_words named_words
 snap_accepted held line start events good it = line_by held line it.save (list_any has_dash (run_line line it.save)) start events it.kept good refl it.due

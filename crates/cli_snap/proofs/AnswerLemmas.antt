@@ -48,7 +48,8 @@ ready_answers (Some (Make out rules line)) booted name old new result it a = abs
 ready_answers (Some (RunFrom start events save)) booted name old new result it a =
     subst (λ (es : List Event). TriesAndSnaps start es name old new result) it.1 (a start it.0)
 
-pub ready_performs : (plan : Plan) (name : List ℕ) (f0 f1 f2 : FilesState) (s0 s1 : SinkState) (b0 b1 : Option Machine) (booted : PreparedRun) (result : Result Status Trouble) → Boots plan f0 f1 (Ok booted) →
+pub ready_performs : (plan : Plan) (name : List ℕ) (f0 f1 f2 : FilesState) (s0 s1 : SinkState) (b0 b1 : Option Machine) (booted : PreparedRun) (result : Result Status Trouble) →
+    Boots plan f0 f1 (Ok booted) →
     ((start : State) → IsNew booted.machine start → TriesAndSnaps start (first_events booted.events booted.script) name (outside f1 s0 b0) (outside f2 s1 b1) result) →
     PerformsRun plan name (outside f0 s0 b0) (outside f2 s1 b1) result
 ready_performs plan name f0 f1 f2 s0 s1 b0 b1 booted result p a =

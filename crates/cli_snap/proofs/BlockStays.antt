@@ -9,7 +9,9 @@ use Rattle.sv_types.specs.BlockNumbers.{command_of}
 use Rattle.sv_types.specs.declared.block.BlockCommand.{BlockCommand}
 use Rattle.sv_types.specs.declared.block.BlockState.{BlockState}
 use Rattle.sv_types.specs.declared.block.BlockStatus.{BlockStatus}
-use Rattle.spec_reference.specs.BlockDisk.{BlockRegister, Sector, Address, Count, Command, Status, block_offset, block_width, is_register, block_register, is_busy, is_under_way, can_begin, block_told, block_ended, block_stored, unless_busy, block_store, BlockBeat, block_after_beat, block_beat}
+use Rattle.spec_reference.specs.BlockDisk.{BlockRegister, Sector, Address, Count, Command, Status, block_offset, block_width, is_register}
+use Rattle.spec_reference.specs.BlockDisk.{block_register, is_busy, is_under_way, can_begin, block_told, block_ended, block_stored}
+use Rattle.spec_reference.specs.BlockDisk.{unless_busy, block_store, BlockBeat, block_after_beat, block_beat}
 use Rattle.spec_reference.specs.States.{BlockDevice}
 use Rattle.laws_simulation.proofs.Lookups.{part_short}
 use Rattle.snapshot_format.proofs.FormLaws.{first_true, second_true}

@@ -37,11 +37,13 @@ snap_writes words old new result p = reached_writes (out_of words) p.reached (ou
 
 -- ---- the files
 
-made_changes : (start : State) (events : List Event) (name : List ℕ) (old new : FilesState) (status : Status) (saved : Result Status Trouble) → SavesMade start events name old new status saved → ChangesOut name old new
+made_changes : (start : State) (events : List Event) (name : List ℕ) (old new : FilesState) (status : Status) (saved : Result Status Trouble) →
+    SavesMade start events name old new status saved → ChangesOut name old new
 made_changes start events name old new status saved (inl it) = changes_none name old new it.1
 made_changes start events name old new status saved (inr it) = record { bytes = _; changes = changes (Some (saving_of name it.0)) old new (Ok status) saved it.2 }
 
-saves_changes : (start : State) (events : List Event) (name : List ℕ) (old new : FilesState) (written saved : Result Status Trouble) → SavesSnapshot start events name old new written saved → ChangesOut name old new
+saves_changes : (start : State) (events : List Event) (name : List ℕ) (old new : FilesState) (written saved : Result Status Trouble) →
+    SavesSnapshot start events name old new written saved → ChangesOut name old new
 saves_changes start events name old new (Err trouble) saved it = changes_none name old new it.1
 saves_changes start events name old new (Ok status) saved it = made_changes start events name old new status saved it
 
@@ -60,7 +62,8 @@ snap_effect words old new result p =
 
 -- ---- words that are refused
 
-refused_same : (name : List ℕ) (refusal : Refusal) (reached : Option Due) (old new : Outside) (result : Result Status Trouble) → reached ≡ Some (Refuse refusal) → AnswersSnapReached name reached old new result →
+refused_same : (name : List ℕ) (refusal : Refusal) (reached : Option Due) (old new : Outside) (result : Result Status Trouble) → reached ≡ Some (Refuse refusal) →
+    AnswersSnapReached name reached old new result →
     new.files ≡ old.files
 refused_same name refusal reached old new result is a = (subst (λ (r : Option Due). AnswersSnapReached name r old new result) is a).saves.0
 
@@ -89,12 +92,14 @@ saves_no_fault : (start : State) (events : List Event) (name : List ℕ) (f0 f1 
 saves_no_fault start events name f0 f1 old new (Err trouble) answer w it = λ fault. cc it.0
 saves_no_fault start events name f0 f1 old new (Ok status) answer w it = made_no_fault start events name f0 f1 status answer w.status it
 
-run_no_fault : (start : State) (events : List Event) (name : List ℕ) (old new : Outside) (result : Result Status Trouble) → RunsSnap start events name old new result → status_of_end result ≢ Status.ReadFault
+run_no_fault : (start : State) (events : List Event) (name : List ℕ) (old new : Outside) (result : Result Status Trouble) → RunsSnap start events name old new result →
+    status_of_end result ≢ Status.ReadFault
 run_no_fault start events name old new (Ok answer) r = saves_no_fault start events name old.files new.files old.sink new.sink r.2.written answer r.2.writes r.2.saves
 run_no_fault start events name old new (Err Write) r = λ is. cc is
 run_no_fault start events name old new (Err Memory) r = λ is. cc is
 
-reached_fault : (plan : Plan) (name : List ℕ) (reached : Option Due) (old new : Outside) (read : FilesState) (result : Result Status Trouble) → HasFoundFaults plan → Follows plan old.files read reached →
+reached_fault : (plan : Plan) (name : List ℕ) (reached : Option Due) (old new : Outside) (read : FilesState) (result : Result Status Trouble) → HasFoundFaults plan →
+    Follows plan old.files read reached →
     AnswersSnapReached name reached (outside read old.sink old.bench) new result → status_of_end result ≡ Status.ReadFault → HasFault plan old.files new.files
 reached_fault plan name None old new read (Ok answer) never follows a is = absurd (cc a.0)
 reached_fault plan name None old new read (Err Write) never follows a is = absurd (cc is)

@@ -16,7 +16,9 @@ use Rattle.policy.specs.Text.{rules_of_text}
 use Rattle.script.specs.AutoScripts.{events_of_text, first_refused}
 use Rattle.laws_resume.specs.DiskKinds.{is_block_disk}
 use Rattle.cli_plans.specs.CommandLine.{RunWords, Source, Rounds, Auto, Bursts, Text}
-use Rattle.cli_plans.specs.Plans.{Due, Refuse, RunFrom, Make, Plan, End, Read, Judge, Found, Faulty, Missing, Longer, Held, found_plan, policy_judged, policy_part, part_judged, kernel_part, disk_refusal, disk_part, text_part, script_part, image_measure, start_with, boot_judged, boot_plan, image_plan, run_plan}
+use Rattle.cli_plans.specs.Plans.{Due, Refuse, RunFrom, Make, Plan, End, Read, Judge, Found, Faulty, Missing, Longer, Held, found_plan}
+use Rattle.cli_plans.specs.Plans.{policy_judged, policy_part, part_judged, kernel_part, disk_refusal, disk_part, text_part, script_part}
+use Rattle.cli_plans.specs.Plans.{image_measure, start_with, boot_judged, boot_plan, image_plan, run_plan}
 use Rattle.cli_plans.specs.Reading.{Follows}
 use Rattle.secvisor_cli.specs.Ready.{IsReadyWhere, Prepares, run_ready}
 use Rattle.cli_plans.specs.declared.file_fault.FileFault.{FileFault}
@@ -85,7 +87,8 @@ policy_due next (Err fault) each = tt
 disk_due : (name : Option (List ℕ)) (next : List ℕ → Plan) → ((disk : List ℕ) → AllDue IsBlockDue (next disk)) → AllDue IsBlockDue (disk_part name next)
 unfolding disk_part
 disk_due None next each = each []
-disk_due (Some name) next each = found_due Part.Disk (λ bytes. part_judged (λ fault. fault) (next bytes) (disk_refusal bytes)) (λ bytes. part_due (λ fault. fault) (next bytes) (disk_refusal bytes) (each bytes))
+disk_due (Some name) next each = found_due Part.Disk (λ bytes. part_judged (λ fault. fault) (next bytes) (disk_refusal bytes))
+    (λ bytes. part_due (λ fault. fault) (next bytes) (disk_refusal bytes) (each bytes))
 
 script_due : (harts : ℕ) (source : Source) (next : Schedule → Plan) → ((schedule : Schedule) → AllDue IsBlockDue (next schedule)) → AllDue IsBlockDue (script_part harts source next)
 unfolding script_part text_part
@@ -136,13 +139,15 @@ stopped_where (Some (Refuse refusal)) Memory it = absurd it
 stopped_where (Some (RunFrom start events save)) Memory it = absurd it
 stopped_where (Some (Make name rules line)) Memory it = absurd it
 
-run_boots : (words : RunWords) (old new : FilesState) (booted : PreparedRun) → words.kind ≡ DiskKind.Block → Prepares (run_plan words) old new (Ok (Run booted)) → Boots (run_plan words) old new (Ok booted)
+run_boots : (words : RunWords) (old new : FilesState) (booted : PreparedRun) → words.kind ≡ DiskKind.Block → Prepares (run_plan words) old new (Ok (Run booted)) →
+    Boots (run_plan words) old new (Ok booted)
 run_boots words old new booted is p =
     record { reached = p.reached; follows = p.follows; ready = booted_where p.reached booted (reached_block words old new p.reached is p.follows) p.ready }
 
 run_stops : (plan : Plan) (old new : FilesState) (stop : Stop) → Prepares plan old new (Err stop) → Boots plan old new (Err stop)
 run_stops plan old new stop p = record { reached = p.reached; follows = p.follows; ready = stopped_where p.reached stop p.ready }
 
-pub run_booted : (words : RunWords) (old new : FilesState) (result : Result PreparedRun Stop) → words.kind ≡ DiskKind.Block → Prepares (run_plan words) old new (run_ready result) → Boots (run_plan words) old new result
+pub run_booted : (words : RunWords) (old new : FilesState) (result : Result PreparedRun Stop) → words.kind ≡ DiskKind.Block →
+    Prepares (run_plan words) old new (run_ready result) → Boots (run_plan words) old new result
 run_booted words old new (Ok booted) is p = run_boots words old new booted is p
 run_booted words old new (Err stop) is p = run_stops (run_plan words) old new stop p

@@ -98,7 +98,8 @@ wanting_performs plan f0 f1 sink bench p =
 -- ---- the words
 
 -- words that are refused
-pub words_refused : (words : Result ResumeWords Refusal) (refusal : Refusal) (files : FilesState) (old new : SinkState) (bench : Option Machine) (result : Result Status Trouble) → words ≡ Err refusal →
+pub words_refused : (words : Result ResumeWords Refusal) (refusal : Refusal) (files : FilesState) (old new : SinkState) (bench : Option Machine) (result : Result Status Trouble) →
+    words ≡ Err refusal →
     Writes (refusal_status refusal) (refusal_line refusal) old new result → (IsErrOf result Memory → IsTrue (takes_memory refusal)) → (IsErrOf result Memory → new ≡ old) →
     Performs (resume_plan words) (outside files old bench) (outside files new bench) result
 unfolding resume_plan

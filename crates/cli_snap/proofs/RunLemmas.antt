@@ -91,7 +91,8 @@ ran_at first start events m old mid new written is_new ran room undue never pref
 
 pub ran_stands : (first : Machine) (start : State) (events : List Event) (m : Machine) (old mid new : SinkState) → IsNew first start → HasRun first start events m old mid →
     length m.journal.printed < max_printed → IsFalse (flush_is_due m.journal.printed) → new ≡ after_taking mid m.journal.printed → StandsAfter start events m old new (Ok Status.Done)
-ran_stands first start events m old mid new is_new ran room undue whole = ran_at first start events m old mid new (Ok Status.Done) is_new ran room undue (λ w. cc w) (prefix_whole mid new m.journal.printed whole)
+ran_stands first start events m old mid new is_new ran room undue whole = ran_at first start events m old mid new (Ok Status.Done) is_new ran room undue (λ w. cc w)
+    (prefix_whole mid new m.journal.printed whole)
 
 pub last_broke_stands : (first : Machine) (start : State) (events : List Event) (m : Machine) (old mid new : SinkState) → IsNew first start → HasRun first start events m old mid →
     length m.journal.printed < max_printed → IsFalse (flush_is_due m.journal.printed) → BreaksOff mid new m.journal.printed → StandsAfter start events m old new (Err Write)
@@ -174,7 +175,8 @@ unfolding draw_count
 drawn_few s [] = omega arith
 drawn_few s (e ∷ events) = drawn_few_by s.journal.verdict (draw_count (step s e) events) (length events) (drawn_few (step s e) events)
 
-pub few_counted : (first m : Machine) (start : State) (n : ℕ) (script : Schedule) → IsNew first start → CountsAtMost 0 first.journal.counts → n ≤ max_events → StandsFor m (run start (first_events n script)) →
+pub few_counted : (first m : Machine) (start : State) (n : ℕ) (script : Schedule) → IsNew first start → CountsAtMost 0 first.journal.counts → n ≤ max_events →
+    StandsFor m (run start (first_events n script)) →
     events_counted m.journal.counts < 2 ^ 64
 few_counted first m start n script is_new none few stands =
     let all = counts_drawn first m start (first_events n script) is_new none stands in

@@ -54,7 +54,8 @@ encodes m text s (Err e) is written typed = tt
 
 -- ---- the snapshot of a run
 
-snapshot_of_run : (first m : Machine) (start : State) (events : List Event) (text : List TextPage) (s : Snapshot) → IsNew first start → CountsAtMost 0 first.journal.counts → StandsFor m (run start events) →
+snapshot_of_run : (first m : Machine) (start : State) (events : List Event) (text : List TextPage) (s : Snapshot) → IsNew first start → CountsAtMost 0 first.journal.counts →
+    StandsFor m (run start events) →
     text ≡ digested_text start → IsMachineSnapshot m text s → IsSnapshotOf start events s
 snapshot_of_run first m start events text s is_new few stands text_is it = record {
   state = it.state (run start events) stands;
@@ -91,7 +92,8 @@ module _ (first m : Machine) (start : State) (events : List Event) (name : List 
 
 -- ---- what ends before it is saved
 
-pub snaps_none : (start : State) (events : List Event) (name : List ℕ) (m : Machine) (files : FilesState) (sink : SinkState) → IsNew m start → SnapsTo start events name m files files sink sink (Err Memory)
+pub snaps_none : (start : State) (events : List Event) (name : List ℕ) (m : Machine) (files : FilesState) (sink : SinkState) → IsNew m start →
+    SnapsTo start events name m files files sink sink (Err Memory)
 snaps_none start events name m files sink is_new = record {
   written = Err Memory;
   writes = wanting_writes Status.Done (run start events).journal.printed sink;

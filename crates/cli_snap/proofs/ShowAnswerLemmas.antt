@@ -104,11 +104,13 @@ may_ask (Some name) files all = all _
 pub may_ok : (judged : Result (List ℕ) Refusal) (name : List ℕ) (files : FilesState) → judged ≡ Ok name → MayAsk (name_of judged) files → MayAsk (Some name) files
 may_ok judged name files is may = subst (λ (j : Result (List ℕ) Refusal). MayAsk (name_of j) files) is may
 
-pub shows_ok : (judged : Result (List ℕ) Refusal) (name : List ℕ) (files read : FilesState) (old new : SinkState) (result : Result Status Trouble) → judged ≡ Ok name → ShowsFile name files read old new result →
+pub shows_ok : (judged : Result (List ℕ) Refusal) (name : List ℕ) (files read : FilesState) (old new : SinkState) (result : Result Status Trouble) → judged ≡ Ok name →
+    ShowsFile name files read old new result →
     Shows (name_of judged) files read old new result
 shows_ok judged name files read old new result is it = subst (λ (j : Result (List ℕ) Refusal). Shows (name_of j) files read old new result) (sym is) (inr it)
 
-pub shows_refused : (judged : Result (List ℕ) Refusal) (why : Refusal) (files : FilesState) (old new : SinkState) (result : Result Status Trouble) → judged ≡ Err why → Refuses NoCommand old new result →
+pub shows_refused : (judged : Result (List ℕ) Refusal) (why : Refusal) (files : FilesState) (old new : SinkState) (result : Result Status Trouble) → judged ≡ Err why →
+    Refuses NoCommand old new result →
     Shows (name_of judged) files files old new result
 shows_refused judged why files old new result is it = subst (λ (j : Result (List ℕ) Refusal). Shows (name_of j) files files old new result) (sym is) (refl, it)
 

@@ -20,7 +20,8 @@ resumed_end resumed made events script = run resumed (events_after made events s
 -- What `snap` printed with k events, and what `resume` prints with more of them, is what `run` prints with these; verdict and
 -- disk are the same.
 pub record IsOneRun (start : State) (script : Schedule) (k made events : ℕ) (resumed : State) : Type 0 where
-  pub output : (run start (first_events k script)).journal.printed ++ output (resumed_end resumed made events script) ≡ output (run start (first_events events script))
+  pub output : (run start (first_events k script)).journal.printed ++ output (resumed_end resumed made events script) ≡
+      output (run start (first_events events script))
   pub verdict : (resumed_end resumed made events script).journal.verdict ≡ (run start (first_events events script)).journal.verdict
   pub disk : disk_bytes (resumed_end resumed made events script).devices.disk ≡ disk_bytes (run start (first_events events script)).devices.disk
 

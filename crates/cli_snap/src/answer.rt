@@ -57,7 +57,8 @@ pub fn secvisor_snap<R: Threads + Sync, F: Files, O: Sink>(
 
     // A read fault is answered only where the files tell that a name of the words isn't held, or the count of reads rose.
     ensures read_fault { result ≡ Status.ReadFault →
-        (IsTrue (F.state files.old).tells × ((name : List ℕ) × IsNamed (snap_plan (snap_judged (map string_bytes words.now))) name × ((F.state files.old).held name ≡ None)))
+        (IsTrue (F.state files.old).tells ×
+        ((name : List ℕ) × IsNamed (snap_plan (snap_judged (map string_bytes words.now))) name × ((F.state files.old).held name ≡ None)))
         ⊎ ((F.state files.old).read_faults < (F.state files.new).read_faults) }
 
     // The counts of faults never fall, and words that are refused read no file.

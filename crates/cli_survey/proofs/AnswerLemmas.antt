@@ -115,7 +115,8 @@ words_want (Err refusal) old good = absurd (cc good)
 
 -- ---- what becomes of the files and the sink
 
-reached_files : (image : List ℕ) (before : FilesState) (reached : Option Due) (old new : Outside) (result : Result Status Trouble) → AnswersReached image before reached old new result → new.files ≡ old.files
+reached_files : (image : List ℕ) (before : FilesState) (reached : Option Due) (old new : Outside) (result : Result Status Trouble) →
+    AnswersReached image before reached old new result → new.files ≡ old.files
 reached_files image before None old new result a = ap (λ (o : Outside). o.files) a.1
 reached_files image before (Some (Refuse refusal)) old new result a = a.saves.0
 reached_files image before (Some (RunFrom start events save)) old new result a = a.runs.files

@@ -157,7 +157,8 @@ ending_same : (file : List ℕ) (start : State) (events : List Event) (m : Machi
 ending_same file start events m w old new s =
     ap (λ (x : PassedWrites). lines_of file x m.journal.notes) s.writes_are ∙ ap (λ (n : List Note). lines_of file (writes_in start events) n) (notes_are m (survey start events) s.stands.stands)
 
-pub survey_finished : (file : List ℕ) (start : State) (events : List Event) (m : Machine) (w : Passed) (old mid new : SinkState) (result : Result Status Trouble) → HasSurveyed start events m w old mid →
+pub survey_finished : (file : List ℕ) (start : State) (events : List Event) (m : Machine) (w : Passed) (old mid new : SinkState) (result : Result Status Trouble) →
+    HasSurveyed start events m w old mid →
     Writes (survey_status (lines_of file (writes_view w) m.journal.notes) m.journal.verdict)
     (m.journal.printed ++ (lines_of file (writes_view w) m.journal.notes ++ report m.journal)) mid new result → SurveysTo file start events m old new result
 survey_finished file start events m w old mid new result s writes =

@@ -16,7 +16,9 @@ use Rattle.spec_hardware.specs.Reaches.{IsNew}
 use Rattle.host_io.specs.Outside.{FilesState}
 use Rattle.script.specs.AutoScripts.{events_of_text, first_refused}
 use Rattle.cli_plans.specs.CommandLine.{RunWords, Source, Rounds, Auto, Bursts, Text}
-use Rattle.cli_plans.specs.Plans.{Due, Refuse, RunFrom, Make, Plan, End, Read, Judge, Found, Faulty, Missing, Longer, Held, found_plan, policy_part, part_judged, kernel_part, disk_refusal, disk_part, text_part, script_part, image_measure, boot_judged, boot_plan, image_plan, max_image_bytes, run_plan}
+use Rattle.cli_plans.specs.Plans.{Due, Refuse, RunFrom, Make, Plan, End, Read, Judge, Found, Faulty, Missing, Longer, Held, found_plan}
+use Rattle.cli_plans.specs.Plans.{policy_part, part_judged, kernel_part, disk_refusal, disk_part, text_part, script_part, image_measure}
+use Rattle.cli_plans.specs.Plans.{boot_judged, boot_plan, image_plan, max_image_bytes, run_plan}
 use Rattle.cli_plans.specs.Reading.{Follows, FoundAs}
 use Rattle.cli_plans.proofs.PlanLemmas.{follows_keeps}
 use Rattle.cli_plans.specs.declared.file_fault.FileFault.{FileFault}
@@ -90,9 +92,11 @@ module _ (rules : Rules) (file : List ℕ) where
   disk_due : (name : Option (List ℕ)) (next : List ℕ → Plan) → ((disk : List ℕ) → AllDue (IsBootDue rules file) (next disk)) → AllDue (IsBootDue rules file) (disk_part name next)
   unfolding disk_part
   disk_due None next each = each []
-  disk_due (Some name) next each = found_due Part.Disk (λ bytes. part_judged (λ fault. fault) (next bytes) (disk_refusal bytes)) (λ bytes. part_due (λ fault. fault) (next bytes) (disk_refusal bytes) (each bytes))
+  disk_due (Some name) next each = found_due Part.Disk (λ bytes. part_judged (λ fault. fault) (next bytes) (disk_refusal bytes))
+      (λ bytes. part_due (λ fault. fault) (next bytes) (disk_refusal bytes) (each bytes))
 
-  script_due : (harts : ℕ) (source : Source) (next : Schedule → Plan) → ((schedule : Schedule) → AllDue (IsBootDue rules file) (next schedule)) → AllDue (IsBootDue rules file) (script_part harts source next)
+  script_due : (harts : ℕ) (source : Source) (next : Schedule → Plan) → ((schedule : Schedule) → AllDue (IsBootDue rules file) (next schedule)) →
+      AllDue (IsBootDue rules file) (script_part harts source next)
   unfolding script_part text_part
   script_due harts Rounds next each = each _
   script_due harts (Auto number) next each = each _

@@ -66,7 +66,8 @@ status_due file start events = survey_status (lines_due file start events) (surv
 
 -- What is due was written, or a write failed, or memory ran out. The machine stands after some of the events, and after all of
 -- them where nothing failed.
-pub record SurveysTo (file : List ℕ) (start : State) (events : List Event) (machine : Machine) (old new : SinkState) (result : Result Status Trouble) : Type 0 where
+pub record SurveysTo (file : List ℕ) (start : State) (events : List Event) (machine : Machine) (old new : SinkState)
+    (result : Result Status Trouble) : Type 0 where
   pub writes : Writes (status_due file start events) (bytes_due file start events) old new result
   pub among : StandsAmong start events machine
   pub all : OnOk result (among.left ≡ [])
@@ -88,7 +89,8 @@ pub record StartsFrom (image : List ℕ) (files : FilesState) (start : State) (f
 
 -- ---- the answer
 
-pub record SurveysFile (image : List ℕ) (files : FilesState) (start : State) (events : List Event) (old new : Outside) (result : Result Status Trouble) : Type 0 where
+pub record SurveysFile (image : List ℕ) (files : FilesState) (start : State) (events : List Event) (old new : Outside)
+    (result : Result Status Trouble) : Type 0 where
   pub file : List ℕ
   pub starts : StartsFrom image files start file
   pub runs : RunsSurvey file start events old new result

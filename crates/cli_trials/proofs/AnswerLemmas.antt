@@ -1,5 +1,6 @@
 -- What follows of an answer of `sweep`.
-use Rattle.std.proofs.Common.{◌≡◌, ◌≢◌, ◌≤◌, ◌==◌, ℕ, List, [], ◌∷◌, length, map, Bool, IsTrue, true, false, refl, sym, ◌∙◌, ap, ap₂, subst, arith, inl, inr, Option, Some, None, Result, Ok, Err, IsErrOf, if◌then◌else◌}
+use Rattle.std.proofs.Common.{◌≡◌, ◌≢◌, ◌≤◌, ◌==◌, ℕ, List, [], ◌∷◌, length, map, Bool, IsTrue, true, false, refl, sym, ◌∙◌, ap, ap₂, subst}
+use Rattle.std.proofs.Common.{arith, inl, inr, Option, Some, None, Result, Ok, Err, IsErrOf, if◌then◌else◌}
 use Rattle.std.specs.Result.{is_ok}
 use Rattle.std.proofs.lemmas.Option.{same_Some}
 use Rattle.sv_types.specs.ApprovedPages.{numbers_from}
@@ -95,7 +96,8 @@ refused_where words (Some (Refuse refusal)) given old new result it refuses = su
 refused_where words (Some (RunFrom start events save)) given old new result it refuses = absurd it
 refused_where words (Some (Make name rules line)) given old new result it refuses = absurd it
 
-pub refused_files : (words : SweepWords) (files read : FilesState) (given : Refusal) (old new : SinkState) (result : Result Status Trouble) → Prepares (run_plan (first_run words)) files read (Err (Refused given)) →
+pub refused_files : (words : SweepWords) (files read : FilesState) (given : Refusal) (old new : SinkState) (result : Result Status Trouble) →
+    Prepares (run_plan (first_run words)) files read (Err (Refused given)) →
     Refuses given old new result → SweepsFiles words files read old new result
 refused_files words files read given old new result p refuses =
     record { reached = p.reached; follows = p.follows; answers = refused_where words p.reached given old new result p.ready refuses }
@@ -106,7 +108,8 @@ wants_where words (Some (Refuse refusal)) old it = absurd it
 wants_where words (Some (RunFrom start events save)) old it = absurd it
 wants_where words (Some (Make name rules line)) old it = absurd it
 
-pub wants_files : (words : SweepWords) (files read : FilesState) (old : SinkState) → Prepares (run_plan (first_run words)) files read (Err stop.Memory) → SweepsFiles words files read old old (Err Memory)
+pub wants_files : (words : SweepWords) (files read : FilesState) (old : SinkState) → Prepares (run_plan (first_run words)) files read (Err stop.Memory) →
+    SweepsFiles words files read old old (Err Memory)
 wants_files words files read old p = record { reached = p.reached; follows = p.follows; answers = wants_where words p.reached old p.ready }
 
 -- ---- the words
@@ -143,7 +146,8 @@ keeps_files (Err why) files read old new result it = keeps_same files read it.0
 keeps_files (Ok words) files read old new result (inl wants) = keeps_same files read wants.1
 keeps_files (Ok words) files read old new result (inr it) = follows_keeps (run_plan (first_run words)) files read it.reached it.follows
 
-pub unread : (judged : Result SweepWords Refusal) (files read : FilesState) (old new : SinkState) (result : Result Status Trouble) → is_ok judged ≡ false → Sweeps judged files read old new result → read ≡ files
+pub unread : (judged : Result SweepWords Refusal) (files read : FilesState) (old new : SinkState) (result : Result Status Trouble) → is_ok judged ≡ false →
+    Sweeps judged files read old new result → read ≡ files
 unread (Err why) files read old new result bad it = it.0
 unread (Ok words) files read old new result bad it = cc bad
 

@@ -29,13 +29,15 @@ use Rattle.cli_trials.specs.ShrinkAnswers.{AnswersReached, AnswersShrunk, Shrink
 abbrev Rises : SinkState → SinkState → Type 0
 Rises old new = old.faults ≤ new.faults
 
-saved_rises : (saving : Saving) (line : List ℕ) (files saved : FilesState) (old new : SinkState) (result : Result Status Trouble) → SavesAndWrites saving line files saved old new result → Rises old new
+saved_rises : (saving : Saving) (line : List ℕ) (files saved : FilesState) (old new : SinkState) (result : Result Status Trouble) →
+    SavesAndWrites saving line files saved old new result → Rises old new
 saved_rises saving line files saved old new (Ok status) it = let same : new.faults ≡ old.faults = ap (λ (s : SinkState). s.faults) it.2 in omega (arith, same)
 saved_rises saving line files saved old new (Err Write) (inl it) = same_rises old new it.1
 saved_rises saving line files saved old new (Err Write) (inr it) = omega (arith, it.1.faults)
 saved_rises saving line files saved old new (Err Memory) it = absurd it
 
-shrunk_rises : (name : List ℕ) (shrunk : Shrunk) (files saved : FilesState) (old new : SinkState) (result : Result Status Trouble) → AnswersShrunk name shrunk files saved old new result → Rises old new
+shrunk_rises : (name : List ℕ) (shrunk : Shrunk) (files saved : FilesState) (old new : SinkState) (result : Result Status Trouble) →
+    AnswersShrunk name shrunk files saved old new result → Rises old new
 shrunk_rises name NothingStopped files saved old new result it = written_rises _ (shrunk_line NothingStopped) old new result it.1
 shrunk_rises name (Made script) files saved old new result it = saved_rises (script_saving name script) (shrunk_line (Made script)) files saved old new result it
 

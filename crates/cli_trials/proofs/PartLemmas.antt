@@ -17,7 +17,8 @@ use Rattle.cli_plans.specs.declared.command_words.command.DiskKind.{DiskKind}
 use Rattle.cli_plans.specs.declared.file_fault.FileFault.{FileFault}
 use Rattle.cli_plans.specs.declared.refusal.Refusal.TheVariants.{Measure, Entry}
 use Rattle.cli_plans.specs.CommandLine.{RunWords, Text}
-use Rattle.cli_plans.specs.Plans.{Due, Refuse, RunFrom, Plan, End, Judge, Held, max_script_bytes, part_judged, kernel_part, disk_part, text_part, script_part, image_measure, boot_judged, boot_plan, start_with}
+use Rattle.cli_plans.specs.Plans.{Due, Refuse, RunFrom, Plan, End, Judge, Held, max_script_bytes, part_judged, kernel_part, disk_part}
+use Rattle.cli_plans.specs.Plans.{text_part, script_part, image_measure, boot_judged, boot_plan, start_with}
 use Rattle.cli_plans.specs.Reading.{FoundAs, Follows}
 use Rattle.secvisor_cli.specs.declared.ready.Stop.{Stop}
 use Rattle.secvisor_cli.specs.Ready.{Passes, Staged, IsScript}

@@ -10,7 +10,8 @@ use Rattle.cli_trials.specs.declared.shrink.shrinking.Shrunk.TheVariants.{Nothin
 unfoldable pub shrunk_line : Shrunk → List ℕ
 shrunk_line NothingStopped = codes "nothing stopped" ++ line_end
 shrunk_line (Made script) =
-    codes "shrunk " ++ (decimal (length script.lines.items) ++ (codes " of " ++ (decimal script.lines_before ++ (codes " runs " ++ (decimal script.runs ++ line_end)))))
+    codes "shrunk " ++
+    (decimal (length script.lines.items) ++ (codes " of " ++ (decimal script.lines_before ++ (codes " runs " ++ (decimal script.runs ++ line_end)))))
 
 abbrev pub shrunk_status : Shrunk → Status
 shrunk_status NothingStopped = Status.Ended

@@ -21,7 +21,8 @@ run_due words rules file disk schedule = RunFrom (start_with words.kind rules fi
 -- from a policy that is accepted and an image, a run begins with this disk and this order; or it is refused, or memory ran out
 abbrev pub BootsFrom : RunWords → Rules → (file : List ℕ) → FilesState → FilesState → Result AfterImage Stop → Type 0
 BootsFrom words rules file old new (Ok rest) =
-    Follows (kernel_part rules file (boot_plan words rules file)) old new (Some (run_due words rules file rest.disk.items (order_schedule rules.harts rest.order)))
+    Follows (kernel_part rules file (boot_plan words rules file)) old new
+    (Some (run_due words rules file rest.disk.items (order_schedule rules.harts rest.order)))
 BootsFrom words rules file old new (Err stop) = Prepares (kernel_part rules file (boot_plan words rules file)) old new (Err stop)
 
 -- the run begins from these files

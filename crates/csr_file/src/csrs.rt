@@ -2,7 +2,9 @@
 
 ghost use Rattle.std.specs.Prelude.{◌≡◌, ◌^◌, ◌<◌, true};
 ghost use Rattle.std.specs.Result.{result_err};
-ghost use Rattle.spec_processor.specs.HypervisorRegisters.{registers_at_boot, hip_value, at_guest_places, at_hypervisor_places, guest_alias, with_alias, is_hypervisor_number, refusal, csr_access, read_virtual, write_virtual, read_answer, after_write};
+ghost use Rattle.spec_processor.specs.HypervisorRegisters.{registers_at_boot, hip_value, at_guest_places, at_hypervisor_places};
+ghost use Rattle.spec_processor.specs.HypervisorRegisters.{guest_alias, with_alias, is_hypervisor_number, refusal, csr_access};
+ghost use Rattle.spec_processor.specs.HypervisorRegisters.{read_virtual, write_virtual, read_answer, after_write};
 ghost use Rattle.spec_processor.specs.Registers.{legal_satp};
 
 use crate::hypervisor::{

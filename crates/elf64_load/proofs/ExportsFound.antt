@@ -21,7 +21,8 @@ first_of false s rest = refl
 address_more : (strings symbols wanted : List ℕ) (i n m : ℕ) → n ≡ suc m
     → address_among strings (symbols_from symbols i n) wanted
     ≡ (if defines strings wanted (symbol_at symbols i) then Some (symbol_at symbols i).value else address_among strings (symbols_from symbols (i + 1) m) wanted)
-address_more strings symbols wanted i n m more = rw more (first_of (defines strings wanted (symbol_at symbols i)) (symbol_at symbols i) (find (defines strings wanted) (symbols_from symbols (i + 1) m)))
+address_more strings symbols wanted i n m more = rw more (first_of (defines strings wanted (symbol_at symbols i)) (symbol_at symbols i)
+    (find (defines strings wanted) (symbols_from symbols (i + 1) m)))
 
 pub address_before : (strings symbols wanted : List ℕ) (i j n m : ℕ) (s : Symbol) (before after : Option ℕ) → n ≡ suc m → j ≡ i + 1 → s ≡ symbol_at symbols i
     → before ≡ address_among strings (symbols_from symbols j m) wanted → after ≡ (if defines strings wanted s then Some s.value else before)

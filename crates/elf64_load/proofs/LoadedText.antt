@@ -1,5 +1,6 @@
 -- The text of a good image is what RAM holds in the pages of its text once its segments are loaded.
-use Rattle.std.proofs.Common.{◌≡◌, ℕ, ◌+◌, ◌-◌, ◌*◌, ◌/◌, ◌%◌, ◌<◌, ◌≤◌, inl, inr, Bool, true, false, List, [], ◌∷◌, length, get_or, map, flat_map, filter, Option, Some, None, refl, ap, sym, ◌∙◌, arith, replicate, fold, All}
+use Rattle.std.proofs.Common.{◌≡◌, ℕ, ◌+◌, ◌-◌, ◌*◌, ◌/◌, ◌%◌, ◌<◌, ◌≤◌, inl, inr, Bool, true, false, List, [], ◌∷◌, length, get_or, map}
+use Rattle.std.proofs.Common.{flat_map, filter, Option, Some, None, refl, ap, sym, ◌∙◌, arith, replicate, fold, All}
 use Rattle.std.specs.Prelude.{nat_le, nat_lt, ◌&&◌, ◌||◌, find, is_some, if◌then◌else◌}
 use Rattle.std.specs.List.{list_any}
 use Rattle.std.proofs.lemmas.Bool.{cases_Bool, and_parts, leb-true, or_parts}
@@ -8,7 +9,9 @@ use Rattle.std.proofs.lemmas.List.{length-replicate}
 use Rattle.std.proofs.lemmas.List.Elements.{All-head, All-tail}
 use Rattle.std.proofs.Math.Bool.{or-true}
 use Rattle.spec_processor.specs.Bytes.{with_padding, page_bytes, page_size, page_of, ram_base, ram_offset}
-use Rattle.sv_types.specs.Kernel.{LoadedSegment, with_segment, segments_ram, loaded_segment, kernel_segments, kernel_refusal, loaded_headers, table_count, segment_checks, is_executable, may_clash, text_is_shared, first_page, last_page, is_text_of, filled_part, text_page, text_page_in, text_pages, text_of}
+use Rattle.sv_types.specs.Kernel.{LoadedSegment, with_segment, segments_ram, loaded_segment, kernel_segments, kernel_refusal}
+use Rattle.sv_types.specs.Kernel.{loaded_headers, table_count, segment_checks, is_executable, may_clash, text_is_shared, first_page}
+use Rattle.sv_types.specs.Kernel.{last_page, is_text_of, filled_part, text_page, text_page_in, text_pages, text_of}
 use Rattle.sv_types.specs.ApprovedPages.{numbers_from}
 use Rattle.spec_processor.specs.Regions.{max_ram_pages}
 use Rattle.sv_types.specs.declared.kernel.ProgramHeader.{ProgramHeader}
@@ -219,7 +222,8 @@ text_loaded file ram_pages hs sound apart =
     let size : length ram ≡ page_size * ram_pages = length-replicate (page_size * ram_pages) 0 in
     let sound_here : All (Sound file (length ram)) hs = rw size sound in
     passing (text_page ss) (page_bytes (with_segments file ram hs)) (λ page. list_any (is_text_of page) ss)
-    (λ page text. page_found file ram ram_pages page hs size (λ i. zero_at (page_size * ram_pages) i) sound_here apart (find (is_text_of page) ss) refl (sym (found_or_none (is_text_of page) ss) ∙ text))
+    (λ page text. page_found file ram ram_pages page hs size (λ i. zero_at (page_size * ram_pages) i) sound_here apart (find (is_text_of page) ss) refl
+    (sym (found_or_none (is_text_of page) ss) ∙ text))
     (λ page none. page_none page (find (is_text_of page) ss) (sym (found_or_none (is_text_of page) ss) ∙ none))
     (numbers_from 0 max_ram_pages)
 

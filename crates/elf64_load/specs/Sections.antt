@@ -1,5 +1,6 @@
 -- Sections, symbols and their names. ELF-64 Object File Format, "Sections", "Symbol Table" and "String Table".
-use Rattle.std.specs.Prelude.{ℕ, ◌+◌, ◌*◌, ◌/◌, Bool, ◌&&◌, List, length, take, drop, map, find, ◌==◌, if◌then◌else◌, nat_le, nat_lt, Option, Some, None, slice_get}
+use Rattle.std.specs.Prelude.{ℕ, ◌+◌, ◌*◌, ◌/◌, Bool, ◌&&◌, List, length, take, drop, map, find, ◌==◌, if◌then◌else◌, nat_le, nat_lt}
+use Rattle.std.specs.Prelude.{Option, Some, None, slice_get}
 use Rattle.std.specs.List.{position_or_len}
 use Rattle.std.specs.Str.{is_utf8}
 use Rattle.spec_processor.specs.Bytes.{word, part}
@@ -7,7 +8,8 @@ use Rattle.sv_types.specs.Policies.{is_between}
 use Rattle.sv_types.specs.ApprovedPages.{numbers_from}
 use Rattle.elf64_load.specs.declared.sections.sections.SectionHeader.{SectionHeader}
 use Rattle.elf64_load.specs.declared.sections.tables.Symbol.{Symbol}
-use Rattle.sv_types.specs.Elf.{e_shoff, e_shentsize, e_shnum, section_header_size, sh_type, sh_flags, sh_offset, sh_size, sh_link, sh_info, sh_addralign, sh_entsize, sht_symtab, sht_strtab, symbol_size, st_info, st_shndx, st_value}
+use Rattle.sv_types.specs.Elf.{e_shoff, e_shentsize, e_shnum, section_header_size, sh_type, sh_flags, sh_offset, sh_size, sh_link, sh_info}
+use Rattle.sv_types.specs.Elf.{sh_addralign, sh_entsize, sht_symtab, sht_strtab, symbol_size, st_info, st_shndx, st_value}
 use Rattle.sv_types.specs.Limits.{max_name_bytes}
 
 -- ---- section headers

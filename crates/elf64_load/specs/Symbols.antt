@@ -1,6 +1,7 @@
 -- Functions and labels among the symbols of a file, and the nearest one at or below an address.
 -- ELF-64 Object File Format, "Symbol Table"; RISC-V ELF psABI, "Mapping Symbol".
-use Rattle.std.specs.Prelude.{ℕ, ◌+◌, ◌-◌, ◌*◌, ◌%◌, Bool, false, not, ◌&&◌, ◌||◌, List, [], ◌∷◌, take, drop, position, ◌==◌, if◌then◌else◌, nat_le, nat_lt, Option, Some, None}
+use Rattle.std.specs.Prelude.{ℕ, ◌+◌, ◌-◌, ◌*◌, ◌%◌, Bool, false, not, ◌&&◌, ◌||◌, List, [], ◌∷◌, take, drop, position, ◌==◌, if◌then◌else◌}
+use Rattle.std.specs.Prelude.{nat_le, nat_lt, Option, Some, None}
 use Rattle.spec_processor.specs.Bytes.{word}
 use Rattle.sv_types.specs.ApprovedPages.{numbers_from}
 use Rattle.sv_types.specs.Elf.{shn_undef, shn_loreserve, symbol_size}

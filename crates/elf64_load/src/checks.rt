@@ -4,7 +4,8 @@ ghost use Rattle.std.specs.Prelude.{◌≡◌, ◌+◌, ◌*◌, ◌≤◌, ◌<
 ghost use Rattle.std.specs.List.{list_any};
 ghost use Rattle.elf64_load.specs.Headers.{HasMemory};
 ghost use Rattle.sv_types.specs.Elf.{file_header_size, program_header_size};
-ghost use Rattle.sv_types.specs.Kernel.{first_refusal, header_checks, table_checks, segment_checks, image_checks, is_executable, is_writable, memory_in_ram, table_place, table_count, table_in_file};
+ghost use Rattle.sv_types.specs.Kernel.{first_refusal, header_checks, table_checks, segment_checks, image_checks, is_executable};
+ghost use Rattle.sv_types.specs.Kernel.{is_writable, memory_in_ram, table_place, table_count, table_in_file};
 
 use crate::sections::elf::{
     E_PHENTSIZE, E_PHNUM, E_PHOFF, ET_EXEC, PF_W_BIT, PF_X_BIT, PROGRAM_HEADER_BYTES,

@@ -32,7 +32,8 @@ fn define<'a>(
     strings: &'a [u8],
     symbol: &Symbol,
 ) -> Result<(), AllocError>
-    ensures { OnOk result ((name : List ℕ) → number_by_name addresses.new name ≡ (if spec.defines strings.now name symbol.now then Some symbol.now.value else number_by_name addresses.old name)) }
+    ensures { OnOk result ((name : List ℕ) → number_by_name addresses.new name ≡
+        (if spec.defines strings.now name symbol.now then Some symbol.now.value else number_by_name addresses.old name)) }
 {
     if !is_defined_global(symbol) {
         return Ok(());

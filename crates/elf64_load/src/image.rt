@@ -84,7 +84,8 @@ fn text_range(segment: &Segment) -> PageRange
 // Writes a segment's number at the pages of its text.
 fn claim_pages(owners: &mut [usize], segment: &Segment, number: usize)
     requires { length owners.old ≡ max_ram_pages }
-    ensures { (page : ℕ) → page < max_ram_pages → slice_index owners.new page ≡ (if is_text_of page (segment_of segment.now) then number else slice_index owners.old page) }
+    ensures { (page : ℕ) → page < max_ram_pages → slice_index owners.new page ≡
+        (if is_text_of page (segment_of segment.now) then number else slice_index owners.old page) }
 {
     let range = text_range(segment);
     owners[range.first..range.end].fill(number);

@@ -7,5 +7,6 @@ ghost use Rattle.sv_types.specs.Kernel.{kernel_refusal, kernel_segments, segment
 /// The text of a file that isn't refused is what RAM holds in the pages of its text, one after the other in ascending
 /// order, once all segments are loaded.
 pub fn law_text_in_ram()
-    ensures { (file : List ℕ) (ram_pages : ℕ) → kernel_refusal file ram_pages ≡ None → text_of (kernel_segments file) ≡ flat_map (page_bytes (segments_ram (kernel_segments file) ram_pages)) (text_pages (kernel_segments file)) }
+    ensures { (file : List ℕ) (ram_pages : ℕ) → kernel_refusal file ram_pages ≡ None → text_of (kernel_segments file) ≡
+        flat_map (page_bytes (segments_ram (kernel_segments file) ram_pages)) (text_pages (kernel_segments file)) }
 {}

@@ -2,7 +2,8 @@
 
 ghost use Rattle.std.specs.Prelude.{◌≡◌, ◌+◌, ◌≤◌, None, length, flat_map, map, IfOk, OnOk, IfErr};
 ghost use Rattle.sv_types.specs.Elf.{file_header_size};
-ghost use Rattle.sv_types.specs.Kernel.{first_refusal, header_checks, segment_checks, loaded_headers, loaded_segment, header_entry, kernel_refusal, kernel_segments};
+ghost use Rattle.sv_types.specs.Kernel.{first_refusal, header_checks, segment_checks, loaded_headers, loaded_segment, header_entry};
+ghost use Rattle.sv_types.specs.Kernel.{kernel_refusal, kernel_segments};
 ghost use Rattle.elf64_load.specs.Images.{segment_of, segments_of};
 ghost use Rattle.elf64_load.specs.Refusals.{IsRefusalOf};
 ghost use Rattle.elf64_load.specs.declared.read.ElfRefusal.TheVariants.{Fault, Memory};

@@ -18,7 +18,9 @@ use Rattle.elf64_load.specs.Sections.{symbol_count, symbol_at, name_at}
 use Rattle.elf64_load.specs.declared.sections.tables.Symbol.{Symbol}
 use Rattle.elf64_load.proofs.Steps.{ok_same}
 use Rattle.elf64_reloc.specs.Asking.{asked_of, asked_bytes, place_alignment}
-use Rattle.elf64_reloc.specs.Modules.{Judging, site_at, or_nothing, low_fields, fields_for, fields_with, fields_asked, fields_judged, found_sites, each_judged, call_fields, one_field, judging_of, is_high_at, relocations_of_object, sites_of}
+use Rattle.elf64_reloc.specs.Modules.{Judging, site_at, or_nothing, low_fields, fields_for, fields_with, fields_asked, fields_judged}
+use Rattle.elf64_reloc.specs.Modules.{found_sites, each_judged, call_fields, one_field, judging_of, is_high_at, relocations_of_object}
+use Rattle.elf64_reloc.specs.Modules.{sites_of}
 use Rattle.elf64_reloc.specs.Objects.{Object}
 use Rattle.elf64_reloc.specs.Refusals.{Judged}
 use Rattle.elf64_reloc.specs.Symbols.{Names, symbol_target, target_of, section_target, space_target, wanted_target, target_at_base}
@@ -205,14 +207,17 @@ field_by total exports j r kind t false f sound low is based at most aligned =
     (site_made total exports r.place kind t r.addend r.place most at aligned based at (or_right (is_low_part kind) (r.place == r.place) (eq-eqb r.place r.place refl)), tt)
 
 asked_sites : (total exports : ℕ) (j : Judging) (r : Relocation) (asked : Asked) (t : Target) (f : Found) → IsSound total exports j → fields_for j r asked t ≡ Ok f
-    → HasBase exports t → IsPlace total r.place → r.place + asked_bytes asked ≤ total → total ≤ page_size * 1024 → r.place % place_alignment (Some asked) ≡ 0 → Each (IsSiteOf total exports) (found_sites f)
+    → HasBase exports t → IsPlace total r.place → r.place + asked_bytes asked ≤ total → total ≤ page_size * 1024 → r.place % place_alignment (Some asked) ≡ 0 →
+    Each (IsSiteOf total exports) (found_sites f)
 asked_sites total exports j r Call t f sound is based at fits most aligned =
     subst (λ (x : Found). Each (IsSiteOf total exports) (found_sites x)) (ok_same (call_fields r t) f is) (call_sites total exports r t fits most aligned based)
 asked_sites total exports j r (Field kind) t f sound is based at fits most aligned = field_by total exports j r kind t (is_low_part kind) f sound refl is based at most aligned
 
-judged_sites : (total exports : ℕ) (j : Judging) (r : Relocation) (f : Found) → IsSound total exports j → total ≤ page_size * 1024 → IsJudged total j r f → Each (IsSiteOf total exports) (found_sites f)
+judged_sites : (total exports : ℕ) (j : Judging) (r : Relocation) (f : Found) → IsSound total exports j → total ≤ page_size * 1024 → IsJudged total j r f →
+    Each (IsSiteOf total exports) (found_sites f)
 judged_sites total exports j r f sound most judged =
-    asked_sites total exports j r judged.asked judged.target f sound judged.fields (subst (IfThere (HasBase exports)) judged.symbol (sound.bases r.symbol)) (judged_place total j r f judged) judged.fits most
+    asked_sites total exports j r judged.asked judged.target f sound judged.fields (subst (IfThere (HasBase exports)) judged.symbol (sound.bases r.symbol))
+    (judged_place total j r f judged) judged.fits most
     judged.aligned
 
 -- ---- all relocations
@@ -223,7 +228,8 @@ places_by : (total : ℕ) (j : Judging) (r : Relocation) (rs : List Relocation) 
 places_by total j r rs before sites (Ok f) here is of most rest = (judged_place total j r f (is_judged total j r f here of most), rest (before ++ found_sites f) is)
 places_by total j r rs before sites (Err fault) here is of most rest = absurd (cc is)
 
-all_places : (total : ℕ) (j : Judging) (rs : List Relocation) (before sites : List Site) → each_judged j before rs ≡ Ok sites → Each (IsOfText total) rs → total ≤ page_size * 1024 → Each (IsPlaced total) rs
+all_places : (total : ℕ) (j : Judging) (rs : List Relocation) (before sites : List Site) → each_judged j before rs ≡ Ok sites → Each (IsOfText total) rs →
+    total ≤ page_size * 1024 → Each (IsPlaced total) rs
 all_places total j [] before sites is of most = tt
 all_places total j (r ∷ rs) before sites is of most =
     places_by total j r rs before sites (fields_judged j r) refl is of.0 most (λ now more. all_places total j rs now sites more of.1 most)

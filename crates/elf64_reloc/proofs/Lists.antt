@@ -1,5 +1,6 @@
 -- Lists that grow by one step.
-use Rattle.std.proofs.Common.{◌≡◌, ℕ, zero, suc, ◌+◌, ◌-◌, ◌<◌, ◌≤◌, Bool, true, false, cond, ◌≢◌, ◌%◌, ◌&&◌, ◌||◌, List, [], ◌∷◌, ◌++◌, length, drop, get_or, Option, Some, Ok, refl, ap, sym, ◌∙◌, arith, append_assoc}
+use Rattle.std.proofs.Common.{◌≡◌, ℕ, zero, suc, ◌+◌, ◌-◌, ◌<◌, ◌≤◌, Bool, true, false, cond, ◌≢◌, ◌%◌, ◌&&◌, ◌||◌, List, [], ◌∷◌, ◌++◌}
+use Rattle.std.proofs.Common.{length, drop, get_or, Option, Some, Ok, refl, ap, sym, ◌∙◌, arith, append_assoc}
 use Rattle.spec_processor.specs.Bytes.{page_size}
 use Rattle.std.specs.Prelude.{◌==◌, nat_le, if◌then◌else◌, find}
 use Rattle.std.specs.BTreeMap.{insert_entry}

@@ -1,6 +1,7 @@
 -- A module that is read is within the limits: its text is whole pages, at most 1,024, and its fields stand in it, in the
 -- order of their places, under bases that there are.
-use Rattle.std.proofs.Common.{◌≡◌, ℕ, ◌+◌, ◌-◌, ◌*◌, ◌/◌, ◌%◌, ◌^◌, ◌<◌, ◌≤◌, Bool, true, false, List, [], ◌∷◌, ◌++◌, length, map, Option, Some, None, Ok, Err, Ordering, Less, Equal, Greater, refl, ap, sym, subst, ◌∙◌, arith, length-append}
+use Rattle.std.proofs.Common.{◌≡◌, ℕ, ◌+◌, ◌-◌, ◌*◌, ◌/◌, ◌%◌, ◌^◌, ◌<◌, ◌≤◌, Bool, true, false, List, [], ◌∷◌, ◌++◌, length, map, Option}
+use Rattle.std.proofs.Common.{Some, None, Ok, Err, Ordering, Less, Equal, Greater, refl, ap, sym, subst, ◌∙◌, arith, length-append}
 use Rattle.spec_processor.specs.Bytes.{page_size}
 use Rattle.std.specs.Prelude.{◌&&◌, ◌||◌, ◌==◌, nat_le, nat_lt, if◌then◌else◌, Result, IfOk, slice_get}
 use Rattle.std.specs.BTreeMap.{insert_entry}
@@ -11,7 +12,9 @@ use Rattle.std.proofs.lemmas.Bool.Decides.{nat_tests}
 use Rattle.std.proofs.lemmas.List.{length-replicate, length-map}
 use Rattle.sv_types.specs.ApprovedPages.{numbers_from}
 use Rattle.sv_types.specs.Kernel.{first_refusal, file_checks}
-use Rattle.sv_types.specs.Policies.{is_low_part, site_size, module_pages_within, sites_count_within, place_within, is_aligned, base_within, anchor_within, site_within, site_end, field_end, sites_end, is_after, next_site_within, each_within, sites_within}
+use Rattle.sv_types.specs.Policies.{is_low_part, site_size, module_pages_within, sites_count_within, place_within, is_aligned, base_within}
+use Rattle.sv_types.specs.Policies.{anchor_within, site_within, site_end, field_end, sites_end, is_after, next_site_within, each_within}
+use Rattle.sv_types.specs.Policies.{sites_within}
 use Rattle.sv_types.specs.declared.image_fault.HeaderFault.{HeaderFault}
 use Rattle.sv_types.specs.declared.module.Site.{Site}
 use Rattle.sv_types.specs.declared.policy.Export.{Export}
@@ -20,7 +23,8 @@ use Rattle.sv_types.proofs.PageNumbers.{numbers_length}
 use Rattle.elf64_load.specs.Sections.{Tables, sections_in_file, sections_among, sections_of, sections_count, sections_place, section_at, tables_of}
 use Rattle.elf64_load.proofs.Steps.{ok_same}
 use Rattle.elf64_reloc.specs.Layouts.{is_good_alignment, padding, no_ends, placed_sections, text_size}
-use Rattle.elf64_reloc.specs.Modules.{Module, ordered_from, ordered_sites, some_touch, is_too_large, fields_overlap, module_with, module_of, module_judged, sites_of, text_of, text_from, whole_pages, zeros, pages_of, module_fits}
+use Rattle.elf64_reloc.specs.Modules.{Module, ordered_from, ordered_sites, some_touch, is_too_large, fields_overlap, module_with, module_of}
+use Rattle.elf64_reloc.specs.Modules.{module_judged, sites_of, text_of, text_from, whole_pages, zeros, pages_of, module_fits}
 use Rattle.elf64_reloc.specs.ModuleViews.{module_view}
 use Rattle.elf64_reloc.specs.Objects.{Object, is_good_part, object_with, object_of, object_after, object_judged}
 use Rattle.elf64_reloc.specs.Refusals.{Judged}
@@ -219,7 +223,8 @@ object_fits exports o sites short alignments is few apart some =
 
 by_tests : (exports : List Export) (o : Object) (sites : List Site) (large overlap none : Bool) (m : Module) → is_too_large o.sections sites ≡ large
     → fields_overlap sites (ordered_sites sites) ≡ overlap → (text_size o.sections == 0) ≡ none
-    → (if large then Err ObjectFault.TooLarge else if overlap then Err ObjectFault.Overlap else if none then Err ObjectFault.NoText else Ok (record { text = text_of o; sites = ordered_sites sites })) ≡ Ok m
+    → (if large then Err ObjectFault.TooLarge else if overlap then Err ObjectFault.Overlap else if none then Err ObjectFault.NoText else
+    Ok (record { text = text_of o; sites = ordered_sites sites })) ≡ Ok m
     → IsShort o → list_all is_good_alignment o.sections ≡ true → sites_of exports o ≡ Ok sites → module_fits (length exports) m ≡ true
 by_tests exports o sites true overlap none m sized apart some e short alignments is = absurd (cc e)
 by_tests exports o sites false true none m sized apart some e short alignments is = absurd (cc e)
@@ -276,7 +281,8 @@ object_short : (file : List ℕ) (o : Object) → object_judged file ≡ Ok o �
 unfolding object_judged
 object_short file o e short = behind (first_refusal (file_checks 1 file)) file o e short
 
-by_object : (file : List ℕ) (exports : List Export) (judged : Judged Object) (m : Module) → object_judged file ≡ judged → (judged >>= module_of exports) ≡ Ok m → length file ≤ 2 ^ 32 → module_fits (length exports) m ≡ true
+by_object : (file : List ℕ) (exports : List Export) (judged : Judged Object) (m : Module) → object_judged file ≡ judged → (judged >>= module_of exports) ≡ Ok m →
+    length file ≤ 2 ^ 32 → module_fits (length exports) m ≡ true
 by_object file exports (Ok o) m is e short = by_sites exports o (list_all is_good_alignment o.sections) (sites_of exports o) m refl refl e (object_short file o is short)
 by_object file exports (Err fault) m is e short = absurd (cc e)
 

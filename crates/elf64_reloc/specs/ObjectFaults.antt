@@ -2,7 +2,8 @@
 use Rattle.std.specs.Prelude.{ℕ}
 use Rattle.sv_types.specs.ImageFaults.{header_fault_number}
 use Rattle.elf64_reloc.specs.declared.fault.ObjectFault.{ObjectFault}
-use Rattle.elf64_reloc.specs.declared.fault.ObjectFault.TheVariants.{Header, SectionHeaders, OutsideFile, NoSymbols, Alignment, Kind, Symbol, OutsideSection, NoHighPart, TooLarge, Overlap, NoText, Name}
+use Rattle.elf64_reloc.specs.declared.fault.ObjectFault.TheVariants.{Header, SectionHeaders, OutsideFile, NoSymbols, Alignment, Kind}
+use Rattle.elf64_reloc.specs.declared.fault.ObjectFault.TheVariants.{Symbol, OutsideSection, NoHighPart, TooLarge, Overlap, NoText, Name}
 
 abbrev pub object_fault_number : ObjectFault → ℕ
 object_fault_number (Header fault) = header_fault_number fault

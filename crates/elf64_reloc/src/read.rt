@@ -41,7 +41,8 @@ fn fields_by<'a, 'n>(
     highs: &'a BTreeMap<u64, Relocation>,
     relocations: &[Relocation],
 ) -> Result<Vec<Site>, RelocRefusal>
-    ensures ok { IfOk result (λ sites. spec.each_judged (record { names = names_view names.now; high_at = get nat_cmp highs.now }) [] relocations.now ≡ Ok sites.items) }
+    ensures ok { IfOk result (λ sites. spec.each_judged (record { names = names_view names.now; high_at = get nat_cmp highs.now }) []
+        relocations.now ≡ Ok sites.items) }
     ensures refused { IfErr result (Refuses (spec.each_judged (record { names = names_view names.now; high_at = get nat_cmp highs.now }) [] relocations.now)) }
 {
     let judging = Judging {

@@ -38,7 +38,8 @@ fn keep_high(
     highs: &mut BTreeMap<u64, Relocation>,
     relocation: &Relocation,
 ) -> Result<(), AllocError>
-    ensures { OnOk result ((place : ℕ) → get nat_cmp highs.new place ≡ (if spec.is_high_at place relocation.now then Some relocation.now else get nat_cmp highs.old place)) }
+    ensures { OnOk result ((place : ℕ) → get nat_cmp highs.new place ≡
+        (if spec.is_high_at place relocation.now then Some relocation.now else get nat_cmp highs.old place)) }
 {
     if is_high(Asked::of(relocation.kind)) {
         highs.insert(relocation.place, *relocation)?;

@@ -139,7 +139,8 @@ leaf_gives below sight page protection host at a access deeper l whole =
     let fetch : Bool = view_permits sight page protection Fetch in
     let f : ℕ = flags store fetch in
     let few : f < 1024 = few_flags store fetch in
-    let address : page_size * ((1024 * host + f) / 2 ^ 10 % 2 ^ 44) + a % (page_size * 512 ^ below) ≡ page_size * host + a % (page_size * 512 ^ below) = ap (λ (n : ℕ). page_size * n + a % (page_size * 512 ^ below)) (named host f few l) in
+    let address : page_size * ((1024 * host + f) / 2 ^ 10 % 2 ^ 44) + a % (page_size * 512 ^ below) ≡
+    page_size * host + a % (page_size * 512 ^ below) = ap (λ (n : ℕ). page_size * n + a % (page_size * 512 ^ below)) (named host f few l) in
     rw (leaf_pointer host f few l, never_points store fetch, leaf_is below host f few l whole, leaf_permits host f access few, says sight page protection access, address) refl
 
 -- ---- whether an entry of level 1 is a leaf

@@ -36,7 +36,8 @@ step_on : (read : ℕ → Option ℕ) (grants : ℕ → Bool) (i : ℕ) (is : Li
 unfolding walk
 step_on read grants i is table a p e l = rw e (pointer_gives grants (length is) (table + 8 * i) a p (λ next. walk read grants is next a) l)
 
-step_leaf : (read : ℕ → Option ℕ) (access : Access) (i table a host : ℕ) (sight : Sight) (page : ℕ) (protection : Protection) → read (table + 8 * i) ≡ Some (leaf sight page protection host) → host < 2 ^ 44
+step_leaf : (read : ℕ → Option ℕ) (access : Access) (i table a host : ℕ) (sight : Sight) (page : ℕ) (protection : Protection) → read (table + 8 * i) ≡
+    Some (leaf sight page protection host) → host < 2 ^ 44
     → walk read (permits_guest access) (i ∷ []) table a ≡ (if view_permits sight page protection access then At (page_size * host + a % page_size) else PageFault)
 unfolding walk
 step_leaf read access i table a host sight page protection e l =
@@ -44,7 +45,8 @@ step_leaf read access i table a host sight page protection e l =
     rw e (leaf_gives 0 sight page protection host (table + 8 * i) a access (λ next. walk read (permits_guest access) [] next a) l whole)
 
 -- a leaf of level 1
-step_block : (read : ℕ → Option ℕ) (access : Access) (i j table a host : ℕ) (sight : Sight) (page : ℕ) (protection : Protection) → read (table + 8 * i) ≡ Some (leaf sight page protection host) → host < 2 ^ 44
+step_block : (read : ℕ → Option ℕ) (access : Access) (i j table a host : ℕ) (sight : Sight) (page : ℕ) (protection : Protection) → read (table + 8 * i) ≡
+    Some (leaf sight page protection host) → host < 2 ^ 44
     → host % 512 ≡ 0 → walk read (permits_guest access) (i ∷ j ∷ []) table a ≡ (if view_permits sight page protection access then At (page_size * host + a % 2097152) else PageFault)
 unfolding walk
 step_block read access i j table a host sight page protection e l whole =
@@ -302,12 +304,14 @@ module _ (tables : List ℕ) (pages : ℕ) (bound : List ℕ) (ps : ℕ → Prot
   abbrev sight : Sight
   sight = sight_in bound tree
 
-  by_tables : (gpa : ℕ) (access : Access) → gpa < 2 ^ guest_address_bits → guest_destination (entry_in_tables tables) hgatp gpa access ≡ leads (table_size pages (length bound)) pages sight ps gpa access
+  by_tables : (gpa : ℕ) (access : Access) → gpa < 2 ^ guest_address_bits → guest_destination (entry_in_tables tables) hgatp gpa access ≡
+      leads (table_size pages (length bound)) pages sight ps gpa access
   by_tables gpa access l =
       walk_leads (entry_in_tables tables) pages (leaf_tables pages) (table_pages pages (length bound)) (tree_count (length bound)) (sight_in bound) ps
       (holds_reads (entry_in_tables tables) tables pages bound ps h (reads_tables tables)) tree hgatp there rooted gpa access l
 
-  by_region : (ram : List ℕ) (gpa : ℕ) (access : Access) → gpa < 2 ^ guest_address_bits → guest_destination (entry_in_region (with_ram tables ram)) hgatp gpa access ≡ leads (table_size pages (length bound)) pages sight ps gpa access
+  by_region : (ram : List ℕ) (gpa : ℕ) (access : Access) → gpa < 2 ^ guest_address_bits → guest_destination (entry_in_region (with_ram tables ram)) hgatp gpa access ≡
+      leads (table_size pages (length bound)) pages sight ps gpa access
   by_region ram gpa access l =
       walk_leads (entry_in_region (with_ram tables ram)) pages (leaf_tables pages) (table_pages pages (length bound)) (tree_count (length bound)) (sight_in bound) ps
       (holds_reads (entry_in_region (with_ram tables ram)) tables pages bound ps h (reads_region tables ram)) tree hgatp there rooted gpa access l

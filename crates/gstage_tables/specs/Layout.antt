@@ -6,7 +6,8 @@
 use Rattle.std.specs.Prelude.{◌≡◌, ℕ, ◌+◌, ◌-◌, ◌*◌, ◌/◌, ◌^◌, ◌<◌, ◌≤◌, ◌==◌, Bool, if◌then◌else◌, nat_lt, List, length, slice_index_or}
 use Rattle.spec_processor.specs.Bytes.{word, page_size}
 use Rattle.spec_processor.specs.Regions.{max_ram_pages}
-use Rattle.spec_processor.specs.Translation.{is_leaf, entry_size, page_number_shift, valid_place, readable_place, writable_place, executable_place, user_place, accessed_place, dirty_place}
+use Rattle.spec_processor.specs.Translation.{is_leaf, entry_size, page_number_shift, valid_place, readable_place, writable_place}
+use Rattle.spec_processor.specs.Translation.{executable_place, user_place, accessed_place, dirty_place}
 use Rattle.sv_types.specs.Views.{Sight, OfKernel, OfUser, OfEntry, view_permits}
 use Rattle.spec_processor.specs.declared.access.Access.TheVariants.{Fetch, Store}
 use Rattle.sv_types.specs.Limits.{max_entries}
@@ -187,7 +188,8 @@ pub record HoldsTrees (tables : List ℕ) (ram_pages : ℕ) (bound : List ℕ) (
 -- each block that lies in RAM is one leaf of level 1 in each tree exactly where all its pages are free
 pub record MapsBlocks (tables : List ℕ) (ram_pages : ℕ) (bound : List ℕ) (protections : ℕ → Protection) : Type 0 where
   pub each : (tree block : ℕ) → tree < tree_count (length bound) → block_pages * block + block_pages ≤ ram_pages
-      → is_leaf 1 (word tables (entry_size * (table_words * middle_table (tree_count (length bound)) tree + block)) entry_size) ≡ (taken_pages protections block == 0)
+      → is_leaf 1 (word tables (entry_size * (table_words * middle_table (tree_count (length bound)) tree + block)) entry_size) ≡
+      (taken_pages protections block == 0)
 
 -- the trees for these protections lie in the tables, and count the pages that are taken
 pub record AreDrawn (tables : List ℕ) (trees : Shape) (protections : ℕ → Protection) : Type 0 where

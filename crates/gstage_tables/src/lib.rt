@@ -10,7 +10,9 @@ ghost use Rattle.spec_processor.specs.declared.access.Access.TheVariants.{Fetch}
 ghost use Rattle.sv_types.specs.declared.protection.Protection.{Protection as Kind};
 ghost use Rattle.sv_types.specs.Protections.{is_free};
 ghost use Rattle.gstage_tables.specs.Blocks.{lies_in_ram, is_whole_by, count_after, table_words, block_pages};
-ghost use Rattle.gstage_tables.specs.Layout.{max_bound, tree_count, sight_in, leaf_tables, middle_table, leaf_table, table_pages, table_size, leaf, middle_word, leaf_word, HoldsTrees, AreDrawn, MapsBlocks, root_words, max_trees, max_table_pages, max_block_pages, upper_words};
+ghost use Rattle.gstage_tables.specs.Layout.{max_bound, tree_count, sight_in, leaf_tables, middle_table, leaf_table, table_pages};
+ghost use Rattle.gstage_tables.specs.Layout.{table_size, leaf, middle_word, leaf_word, HoldsTrees, AreDrawn, MapsBlocks, root_words};
+ghost use Rattle.gstage_tables.specs.Layout.{max_trees, max_table_pages, max_block_pages, upper_words};
 ghost use Rattle.gstage_tables.specs.Written.{Wrote};
 ghost use Rattle.gstage_tables.specs.Protecting.{MayProtect, Protects};
 ghost use Rattle.spec_processor.specs.Translation.{entry_size};
@@ -309,7 +311,9 @@ impl Trees {
     fn middle(&self, tree: u64, i: u64, whole: bool) -> u64
         requires tree { tree < tree_count (length self.now.bound) }
         requires entry { i < table_words }
-        ensures { result ≡ middle_word (tree_count (length self.now.bound)) (leaf_tables self.now.ram_pages) (table_pages self.now.ram_pages (length self.now.bound)) (sight_in self.now.bound tree) tree i whole }
+        ensures { result ≡
+            middle_word (tree_count (length self.now.bound)) (leaf_tables self.now.ram_pages)
+            (table_pages self.now.ram_pages (length self.now.bound)) (sight_in self.now.bound tree) tree i whole }
     {
         if i < self.leaf_tables() {
             if whole {
@@ -362,9 +366,11 @@ impl Trees {
         requires size { length mem.old.tables ≡ table_size self.now.ram_pages (length self.now.bound) }
         ensures ram { mem.new.ram ≡ mem.old.ram }
         ensures size { length mem.new.tables ≡ length mem.old.tables }
-        ensures below { (k : ℕ) → k < upper_words * tree_count (length self.now.bound) → word mem.new.tables (entry_size * k) entry_size ≡ word mem.old.tables (entry_size * k) entry_size }
+        ensures below { (k : ℕ) → k < upper_words * tree_count (length self.now.bound) → word mem.new.tables (entry_size * k) entry_size ≡
+            word mem.old.tables (entry_size * k) entry_size }
         ensures leaves { (tree p : ℕ) → tree < tree_count (length self.now.bound) → p < block_pages * leaf_tables self.now.ram_pages
-            → word mem.new.tables (entry_size * (table_words * leaf_table (tree_count (length self.now.bound)) (leaf_tables self.now.ram_pages) tree + p)) entry_size
+            → word mem.new.tables
+            (entry_size * (table_words * leaf_table (tree_count (length self.now.bound)) (leaf_tables self.now.ram_pages) tree + p)) entry_size
             ≡ leaf_word self.now.ram_pages (table_pages self.now.ram_pages (length self.now.bound)) (sight_in self.now.bound tree) all_free p }
     {
         for tree in 0..self.count() {

@@ -3,7 +3,8 @@
 ghost use Rattle.std.specs.Prelude.{◌≡◌, ◌+◌, ◌*◌, ◌/◌, ◌<◌, ◌≤◌, ◌^◌};
 ghost use Rattle.spec_processor.specs.Regions.{max_ram_pages};
 ghost use Rattle.gstage_tables.specs.Blocks.{table_words, block_pages};
-ghost use Rattle.gstage_tables.specs.Layout.{leaf_tables, leaf_table, pointer, flags, readable_flags, written_flags, root_word, last_in_block, max_trees, max_table_pages, max_block_pages, page_number_unit};
+ghost use Rattle.gstage_tables.specs.Layout.{leaf_tables, leaf_table, pointer, flags, readable_flags, written_flags, root_word};
+ghost use Rattle.gstage_tables.specs.Layout.{last_in_block, max_trees, max_table_pages, max_block_pages, page_number_unit};
 ghost use Rattle.spec_processor.specs.Roots.{root_page_bits};
 
 use bitflags::Flags;

@@ -4,7 +4,8 @@ use Rattle.std.specs.Prelude.{ℕ, ◌+◌, ◌*◌, ◌^◌, List, [], ◌∷�
 use Rattle.spec_processor.specs.Bytes.{low_bytes, with_padding, page_size, ram_base}
 use Rattle.spec_processor.specs.Encoding.{word_of}
 use Rattle.spec_processor.specs.declared.instruction.Instr.{Instr}
-use Rattle.sv_types.specs.Elf.{file_header_size, elf_magic, elfclass64, elfdata2lsb, ev_current, et_exec, em_riscv, program_header_size, pt_load, pf_x_bit, pf_w_bit, pf_r_bit}
+use Rattle.sv_types.specs.Elf.{file_header_size, elf_magic, elfclass64, elfdata2lsb, ev_current, et_exec, em_riscv, program_header_size}
+use Rattle.sv_types.specs.Elf.{pt_load, pf_x_bit, pf_w_bit, pf_r_bit}
 use Rattle.sv_types.specs.declared.kernel.ProgramHeader.{ProgramHeader}
 use Rattle.guest_gen.specs.declared.fields.Field.{Field}
 use Rattle.guest_gen.specs.declared.fields.Field.TheVariants.{Byte, Half, Word, Double}

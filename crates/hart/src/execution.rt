@@ -77,7 +77,9 @@ fn fetch<W: InterruptLines>(
     interrupt_lines: &W,
 ) -> Outcome
     requires ready { MayAttempt mem.old core.old regs.now cache.old }
-    ensures attempted { attempted_of mem.new core.new regs.now result ≡ after_fetch mem.old (core_of core.old regs.now) (W.seen interrupt_lines.now) (translation_result mem.old (core_of core.old regs.now) Access.Fetch core.old.pc 0) }
+    ensures attempted { attempted_of mem.new core.new regs.now result ≡
+        after_fetch mem.old (core_of core.old regs.now) (W.seen interrupt_lines.now)
+        (translation_result mem.old (core_of core.old regs.now) Access.Fetch core.old.pc 0) }
     ensures kept { StaysReady mem.old mem.new core.new regs.now cache.old cache.new }
 {
     match translation_result(core, regs, cache, mem, Request::fetch(core.pc)) {
@@ -113,7 +115,8 @@ fn carry_out<W: InterruptLines>(
     decoded: &Decoded,
 ) -> Outcome
     requires ready { MayAttempt mem.old core.old regs.now cache.old }
-    ensures attempted { attempted_of mem.new core.new regs.now result ≡ after_word mem.old (core_of core.old regs.now) (W.seen interrupt_lines.now) decoded.now.word }
+    ensures attempted { attempted_of mem.new core.new regs.now result ≡
+        after_word mem.old (core_of core.old regs.now) (W.seen interrupt_lines.now) decoded.now.word }
     ensures kept { StaysReady mem.old mem.new core.new regs.now cache.old cache.new }
 {
     let word = decoded.word;

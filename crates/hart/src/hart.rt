@@ -55,7 +55,8 @@ pub struct Hart {
 impl Hart {
     /// A stopped hart whose registers and pc are 0, without a reservation.
     pub fn at_boot() -> Hart
-        ensures { result ≡ record { core = record { regs = replicate register_count 0; pc = 0; csrs = registers_at_boot; reservation = None }; started = false } }
+        ensures { result ≡
+            record { core = record { regs = replicate register_count 0; pc = 0; csrs = registers_at_boot; reservation = None }; started = false } }
     {
         Hart {
             core: Core::at_boot(),

@@ -4,7 +4,8 @@ ghost use Rattle.std.specs.Prelude.{◌≡◌, ◌≤◌, ℕ, ◌/◌, ◌%◌,
 ghost use Rattle.spec_processor.specs.Regions.{IsWidth, IsHostPlace};
 ghost use Rattle.spec_processor.specs.GStage.{WalksApart};
 ghost use Rattle.spec_processor.specs.CachedWalks.{CacheAgrees};
-ghost use Rattle.spec_processor.specs.HardwareMemory.{misaligned_cause, page_fault, guest_page_fault, fault_exception, settings_at, translation_result, aligned_translation, load_htinst, store_htinst, atomic_htinst};
+ghost use Rattle.spec_processor.specs.HardwareMemory.{misaligned_cause, page_fault, guest_page_fault, fault_exception, settings_at};
+ghost use Rattle.spec_processor.specs.HardwareMemory.{translation_result, aligned_translation, load_htinst, store_htinst, atomic_htinst};
 ghost use Rattle.spec_processor.specs.Roots.{IsFirstStageRoot};
 ghost use Rattle.spec_processor.specs.declared.access.Access.TheVariants as Access;
 ghost use Rattle.hart.specs.Cores.{core_of};

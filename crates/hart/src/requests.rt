@@ -172,7 +172,8 @@ pub(crate) fn store_conditional(
     requires register { rd < register_count }
     requires place { IfOk place (λ hpa. IsHostPlace mem.old hpa stored.width) }
     requires ram { IfOk place (λ hpa. length mem.old.tables ≤ hpa) }
-    ensures attempted { attempted_of mem.new core.new regs.now result ≡ after_store_conditional mem.old (core_of core.old regs.now) rd stored.width stored.value place }
+    ensures attempted { attempted_of mem.new core.new regs.now result ≡
+        after_store_conditional mem.old (core_of core.old regs.now) rd stored.width stored.value place }
     ensures tables { mem.new.tables ≡ mem.old.tables }
     ensures pc { core.new.pc % instruction_size ≡ 0 }
 {
@@ -223,7 +224,8 @@ pub(crate) fn atomic(
     requires width { (operation.width ≡ 4) ⊎ (operation.width ≡ 8) }
     requires place { IfOk place (λ hpa. IsHostPlace mem.old hpa operation.width) }
     requires ram { IfOk place (λ hpa. length mem.old.tables ≤ hpa) }
-    ensures attempted { attempted_of mem.new core.new regs.now result ≡ after_amo mem.old (core_of core.old regs.now) rd operation.width operation.op operation.value place }
+    ensures attempted { attempted_of mem.new core.new regs.now result ≡
+        after_amo mem.old (core_of core.old regs.now) rd operation.width operation.op operation.value place }
     ensures tables { mem.new.tables ≡ mem.old.tables }
     ensures pc { core.new.pc % instruction_size ≡ 0 }
 {

@@ -3,7 +3,8 @@
 ghost use Rattle.std.specs.Prelude.{◌≡◌, ◌<◌, ◌%◌, if◌then◌else◌};
 ghost use Rattle.spec_processor.specs.Requests.{csr_value};
 ghost use Rattle.spec_processor.specs.Hardware.{plain_exception, raise};
-ghost use Rattle.spec_processor.specs.HardwareAttempt.{illegal, virtual_instruction, csr_exception, csr_reached, csr_read, with_csr, after_csr, after_supervisor_only, after_sret, call_cause};
+ghost use Rattle.spec_processor.specs.HardwareAttempt.{illegal, virtual_instruction, csr_exception, csr_reached, csr_read, with_csr};
+ghost use Rattle.spec_processor.specs.HardwareAttempt.{after_csr, after_supervisor_only, after_sret, call_cause};
 ghost use Rattle.spec_processor.specs.IntegerRegisters.{register_count};
 ghost use Rattle.hart.specs.Cores.{core_of, step_of};
 ghost use Rattle.hart.specs.Conditions.{MayStep};
@@ -77,7 +78,10 @@ pub(crate) struct CsrAccess {
 // Writes the register, where the access writes, and gives its old value.
 fn exchange(core: &mut Core, regs: &HRegs, lines: &Lines, access: CsrAccess, csr: Csr) -> u64
     ensures value { result ≡ csr_read (core_of core.old regs.now) lines.now csr }
-    ensures core { core_of core.new regs.now ≡ (if access.writes then with_csr (core_of core.old regs.now) csr (csr_value access.op (csr_read (core_of core.old regs.now) lines.now csr) access.value) else core_of core.old regs.now) }
+    ensures core { core_of core.new regs.now ≡
+        (if access.writes then
+        with_csr (core_of core.old regs.now) csr (csr_value access.op (csr_read (core_of core.old regs.now) lines.now csr) access.value) else
+        core_of core.old regs.now) }
 {
     let old = core.csrs.value(regs.hideleg, lines, csr);
     if access.writes {

@@ -1,4 +1,5 @@
--- Raw bytes in memory, in the terms of separation logic (J. C. Reynolds, Separation Logic, 2002): room in which nothing lies yet, bytes that lie there, the right to give them back.
+-- Raw bytes in memory, in the terms of separation logic (J. C. Reynolds, Separation Logic, 2002): room in which nothing
+-- lies yet, bytes that lie there, the right to give them back.
 use Rattle.std.specs.Prelude.{ℕ, List}
 use base.Fml.{Fml, Lft}
 use base.Fraction.{full_share}

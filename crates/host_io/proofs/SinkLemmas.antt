@@ -31,7 +31,8 @@ pub took_more : (old now new : SinkState) (bytes rest : List ℕ) (n : ℕ) → 
 took_more old now new bytes rest n to took = record {
   written = to.written ++ take n rest;
   whole =
-      ap (λ (r : List ℕ). (to.written ++ take n rest) ++ r) (take_rest rest n) ∙ append_assoc to.written (take n rest) (drop n rest) ∙ ap (λ (r : List ℕ). to.written ++ r) (take-append-drop n rest) ∙ to.whole;
+      ap (λ (r : List ℕ). (to.written ++ take n rest) ++ r) (take_rest rest n) ∙ append_assoc to.written (take n rest) (drop n rest) ∙
+      ap (λ (r : List ℕ). to.written ++ r) (take-append-drop n rest) ∙ to.whole;
   state = took ∙ ap (λ (s : SinkState). after_taking s (take n rest)) to.state ∙ after_taking-append old to.written (take n rest);
 }
 

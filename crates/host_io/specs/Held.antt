@@ -1,5 +1,6 @@
 -- Files in memory: names with their bytes, of which the first of a name counts.
-use Rattle.std.specs.Prelude.{◌<◌, ◌≤◌, ◌==◌, ◌&&◌, ◌||◌, not, nat_lt, nat_le, ℕ, length, vec_capacity, All, List, Bool, true, false, find, map, option_map, Option, Some, None, Vec}
+use Rattle.std.specs.Prelude.{◌<◌, ◌≤◌, ◌==◌, ◌&&◌, ◌||◌, not, nat_lt, nat_le, ℕ, length, vec_capacity, All, List, Bool, true, false, find}
+use Rattle.std.specs.Prelude.{map, option_map, Option, Some, None, Vec}
 use Rattle.std.specs.List.{list_any}
 use Rattle.std.specs.Str.{bytes_eq}
 use Rattle.std.specs.declared.alloc.Global.{Global}

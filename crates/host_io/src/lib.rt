@@ -59,7 +59,8 @@ pub trait Files {
         ensures others { (other : List ℕ) → other ≢ name.now → (state self.new).held other ≡ (state self.old).held other }
         ensures fault { OnErr result ((state self.old).save_faults < (state self.new).save_faults) }
         ensures no_fault { OnOk result ((state self.new).save_faults ≡ (state self.old).save_faults) }
-        ensures leaves { state self.new ≡ record (after_saving name.now bytes.now (state self.old)) { held = (state self.new).held; save_faults = (state self.new).save_faults } };
+        ensures leaves { state self.new ≡
+            record (after_saving name.now bytes.now (state self.old)) { held = (state self.new).held; save_faults = (state self.new).save_faults } };
 
     /// Whether a file can be made under a name, where one may be saved there next: nothing is saved, and the permission isn't
     /// used up. A save may fail all the same.

@@ -1,5 +1,6 @@
 // Files in memory.
-ghost use Rattle.std.specs.Prelude.{◌≡◌, ◌≢◌, ◌<◌, ◌-◌, ℕ, List, Option, ◌+◌, ◌↔◌, IfOk, OnOk, OnErr, IsErrOf, IfErr, AllPairs, IsTrue, ◌≤◌, Some, length, vec_len, vec_capacity, ◌&&◌, not, ◌==◌, [], false};
+ghost use Rattle.std.specs.Prelude.{◌≡◌, ◌≢◌, ◌<◌, ◌-◌, ℕ, List, Option, ◌+◌, ◌↔◌, IfOk, OnOk, OnErr, IsErrOf, IfErr, AllPairs, IsTrue};
+ghost use Rattle.std.specs.Prelude.{◌≤◌, Some, length, vec_len, vec_capacity, ◌&&◌, not, ◌==◌, [], false};
 ghost use Rattle.std.specs.Option.{option_copied};
 ghost use Rattle.std.specs.Result.{is_err};
 ghost use Rattle.host_io.specs.Outside.{ReadTells, ReadLeaves, TryFails, after_saving};
@@ -123,7 +124,8 @@ impl Files for MemFiles {
     fn read(&mut self, alloc: Global, name: &str, limit: usize) -> Result<Vec<u8>, FileRefusal>
         requires count { CanCount self.old.read_faults }
         ensures tells { ReadTells (memory_state self.old.files.items self.old.barred.items self.old.read_faults self.old.save_faults) name.now limit result }
-        ensures leaves { ReadLeaves (memory_state self.old.files.items self.old.barred.items self.old.read_faults self.old.save_faults) (memory_state self.new.files.items self.new.barred.items self.new.read_faults self.new.save_faults) name.now limit result }
+        ensures leaves { ReadLeaves (memory_state self.old.files.items self.old.barred.items self.old.read_faults self.old.save_faults)
+            (memory_state self.new.files.items self.new.barred.items self.new.read_faults self.new.save_faults) name.now limit result }
         // A read fails exactly where its number is listed.
         ensures fails { IsErrOf result FileRefusal.Failed ↔ IsTrue (is_to_fail self.old.failing_reads.items self.old.reads) }
         ensures counted { self.new.reads ≡ next_count self.old.reads }
@@ -151,7 +153,9 @@ impl Files for MemFiles {
         ensures others { (other : List ℕ) → other ≢ name.now → held_in self.new.files.items other ≡ held_in self.old.files.items other }
         ensures fault { OnErr result (self.new.save_faults ≡ self.old.save_faults + 1) }
         ensures no_fault { OnOk result (self.new.save_faults ≡ self.old.save_faults) }
-        ensures leaves { memory_state self.new.files.items self.new.barred.items self.new.read_faults self.new.save_faults ≡ record (after_saving name.now bytes.now (memory_state self.old.files.items self.old.barred.items self.old.read_faults self.old.save_faults)) { held = held_in self.new.files.items; save_faults = self.new.save_faults } }
+        ensures leaves { memory_state self.new.files.items self.new.barred.items self.new.read_faults self.new.save_faults ≡
+            record (after_saving name.now bytes.now (memory_state self.old.files.items self.old.barred.items self.old.read_faults
+            self.old.save_faults)) { held = held_in self.new.files.items; save_faults = self.new.save_faults } }
         // A save fails exactly where its number is listed, the room that is left is exceeded, no file more has a place, or the
         // text is no name. Then every name holds what it held.
         ensures fails { is_err result ≡ save_fails self.old.failing_saves.items self.old.saves self.old.room (vec_len self.old.spare) name.now bytes.now }
@@ -185,7 +189,8 @@ impl Files for MemFiles {
         ensures free { OnOk result (is_barred self.old.barred.items name.now ≡ false) }
         ensures same { OnOk result (self.new ≡ self.old) }
         ensures counted { OnErr result (self.new ≡ record self.old { save_faults = self.old.save_faults + 1 }) }
-        ensures failed { OnErr result (TryFails (memory_state self.old.files.items self.old.barred.items self.old.read_faults self.old.save_faults) (memory_state self.new.files.items self.new.barred.items self.new.read_faults self.new.save_faults)) }
+        ensures failed { OnErr result (TryFails (memory_state self.old.files.items self.old.barred.items self.old.read_faults self.old.save_faults)
+            (memory_state self.new.files.items self.new.barred.items self.new.read_faults self.new.save_faults)) }
     {
         if is_barred(&self.barred, name) {
             self.save_faults += 1;

@@ -41,7 +41,9 @@ word_4 list at n e fits =
     rw e (omega arith)
 
 pub word_8 : (list : List ℕ) (at n : ℕ) → n ≡ 8 → at + 8 ≤ length list
-    → word list at n ≡ from_le_bytes w64 (get_or list at 0 ∷ get_or list (at + 1) 0 ∷ get_or list (at + 2) 0 ∷ get_or list (at + 3) 0 ∷ get_or list (at + 4) 0 ∷ get_or list (at + 5) 0 ∷ get_or list (at + 6) 0 ∷ get_or list (at + 7) 0 ∷ [])
+    → word list at n ≡
+    from_le_bytes w64 (get_or list at 0 ∷ get_or list (at + 1) 0 ∷ get_or list (at + 2) 0 ∷ get_or list (at + 3) 0 ∷ get_or list (at + 4) 0 ∷ get_or list (at +
+    5) 0 ∷ get_or list (at + 6) 0 ∷ get_or list (at + 7) 0 ∷ [])
 word_8 list at n e fits =
     let more0 = word_more list at (at + 1) 7 refl (omega arith) in
     let more1 = word_more list (at + 1) (at + 2) 6 (omega arith) (omega arith) in

@@ -38,7 +38,8 @@ impl Model for HostMem {
 
     ghost view = { λ m. region_of m.table_bytes m.bytes };
 
-    ghost invariant = { λ m. (length m.bytes ≡ m.table_bytes + page_size * m.ram_pages) × ((m.table_bytes % page_size ≡ 0) × ((m.ram_pages ≤ max_ram_pages) × (length m.bytes < 2 ^ 63))) };
+    ghost invariant = { λ m. (length m.bytes ≡ m.table_bytes + page_size * m.ram_pages) ×
+        ((m.table_bytes % page_size ≡ 0) × ((m.ram_pages ≤ max_ram_pages) × (length m.bytes < 2 ^ 63))) };
 }
 
 impl HostMem {

@@ -4,7 +4,8 @@ use Rattle.spec_processor.specs.Bytes.{in_ram}
 use Rattle.sv_types.specs.declared.block.BlockStatus.{BlockStatus}
 use Rattle.spec_reference.specs.States.{BlockDevice}
 use Rattle.spec_reference.specs.Start.{block_at_boot}
-use Rattle.spec_reference.specs.BlockDisk.{BlockRegister, block_width, Sector, Address, Count, Command, Status, beat_size, sector_size, is_busy, beats_done, beat_gpa, BlockBeat, transfer_ended, block_to_memory, block_to_disk}
+use Rattle.spec_reference.specs.BlockDisk.{BlockRegister, block_width, Sector, Address, Count, Command, Status, beat_size, sector_size}
+use Rattle.spec_reference.specs.BlockDisk.{is_busy, beats_done, beat_gpa, BlockBeat, transfer_ended, block_to_memory, block_to_disk}
 use Rattle.spec_reference.specs.Move.{OutsideRam}
 use Rattle.hw_devices.specs.declared.block.registers.Register.{Register}
 

@@ -2,7 +2,8 @@
 
 ghost use Rattle.std.specs.Prelude.{◌≡◌, ◌+◌, ◌%◌, ◌^◌, ◌<◌, ◌≤◌, Some, length, true, false};
 ghost use Rattle.spec_processor.specs.Bytes.{overwrite};
-ghost use Rattle.spec_reference.specs.BlockDisk.{is_busy, can_begin, block_ended, block_told, block_stored, block_after_beat, beat_gpa, beat_place, beat_size, beats_done, is_under_way, sector_size};
+ghost use Rattle.spec_reference.specs.BlockDisk.{is_busy, can_begin, block_ended, block_told, block_stored, block_after_beat, beat_gpa};
+ghost use Rattle.spec_reference.specs.BlockDisk.{beat_place, beat_size, beats_done, is_under_way, sector_size};
 ghost use Rattle.spec_reference.specs.Disk.{is_writable};
 ghost use Rattle.spec_reference.specs.States.{BlockDisk};
 ghost use Rattle.sv_types.specs.declared.block.BlockCommand.TheVariants.{DiskToMemory, MemoryToDisk};

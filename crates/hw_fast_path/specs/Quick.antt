@@ -92,7 +92,8 @@ pub record MayTurn (r : Region) (core : Kept) (regs : HRegs) (lines : List (Opti
   pub reach : ReachAgrees r.tables kept
 
 -- what a turn that was tried leaves: the hart may go on, by the same registers if it wasn't steered, and what is kept agrees with the tables
-pub record Turned (tried : Tried) (before after : Region) (core next : Kept) (regs : HRegs) (lines held : List (Option CacheLine)) (kept : List (Option Line)) : Type 0 where
+pub record Turned (tried : Tried) (before after : Region) (core next : Kept) (regs : HRegs) (lines held : List (Option CacheLine))
+    (kept : List (Option Line)) : Type 0 where
   pub on : GoesOn before after core next regs lines held
   pub course : Steers tried core.csrs next.csrs
   pub reach : ReachAgrees after.tables kept

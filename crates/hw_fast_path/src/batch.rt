@@ -36,7 +36,8 @@ fn turn(
 ) -> Tried
     requires may { MayTurn mem.old core.old regs.now cache.old reach.old }
     requires leads { Leads mem.old (core_of core.old regs.now) window.old.page window.old.host }
-    ensures comes { (lines : Lines) → pending regs.now core.old.csrs lines ≡ None → Comes result (attempt mem.old (core_of core.old regs.now) lines) mem.old mem.new (core_of core.old regs.now) (core_of core.new regs.now) }
+    ensures comes { (lines : Lines) → pending regs.now core.old.csrs lines ≡ None →
+        Comes result (attempt mem.old (core_of core.old regs.now) lines) mem.old mem.new (core_of core.old regs.now) (core_of core.new regs.now) }
     ensures turned { Turned result mem.old mem.new core.old core.new regs.now cache.old cache.new reach.new }
     ensures leads { Leads mem.new (core_of core.new regs.now) window.new.page window.new.host }
 {
@@ -109,7 +110,8 @@ fn batch_of_turns(
     most: u64,
 ) -> Batch
     requires may { MayTurn mem.old core.old regs.now cache.old reach.old }
-    ensures ends { (lines : Lines) → pending regs.now core.old.csrs lines ≡ None → EndsBy result.left result.made mem.old (core_of core.old regs.now) lines mem.new (core_of core.new regs.now) }
+    ensures ends { (lines : Lines) → pending regs.now core.old.csrs lines ≡ None →
+        EndsBy result.left result.made mem.old (core_of core.old regs.now) lines mem.new (core_of core.new regs.now) }
     ensures most { turns_of result ≤ most }
     ensures on { GoesOn mem.old mem.new core.old core.new regs.now cache.old cache.new }
     ensures reach { ReachAgrees mem.new.tables reach.new }
@@ -158,7 +160,8 @@ pub fn quick_turns(
 ) -> Batch
     requires may { MayTurn mem.old core.old regs.now cache.old reach.old }
     requires count { words.old + most < 2 ^ 64 }
-    ensures ends { (lines : Lines) → pending regs.now core.old.csrs lines ≡ None → EndsBy result.left result.made mem.old (core_of core.old regs.now) lines mem.new (core_of core.new regs.now) }
+    ensures ends { (lines : Lines) → pending regs.now core.old.csrs lines ≡ None →
+        EndsBy result.left result.made mem.old (core_of core.old regs.now) lines mem.new (core_of core.new regs.now) }
     ensures most { turns_of result ≤ most }
     ensures on { GoesOn mem.old mem.new core.old core.new regs.now cache.old cache.new }
     ensures reach { ReachAgrees mem.new.tables reach.new }

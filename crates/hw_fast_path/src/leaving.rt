@@ -60,7 +60,8 @@ fn note_exit(core: &mut Core, cause: Cause, stval: u64)
 #[inline(always)]
 fn leave_by(core: &mut Core, regs: &HRegs, word: u32) -> Leaving
     requires ready { MayStep core.old regs.now }
-    ensures comes { (r : Region) → (lines : Lines) → LeavesBy result (after_word r (core_of core.old regs.now) lines word) r (core_of core.old regs.now) (core_of core.new regs.now) }
+    ensures comes { (r : Region) → (lines : Lines) →
+        LeavesBy result (after_word r (core_of core.old regs.now) lines word) r (core_of core.old regs.now) (core_of core.new regs.now) }
     ensures pc { core.new.pc ≡ core.old.pc }
     ensures reservation { core.new.reservation ≡ core.old.reservation }
 {
@@ -88,7 +89,8 @@ fn leave_by(core: &mut Core, regs: &HRegs, word: u32) -> Leaving
 pub(crate) fn leave(core: &mut Core, regs: &HRegs, mem: &HostMem, window: Window) -> Leaving
     requires ready { MayStep core.old regs.now }
     requires leads { Leads mem.now (core_of core.old regs.now) window.page window.host }
-    ensures comes { (lines : Lines) → pending regs.now core.old.csrs lines ≡ None → LeavesBy result (attempt mem.now (core_of core.old regs.now) lines) mem.now (core_of core.old regs.now) (core_of core.new regs.now) }
+    ensures comes { (lines : Lines) → pending regs.now core.old.csrs lines ≡ None →
+        LeavesBy result (attempt mem.now (core_of core.old regs.now) lines) mem.now (core_of core.old regs.now) (core_of core.new regs.now) }
     ensures pc { core.new.pc ≡ core.old.pc }
     ensures reservation { core.new.reservation ≡ core.old.reservation }
 {

@@ -59,7 +59,8 @@ fn held_place(
     requires apart { WalksApart mem.now regs.now.hgatp }
     requires agrees { CacheAgrees mem.now.tables cache.now }
     requires reach { ReachAgrees mem.now.tables reach.now }
-    ensures value { IfSome result (λ hpa. (htinst : ℕ) → translation_result mem.now (core_of core.now regs.now) reference.access reference.address htinst ≡ Ok hpa) }
+    ensures value { IfSome result (λ hpa. (htinst : ℕ) →
+        translation_result mem.now (core_of core.now regs.now) reference.access reference.address htinst ≡ Ok hpa) }
     ensures place { IfSome result (λ hpa. (width : ℕ) → IsWidth width → reference.address % width ≡ 0 → IsHostPlace mem.now hpa width) }
     ensures ram { IfSome result (λ hpa. length mem.now.tables ≤ hpa) }
 {
@@ -88,7 +89,8 @@ pub(crate) fn place(
     reference: Reference,
 ) -> Option<u64>
     requires may { MayTranslate mem.now regs.now.hgatp cache.old reach.old }
-    ensures value { (htinst : ℕ) → IfSome result (λ hpa. translation_result mem.now (core_of core.now regs.now) reference.access reference.address htinst ≡ Ok hpa) }
+    ensures value { (htinst : ℕ) →
+        IfSome result (λ hpa. translation_result mem.now (core_of core.now regs.now) reference.access reference.address htinst ≡ Ok hpa) }
     ensures place { (width : ℕ) → IsWidth width → reference.address % width ≡ 0 → IfSome result (λ hpa. IsHostPlace mem.now hpa width) }
     ensures ram { IfSome result (λ hpa. length mem.now.tables ≤ hpa) }
     ensures translated { Translated mem.now.tables regs.now.hgatp cache.old cache.new reach.new }
@@ -136,7 +138,8 @@ pub(crate) fn aligned_place(
 ) -> Option<u64>
     requires may { MayTranslate mem.now regs.now.hgatp cache.old reach.old }
     requires width { IsWidth reference.width }
-    ensures value { (htinst : ℕ) → IfSome result (λ hpa. aligned_translation mem.now (core_of core.now regs.now) reference.access reference.address reference.width htinst ≡ Ok hpa) }
+    ensures value { (htinst : ℕ) →
+        IfSome result (λ hpa. aligned_translation mem.now (core_of core.now regs.now) reference.access reference.address reference.width htinst ≡ Ok hpa) }
     ensures place { IfSome result (λ hpa. IsHostPlace mem.now hpa reference.width) }
     ensures ram { IfSome result (λ hpa. length mem.now.tables ≤ hpa) }
     ensures translated { Translated mem.now.tables regs.now.hgatp cache.old cache.new reach.new }

@@ -82,7 +82,10 @@ struct Exchanged {
 #[inline(always)]
 fn exchange(csrs: &mut Csrs, hideleg: u64, access: CsrAccess, csr: Csr) -> Option<Exchanged>
     ensures value { (lines : Lines) → IfSome result (λ done. done.old ≡ read_virtual hideleg csrs.old lines csr) }
-    ensures written { (lines : Lines) → IfSome result (λ done. csrs.new ≡ (if access.writes then write_virtual hideleg csrs.old csr (csr_value access.op (read_virtual hideleg csrs.old lines csr) access.operand) else csrs.old)) }
+    ensures written { (lines : Lines) →
+        IfSome result (λ done. csrs.new ≡
+        (if access.writes then write_virtual hideleg csrs.old csr (csr_value access.op (read_virtual hideleg csrs.old lines csr) access.operand) else
+        csrs.old)) }
     ensures refused { result ≡ None → csrs.new ≡ csrs.old }
     ensures course { IfSome result (λ done. done.steers ≡ false → SameCourse csrs.old csrs.new) }
 {
@@ -107,7 +110,10 @@ fn access_to(core: &mut Core, regs: &HRegs, access: CsrAccess, csr: Csr) -> Trie
     requires free { core.old.reservation ≡ None }
     requires register { access.rd < register_count }
     requires reaches { csr_access regs.now.mode core.old.csrs access.number access.writes ≡ Ok csr }
-    ensures comes { (r : Region) → (lines : Lines) → (word : ℕ) → Comes result (with_region r (after_csr (core_of core.old regs.now) lines access.rd access.op access.operand access.writes (csr_reached (core_of core.old regs.now) word access.number access.writes))) r r (core_of core.old regs.now) (core_of core.new regs.now) }
+    ensures comes { (r : Region) → (lines : Lines) → (word : ℕ) →
+        Comes result
+        (with_region r (after_csr (core_of core.old regs.now) lines access.rd access.op access.operand access.writes
+        (csr_reached (core_of core.old regs.now) word access.number access.writes))) r r (core_of core.old regs.now) (core_of core.new regs.now) }
     ensures pc { core.new.pc % instruction_size ≡ 0 }
     ensures free { core.new.reservation ≡ None }
     ensures course { Steers result core.old.csrs core.new.csrs }
@@ -132,7 +138,10 @@ pub(crate) fn csr(core: &mut Core, regs: &HRegs, access: CsrAccess) -> Tried
     requires ready { MayStep core.old regs.now }
     requires free { core.old.reservation ≡ None }
     requires register { access.rd < register_count }
-    ensures comes { (r : Region) → (lines : Lines) → (word : ℕ) → Comes result (with_region r (after_csr (core_of core.old regs.now) lines access.rd access.op access.operand access.writes (csr_reached (core_of core.old regs.now) word access.number access.writes))) r r (core_of core.old regs.now) (core_of core.new regs.now) }
+    ensures comes { (r : Region) → (lines : Lines) → (word : ℕ) →
+        Comes result
+        (with_region r (after_csr (core_of core.old regs.now) lines access.rd access.op access.operand access.writes
+        (csr_reached (core_of core.old regs.now) word access.number access.writes))) r r (core_of core.old regs.now) (core_of core.new regs.now) }
     ensures pc { core.new.pc % instruction_size ≡ 0 }
     ensures free { core.new.reservation ≡ None }
     ensures course { Steers result core.old.csrs core.new.csrs }

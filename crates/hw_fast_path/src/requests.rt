@@ -48,7 +48,11 @@ fn load(
     requires may { MayTurn mem.now core.old regs.now cache.old reach.old }
     requires register { load.rd < register_count }
     requires width { IsWidth load.width }
-    ensures comes { (htinst : ℕ) → Comes result (with_region mem.now (after_load mem.now (core_of core.old regs.now) load.rd load.width load.signed (aligned_translation mem.now (core_of core.old regs.now) Access.Load load.address load.width htinst))) mem.now mem.now (core_of core.old regs.now) (core_of core.new regs.now) }
+    ensures comes { (htinst : ℕ) →
+        Comes result
+        (with_region mem.now (after_load mem.now (core_of core.old regs.now) load.rd load.width load.signed
+        (aligned_translation mem.now (core_of core.old regs.now) Access.Load load.address load.width htinst))) mem.now mem.now
+        (core_of core.old regs.now) (core_of core.new regs.now) }
     ensures turned { Turned result mem.now mem.now core.old core.new regs.now cache.old cache.new reach.new }
 {
     let reference = Reference {
@@ -89,7 +93,10 @@ fn store(
 ) -> Tried
     requires may { MayTurn mem.old core.old regs.now cache.old reach.old }
     requires width { IsWidth store.width }
-    ensures comes { (htinst : ℕ) → Comes result (after_store mem.old (core_of core.old regs.now) store.width store.value (aligned_translation mem.old (core_of core.old regs.now) Access.Store store.address store.width htinst)) mem.old mem.new (core_of core.old regs.now) (core_of core.new regs.now) }
+    ensures comes { (htinst : ℕ) →
+        Comes result (after_store mem.old (core_of core.old regs.now) store.width store.value
+        (aligned_translation mem.old (core_of core.old regs.now) Access.Store store.address store.width htinst)) mem.old mem.new
+        (core_of core.old regs.now) (core_of core.new regs.now) }
     ensures turned { Turned result mem.old mem.new core.old core.new regs.now cache.old cache.new reach.new }
 {
     let reference = Reference {
@@ -132,7 +139,10 @@ fn atomic(
     requires register { operation.rd < register_count }
     requires width { IsWidth operation.width }
     requires word { (operation.width ≡ 4) ⊎ (operation.width ≡ 8) }
-    ensures comes { (htinst : ℕ) → Comes result (after_amo mem.old (core_of core.old regs.now) operation.rd operation.width operation.op operation.value (aligned_translation mem.old (core_of core.old regs.now) Access.Store operation.address operation.width htinst)) mem.old mem.new (core_of core.old regs.now) (core_of core.new regs.now) }
+    ensures comes { (htinst : ℕ) →
+        Comes result (after_amo mem.old (core_of core.old regs.now) operation.rd operation.width operation.op operation.value
+        (aligned_translation mem.old (core_of core.old regs.now) Access.Store operation.address operation.width htinst)) mem.old mem.new
+        (core_of core.old regs.now) (core_of core.new regs.now) }
     ensures turned { Turned result mem.old mem.new core.old core.new regs.now cache.old cache.new reach.new }
 {
     // Its word is read where stores may go, and never where loads alone may.
@@ -163,7 +173,9 @@ fn atomic(
 fn supervisor_only(core: &mut Core, regs: &HRegs) -> Tried
     requires ready { MayStep core.old regs.now }
     requires free { core.old.reservation ≡ None }
-    ensures comes { (r : Region) → (word : ℕ) → Comes result (with_region r (after_supervisor_only (core_of core.old regs.now) word regs.now.mode)) r r (core_of core.old regs.now) (core_of core.new regs.now) }
+    ensures comes { (r : Region) → (word : ℕ) →
+        Comes result (with_region r (after_supervisor_only (core_of core.old regs.now) word regs.now.mode)) r r (core_of core.old regs.now)
+        (core_of core.new regs.now) }
     ensures pc { core.new.pc % instruction_size ≡ 0 }
     ensures free { core.new.reservation ≡ None }
     ensures course { Steers result core.old.csrs core.new.csrs }
@@ -191,7 +203,9 @@ fn apply(
 ) -> Tried
     requires may { MayTurn mem.old core.old regs.now cache.old reach.old }
     requires request { IsRequest effect }
-    ensures comes { (lines : Lines) → (word : ℕ) → Comes result (after_effect mem.old (core_of core.old regs.now) lines word effect) mem.old mem.new (core_of core.old regs.now) (core_of core.new regs.now) }
+    ensures comes { (lines : Lines) → (word : ℕ) →
+        Comes result (after_effect mem.old (core_of core.old regs.now) lines word effect) mem.old mem.new (core_of core.old regs.now)
+        (core_of core.new regs.now) }
     ensures turned { Turned result mem.old mem.new core.old core.new regs.now cache.old cache.new reach.new }
 {
     match effect {
@@ -288,7 +302,9 @@ pub(crate) fn carry_out(
     micro_op: &MicroOp,
 ) -> Tried
     requires may { MayTurn mem.old core.old regs.now cache.old reach.old }
-    ensures comes { (lines : Lines) → Comes result (after_word mem.old (core_of core.old regs.now) lines micro_op.now.word) mem.old mem.new (core_of core.old regs.now) (core_of core.new regs.now) }
+    ensures comes { (lines : Lines) →
+        Comes result (after_word mem.old (core_of core.old regs.now) lines micro_op.now.word) mem.old mem.new (core_of core.old regs.now)
+        (core_of core.new regs.now) }
     ensures turned { Turned result mem.old mem.new core.old core.new regs.now cache.old cache.new reach.new }
 {
     match micro_op.effect(&core.regs, core.pc) {

@@ -4,7 +4,8 @@ use Rattle.spec_processor.specs.Bytes.{page_size}
 use Rattle.std.specs.Prelude.{Option, Some, None, ◌==◌, if◌then◌else◌}
 use Rattle.spec_processor.specs.Regions.{Region}
 use Rattle.spec_processor.specs.Translation.{Destination, At, PageFault, Unreadable, Settings, walk, at_leaf, is_leaf, leaf_address, first_stage, permits_access, is_canonical, root_of}
-use Rattle.spec_processor.specs.GStage.{walk_guest, address_at, entry_in_region, entry_in_tables, entry_through, guest_destination, after_first_stage, place_through, two_stages, WalksApart, guest_address_bits}
+use Rattle.spec_processor.specs.GStage.{walk_guest, address_at, entry_in_region, entry_in_tables, entry_through, guest_destination}
+use Rattle.spec_processor.specs.GStage.{after_first_stage, place_through, two_stages, WalksApart, guest_address_bits}
 use Rattle.spec_processor.specs.Roots.{IsBare}
 use Rattle.spec_processor.specs.declared.access.Access.{Access}
 use Rattle.spec_processor.specs.declared.mode.Mode.{Mode}

@@ -1,5 +1,6 @@
 -- Translations that are kept with the entries that they read, and when they are right. This project's own.
-use Rattle.std.specs.Prelude.{◌≡◌, ℕ, zero, suc, ◌+◌, ◌*◌, ◌/◌, ◌%◌, ◌<◌, Bool, List, length, replicate, Option, Some, None, Result, Ok, Err, slice_index_or, slice_set}
+use Rattle.std.specs.Prelude.{◌≡◌, ℕ, zero, suc, ◌+◌, ◌*◌, ◌/◌, ◌%◌, ◌<◌, Bool, List, length, replicate, Option, Some, None, Result, Ok}
+use Rattle.std.specs.Prelude.{Err, slice_index_or, slice_set}
 use Rattle.spec_processor.specs.Bytes.{page_size}
 use Rattle.spec_processor.specs.Regions.{Region, host_word}
 use Rattle.spec_processor.specs.Translation.{walk, at_leaf, entry_size, table_levels}

@@ -124,7 +124,8 @@ impl Reach {
         requires apart { WalksApart mem.now regime.now.hgatp }
         requires agrees { ReachAgrees mem.now.tables self.now }
         ensures leads { IfSome result (λ hpa. leads_under mem.now regime.now access va ≡ Some hpa) }
-        ensures kept { (line : Kept) → line_at self.now (line_place access (va / page_size)) ≡ Some line → IsFor regime.now access (va / page_size) line → AreThere mem.now line.entries → result ≡ Some (line.host + va % page_size) }
+        ensures kept { (line : Kept) → line_at self.now (line_place access (va / page_size)) ≡ Some line →
+            IsFor regime.now access (va / page_size) line → AreThere mem.now line.entries → result ≡ Some (line.host + va % page_size) }
     {
         match self.line(regime, access, va / PAGE_BYTES) {
             Some(line) => place_by(mem, &line, va),

@@ -25,7 +25,9 @@ use Rattle.spec_processor.specs.declared.instruction.AmoOp.{AmoOp}
 use Rattle.spec_processor.specs.declared.instruction.AmoOp.TheVariants as Amo
 use Rattle.spec_processor.specs.declared.instruction.HyperOp.{HyperOp}
 use Rattle.spec_processor.specs.declared.instruction.HyperOp.TheVariants as Hyper
-use Rattle.spec_processor.specs.Instructions.{Row, rd, rs1, rs2, lui, auipc, jal, jalr, branch, load, store, op_imm, shift, op_imm_32, shift_32, op_op, op_32, sfence, csr, lr, sc, amo, hyper_load, hyper_store, bits, signed_bits, imm_i, imm_s, imm_b, imm_u, imm_j, has_row, rows, instruction_of, instruction_in}
+use Rattle.spec_processor.specs.Instructions.{Row, rd, rs1, rs2, lui, auipc, jal, jalr, branch, load, store, op_imm, shift, op_imm_32}
+use Rattle.spec_processor.specs.Instructions.{shift_32, op_op, op_32, sfence, csr, lr, sc, amo, hyper_load, hyper_store, bits, signed_bits}
+use Rattle.spec_processor.specs.Instructions.{imm_i, imm_s, imm_b, imm_u, imm_j, has_row, rows, instruction_of, instruction_in}
 use Rattle.spec_processor.specs.Encoding.{fits, is_immediate, is_register, is_shift, is_shift_32, is_hyper_load, is_width}
 
 -- a number of n bits, a multiple of a step, read as signed

@@ -10,7 +10,10 @@ use Rattle.laws_processor.proofs.RegisterBits.{and_twice, boot_is_legal, write_i
 use Rattle.spec_processor.specs.Bits.{bit, flag, without}
 use Rattle.spec_processor.specs.Registers.{Supervisor, IsLegalSupervisor, legal_interrupts, interrupt_bits, csr_of_number, guest_access, allowed_csr, sip_value, read_csr, write_csr}
 use Rattle.spec_processor.specs.Traps.{supervisor_at_trap, supervisor_at_return, deliverable, is_pending, takes_interrupts, first_interrupt, interrupt_number}
-use Rattle.spec_processor.specs.HypervisorRegisters.{HypervisorRegisters, IsLegal, registers_at_boot, csr_access, reached_csr, unless_refused, read_virtual, write_virtual, hip_value, guest_alias, with_alias, registers_at_trap, registers_at_return, is_taken, pending, virtual_interrupt_bits, virtual_software_bit, virtual_number}
+use Rattle.spec_processor.specs.HypervisorRegisters.{HypervisorRegisters, IsLegal, registers_at_boot, csr_access, reached_csr}
+use Rattle.spec_processor.specs.HypervisorRegisters.{unless_refused, read_virtual, write_virtual, hip_value, guest_alias, with_alias}
+use Rattle.spec_processor.specs.HypervisorRegisters.{registers_at_trap, registers_at_return, is_taken, pending, virtual_interrupt_bits}
+use Rattle.spec_processor.specs.HypervisorRegisters.{virtual_software_bit, virtual_number}
 use Rattle.spec_processor.specs.GuestView.{with_guest, hideleg_in}
 use Rattle.spec_processor.specs.declared.csr.Csr.{Csr}
 use Rattle.spec_processor.specs.declared.csr.CsrFault.TheVariants as CsrFault

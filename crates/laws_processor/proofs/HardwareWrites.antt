@@ -11,7 +11,9 @@ use Rattle.spec_processor.specs.Requests.{covers}
 use Rattle.spec_processor.specs.HypervisorRegisters.{virtual_number}
 use Rattle.spec_processor.specs.Hardware.{Core, Step, Attempted, with_region, guest_trap, leave, exit_of, raise, interrupt_exit, after_interrupt, plain_exception}
 use Rattle.spec_processor.specs.HardwareMemory.{aligned_translation, load_htinst, store_htinst, atomic_htinst, after_load, after_load_reserved, after_store, after_store_conditional, after_amo}
-use Rattle.spec_processor.specs.HardwareAttempt.{illegal, virtual_instruction, csr_reached, after_csr, after_supervisor_only, return_from_trap, after_sret, call_cause, after_effect, after_instruction, after_word, after_fetch, OnlyWrites}
+use Rattle.spec_processor.specs.HardwareAttempt.{illegal, virtual_instruction, csr_reached, after_csr, after_supervisor_only}
+use Rattle.spec_processor.specs.HardwareAttempt.{return_from_trap, after_sret, call_cause, after_effect, after_instruction, after_word}
+use Rattle.spec_processor.specs.HardwareAttempt.{after_fetch, OnlyWrites}
 use Rattle.spec_processor.specs.declared.cause.Cause.{Cause}
 use Rattle.spec_processor.specs.declared.csr.Csr.{Csr}
 use Rattle.spec_processor.specs.declared.effect.Effect.{Effect}

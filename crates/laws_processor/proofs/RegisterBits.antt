@@ -9,7 +9,9 @@ use Rattle.std.proofs.lemmas.Nat.Bits.{bit_at_and, bit_at_or, same_from_bits, an
 use Rattle.spec_processor.specs.Bits.{with_bits, without, bit}
 use Rattle.spec_processor.specs.Registers.{legal_status, status_bits, legal_satp, satp_bits, is_satp_mode, legal_epc, interrupt_bits}
 use Rattle.spec_processor.specs.Traps.{trap_target, status_at_trap, status_at_return, is_kernel}
-use Rattle.spec_processor.specs.HypervisorRegisters.{HypervisorRegisters, IsLegal, registers_at_boot, registers_at_trap, registers_at_return, with_alias, write_virtual, virtual_interrupt_bits, virtual_software_bit}
+use Rattle.spec_processor.specs.HypervisorRegisters.{HypervisorRegisters, IsLegal, registers_at_boot, registers_at_trap}
+use Rattle.spec_processor.specs.HypervisorRegisters.{registers_at_return, with_alias, write_virtual, virtual_interrupt_bits}
+use Rattle.spec_processor.specs.HypervisorRegisters.{virtual_software_bit}
 use Rattle.spec_processor.specs.declared.csr.Csr.{Csr}
 use Rattle.spec_processor.specs.declared.mode.Mode.{Mode}
 

@@ -8,7 +8,9 @@ use Rattle.spec_processor.specs.declared.access.Access.{Access}
 use Rattle.spec_processor.specs.declared.mode.Mode.{Mode}
 use Rattle.spec_processor.specs.Instructions.{bits}
 use Rattle.spec_processor.specs.Regions.{Region}
-use Rattle.spec_processor.specs.Translation.{walk, is_pointer, is_leaf, entry_page, leaf_address, at_leaf, at_entry, Destination, At, PageFault, Unreadable, Settings, first_stage, permits_access, sv39_indices, is_canonical, root_of}
+use Rattle.spec_processor.specs.Translation.{walk, is_pointer, is_leaf, entry_page, leaf_address, at_leaf, at_entry, Destination, At}
+use Rattle.spec_processor.specs.Translation.{PageFault, Unreadable, Settings, first_stage, permits_access, sv39_indices, is_canonical}
+use Rattle.spec_processor.specs.Translation.{root_of}
 use Rattle.spec_processor.specs.GStage.{walk_guest, address_at, entry_in_region, permits_guest, sv39x4_indices, WalksInside, WalksApart, guest_address_bits}
 
 -- ---- two readers

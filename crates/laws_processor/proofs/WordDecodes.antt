@@ -24,10 +24,18 @@ use Rattle.spec_processor.specs.declared.instruction.AmoOp.{AmoOp}
 use Rattle.spec_processor.specs.declared.instruction.AmoOp.TheVariants.{Amoswap, Amoadd, Amoxor, Amoand, Amoor, Amomin, Amomax, Amominu, Amomaxu}
 use Rattle.spec_processor.specs.declared.instruction.HyperOp.{HyperOp}
 use Rattle.spec_processor.specs.declared.instruction.HyperOp.TheVariants.{HlvB, HlvBu, HlvH, HlvHu, HlvxHu, HlvW, HlvWu, HlvxWu, HlvD, HsvB, HsvH, HsvW, HsvD, HfenceVvma, HfenceGvma}
-use Rattle.spec_processor.specs.Instructions.{bits, lui, auipc, jal, jalr, branch, load, store, op_imm, shift, op_imm_32, shift_32, op_op, op_32, plain, sfence, csr, lr, sc, amo, hyper_load, hyper_store, rows, instruction_of}
-use Rattle.spec_processor.specs.Encoding.{fits, is_register, is_immediate, is_operand, is_shift, is_shift_32, is_hyper_load, is_width, is_zero, imm_bits, r_word, i_word, s_word, b_word, u_word, j_word, branch_funct3, load_funct3, store_funct3, op_imm_funct3, op_imm_32_funct3, arithmetic_bit, arithmetic_bit_32, op_funct7, op_funct3, op_32_funct7, op_32_funct3, csr_funct3, amo_funct5, hyper_funct7, hyper_funct3, hyper_number, amo_funct7, word_of}
+use Rattle.spec_processor.specs.Instructions.{bits, lui, auipc, jal, jalr, branch, load, store, op_imm, shift, op_imm_32, shift_32, op_op}
+use Rattle.spec_processor.specs.Instructions.{op_32, plain, sfence, csr, lr, sc, amo, hyper_load, hyper_store, rows, instruction_of}
+use Rattle.spec_processor.specs.Encoding.{fits, is_register, is_immediate, is_operand, is_shift, is_shift_32, is_hyper_load, is_width}
+use Rattle.spec_processor.specs.Encoding.{is_zero, imm_bits, r_word, i_word, s_word, b_word, u_word, j_word, branch_funct3, load_funct3}
+use Rattle.spec_processor.specs.Encoding.{store_funct3, op_imm_funct3, op_imm_32_funct3, arithmetic_bit, arithmetic_bit_32, op_funct7}
+use Rattle.spec_processor.specs.Encoding.{op_funct3, op_32_funct7, op_32_funct3, csr_funct3, amo_funct5, hyper_funct7, hyper_funct3}
+use Rattle.spec_processor.specs.Encoding.{hyper_number, amo_funct7, word_of}
 use Rattle.laws_processor.proofs.Decoding.{IsOnlyRow, found, mask_opcode, mask_funct3, mask_funct7, mask_funct6, mask_funct5, mask_funct5_rs2, mask_funct7_rs2, mask_funct7_no_rd}
-use Rattle.laws_processor.proofs.WordFields.{r_opcode, r_rd, r_funct3, r_rs1, r_rs2, r_funct7, r_rd_low, r_rd_high, r_funct7_low, r_funct7_high, r_funct5, r_aq, r_rl, i_opcode, i_rd, i_funct3, i_rs1, i_field, i_count, i_count_low, i_funct6, i_funct7, u_opcode, u_rd, u_field, j_opcode, j_rd, j_12_20, j_20, j_21_31, j_31, signed_12, signed_13, signed_21, signed_32, step_13, step_21, step_32}
+use Rattle.laws_processor.proofs.WordFields.{r_opcode, r_rd, r_funct3, r_rs1, r_rs2, r_funct7, r_rd_low, r_rd_high, r_funct7_low}
+use Rattle.laws_processor.proofs.WordFields.{r_funct7_high, r_funct5, r_aq, r_rl, i_opcode, i_rd, i_funct3, i_rs1, i_field, i_count}
+use Rattle.laws_processor.proofs.WordFields.{i_count_low, i_funct6, i_funct7, u_opcode, u_rd, u_field, j_opcode, j_rd, j_12_20, j_20}
+use Rattle.laws_processor.proofs.WordFields.{j_21_31, j_31, signed_12, signed_13, signed_21, signed_32, step_13, step_21, step_32}
 use Rattle.laws_processor.proofs.EffectRequests.{four_or_eight}
 
 -- ---- tests that hold
@@ -627,7 +635,8 @@ op_op-decodes op d a b h =
     let in_a = below_32 a p.1 in
     let in_b = below_32 b p.2 in
     let w = r_word 0x33 g f d a b in
-    found w 0xFE00707F (0x33 + 2 ^ 12 * f + 2 ^ 25 * g) (op_op op) (mask_funct7 w 0x33 f g (r_opcode 0x33 g f d a b in_o in_g in_f in_d in_a in_b) (r_funct3 0x33 g f d a b in_o in_g in_f in_d in_a in_b) (r_funct7 0x33 g f d a b in_o in_g in_f in_d in_a in_b)) (op_op-only op)
+    found w 0xFE00707F (0x33 + 2 ^ 12 * f + 2 ^ 25 * g) (op_op op) (mask_funct7 w 0x33 f g (r_opcode 0x33 g f d a b in_o in_g in_f in_d in_a in_b)
+    (r_funct3 0x33 g f d a b in_o in_g in_f in_d in_a in_b) (r_funct7 0x33 g f d a b in_o in_g in_f in_d in_a in_b)) (op_op-only op)
     ∙ ap Some (rw (r_rd 0x33 g f d a b in_o in_g in_f in_d in_a in_b, r_rs1 0x33 g f d a b in_o in_g in_f in_d in_a in_b, r_rs2 0x33 g f d a b in_o in_g in_f in_d in_a in_b) refl)
 
 op_32-decodes : (op : Op32Op) (d a b : ℕ) → fits (Instr.Op32 op d a b) ≡ true → Decodes (Instr.Op32 op d a b)
@@ -643,7 +652,8 @@ op_32-decodes op d a b h =
     let in_a = below_32 a p.1 in
     let in_b = below_32 b p.2 in
     let w = r_word 0x3B g f d a b in
-    found w 0xFE00707F (0x3B + 2 ^ 12 * f + 2 ^ 25 * g) (op_32 op) (mask_funct7 w 0x3B f g (r_opcode 0x3B g f d a b in_o in_g in_f in_d in_a in_b) (r_funct3 0x3B g f d a b in_o in_g in_f in_d in_a in_b) (r_funct7 0x3B g f d a b in_o in_g in_f in_d in_a in_b)) (op_32-only op)
+    found w 0xFE00707F (0x3B + 2 ^ 12 * f + 2 ^ 25 * g) (op_32 op) (mask_funct7 w 0x3B f g (r_opcode 0x3B g f d a b in_o in_g in_f in_d in_a in_b)
+    (r_funct3 0x3B g f d a b in_o in_g in_f in_d in_a in_b) (r_funct7 0x3B g f d a b in_o in_g in_f in_d in_a in_b)) (op_32-only op)
     ∙ ap Some (rw (r_rd 0x3B g f d a b in_o in_g in_f in_d in_a in_b, r_rs1 0x3B g f d a b in_o in_g in_f in_d in_a in_b, r_rs2 0x3B g f d a b in_o in_g in_f in_d in_a in_b) refl)
 
 sfence-decodes : (a b : ℕ) → fits (Instr.SfenceVma a b) ≡ true → Decodes (Instr.SfenceVma a b)
@@ -658,7 +668,8 @@ sfence-decodes a b h =
     let in_b = below_32 b p.1 in
     let w = r_word 0x73 0x09 0 0 a b in
     found w 0xFE007FFF (0x73 + 2 ^ 12 * 0 + 2 ^ 25 * 0x09) sfence
-    (mask_funct7_no_rd w 0x73 0 0x09 (r_opcode 0x73 0x09 0 0 a b in_o in_g in_f in_d in_a in_b) (r_funct3 0x73 0x09 0 0 a b in_o in_g in_f in_d in_a in_b) (r_funct7 0x73 0x09 0 0 a b in_o in_g in_f in_d in_a in_b) (r_rd 0x73 0x09 0 0 a b in_o in_g in_f in_d in_a in_b)) refl
+    (mask_funct7_no_rd w 0x73 0 0x09 (r_opcode 0x73 0x09 0 0 a b in_o in_g in_f in_d in_a in_b) (r_funct3 0x73 0x09 0 0 a b in_o in_g in_f in_d in_a in_b)
+    (r_funct7 0x73 0x09 0 0 a b in_o in_g in_f in_d in_a in_b) (r_rd 0x73 0x09 0 0 a b in_o in_g in_f in_d in_a in_b)) refl
     ∙ ap Some (rw (r_rs1 0x73 0x09 0 0 a b in_o in_g in_f in_d in_a in_b, r_rs2 0x73 0x09 0 0 a b in_o in_g in_f in_d in_a in_b) refl)
 
 csr-decodes : (op : CsrOp) (d a v : ℕ) → fits (Instr.Csr op d a v) ≡ true → Decodes (Instr.Csr op d a v)
@@ -718,8 +729,18 @@ lr-decodes-4 d a q r h =
     let in_a = below_32 a p.1 in
     let in_b : 0 < 32 = omega arith in
     let w = r_word 0x2F g 2 d a 0 in
-    found w 0xF9F0707F (0x2F + 2 ^ 12 * 2 + 2 ^ 20 * 0 + 2 ^ 27 * 0x02) (lr 4) (mask_funct5_rs2 w 0x2F 2 0x02 0 (r_opcode 0x2F g 2 d a 0 in_o in_g in_f in_d in_a in_b) (r_funct3 0x2F g 2 d a 0 in_o in_g in_f in_d in_a in_b) (r_funct5 0x2F g 2 d a 0 in_o in_g in_f in_d in_a in_b ∙ ordered-code n q r) (r_rs2 0x2F g 2 d a 0 in_o in_g in_f in_d in_a in_b)) refl
-    ∙ ap Some (rw (r_rd 0x2F g 2 d a 0 in_o in_g in_f in_d in_a in_b, r_rs1 0x2F g 2 d a 0 in_o in_g in_f in_d in_a in_b, r_aq 0x2F g 2 d a 0 in_o in_g in_f in_d in_a in_b, r_rl 0x2F g 2 d a 0 in_o in_g in_f in_d in_a in_b, ordered-aq n q r, ordered-rl n q r, flag_back q, flag_back r) refl)
+    found w 0xF9F0707F (0x2F + 2 ^ 12 * 2 + 2 ^ 20 * 0 + 2 ^ 27 * 0x02) (lr 4) (mask_funct5_rs2 w 0x2F 2 0x02 0 (r_opcode 0x2F g 2 d a 0 in_o in_g in_f in_d in_a in_b)
+    (r_funct3 0x2F g 2 d a 0 in_o in_g in_f in_d in_a in_b) (r_funct5 0x2F g 2 d a 0 in_o in_g in_f in_d in_a in_b ∙ ordered-code n q r) (r_rs2 0x2F g 2 d a 0 in_o in_g in_f in_d in_a in_b)) refl
+    ∙ ap Some (rw (
+      r_rd 0x2F g 2 d a 0 in_o in_g in_f in_d in_a in_b,
+      r_rs1 0x2F g 2 d a 0 in_o in_g in_f in_d in_a in_b,
+      r_aq 0x2F g 2 d a 0 in_o in_g in_f in_d in_a in_b,
+      r_rl 0x2F g 2 d a 0 in_o in_g in_f in_d in_a in_b,
+      ordered-aq n q r,
+      ordered-rl n q r,
+      flag_back q,
+      flag_back r,
+    ) refl)
 
 sc-decodes-4 : (d a b : ℕ) (q r : Bool) → fits (Instr.Sc d a b 4 q r) ≡ true → Decodes (Instr.Sc d a b 4 q r)
 unfolding fits word_of rows
@@ -734,8 +755,19 @@ sc-decodes-4 d a b q r h =
     let in_a = below_32 a p.1 in
     let in_b : b < 32 = below_32 b p.2 in
     let w = r_word 0x2F g 2 d a b in
-    found w 0xF800707F (0x2F + 2 ^ 12 * 2 + 2 ^ 27 * 0x03) (sc 4) (mask_funct5 w 0x2F 2 0x03 (r_opcode 0x2F g 2 d a b in_o in_g in_f in_d in_a in_b) (r_funct3 0x2F g 2 d a b in_o in_g in_f in_d in_a in_b) (r_funct5 0x2F g 2 d a b in_o in_g in_f in_d in_a in_b ∙ ordered-code n q r)) refl
-    ∙ ap Some (rw (r_rd 0x2F g 2 d a b in_o in_g in_f in_d in_a in_b, r_rs1 0x2F g 2 d a b in_o in_g in_f in_d in_a in_b, r_rs2 0x2F g 2 d a b in_o in_g in_f in_d in_a in_b, r_aq 0x2F g 2 d a b in_o in_g in_f in_d in_a in_b, r_rl 0x2F g 2 d a b in_o in_g in_f in_d in_a in_b, ordered-aq n q r, ordered-rl n q r, flag_back q, flag_back r) refl)
+    found w 0xF800707F (0x2F + 2 ^ 12 * 2 + 2 ^ 27 * 0x03) (sc 4) (mask_funct5 w 0x2F 2 0x03 (r_opcode 0x2F g 2 d a b in_o in_g in_f in_d in_a in_b)
+    (r_funct3 0x2F g 2 d a b in_o in_g in_f in_d in_a in_b) (r_funct5 0x2F g 2 d a b in_o in_g in_f in_d in_a in_b ∙ ordered-code n q r)) refl
+    ∙ ap Some (rw (
+      r_rd 0x2F g 2 d a b in_o in_g in_f in_d in_a in_b,
+      r_rs1 0x2F g 2 d a b in_o in_g in_f in_d in_a in_b,
+      r_rs2 0x2F g 2 d a b in_o in_g in_f in_d in_a in_b,
+      r_aq 0x2F g 2 d a b in_o in_g in_f in_d in_a in_b,
+      r_rl 0x2F g 2 d a b in_o in_g in_f in_d in_a in_b,
+      ordered-aq n q r,
+      ordered-rl n q r,
+      flag_back q,
+      flag_back r,
+    ) refl)
 
 amo-decodes-4 : (op : AmoOp) (d a b : ℕ) (q r : Bool) → fits (Instr.Amo op d a b 4 q r) ≡ true → Decodes (Instr.Amo op d a b 4 q r)
 unfolding fits word_of
@@ -750,8 +782,19 @@ amo-decodes-4 op d a b q r h =
     let in_a = below_32 a p.1 in
     let in_b : b < 32 = below_32 b p.2 in
     let w = r_word 0x2F g 2 d a b in
-    found w 0xF800707F (0x2F + 2 ^ 12 * 2 + 2 ^ 27 * amo_funct5 op) (amo op 4) (mask_funct5 w 0x2F 2 n (r_opcode 0x2F g 2 d a b in_o in_g in_f in_d in_a in_b) (r_funct3 0x2F g 2 d a b in_o in_g in_f in_d in_a in_b) (r_funct5 0x2F g 2 d a b in_o in_g in_f in_d in_a in_b ∙ ordered-code n q r)) (amo_word-only op)
-    ∙ ap Some (rw (r_rd 0x2F g 2 d a b in_o in_g in_f in_d in_a in_b, r_rs1 0x2F g 2 d a b in_o in_g in_f in_d in_a in_b, r_rs2 0x2F g 2 d a b in_o in_g in_f in_d in_a in_b, r_aq 0x2F g 2 d a b in_o in_g in_f in_d in_a in_b, r_rl 0x2F g 2 d a b in_o in_g in_f in_d in_a in_b, ordered-aq n q r, ordered-rl n q r, flag_back q, flag_back r) refl)
+    found w 0xF800707F (0x2F + 2 ^ 12 * 2 + 2 ^ 27 * amo_funct5 op) (amo op 4) (mask_funct5 w 0x2F 2 n (r_opcode 0x2F g 2 d a b in_o in_g in_f in_d in_a in_b)
+    (r_funct3 0x2F g 2 d a b in_o in_g in_f in_d in_a in_b) (r_funct5 0x2F g 2 d a b in_o in_g in_f in_d in_a in_b ∙ ordered-code n q r)) (amo_word-only op)
+    ∙ ap Some (rw (
+      r_rd 0x2F g 2 d a b in_o in_g in_f in_d in_a in_b,
+      r_rs1 0x2F g 2 d a b in_o in_g in_f in_d in_a in_b,
+      r_rs2 0x2F g 2 d a b in_o in_g in_f in_d in_a in_b,
+      r_aq 0x2F g 2 d a b in_o in_g in_f in_d in_a in_b,
+      r_rl 0x2F g 2 d a b in_o in_g in_f in_d in_a in_b,
+      ordered-aq n q r,
+      ordered-rl n q r,
+      flag_back q,
+      flag_back r,
+    ) refl)
 
 lr-decodes-8 : (d a : ℕ) (q r : Bool) → fits (Instr.Lr d a 8 q r) ≡ true → Decodes (Instr.Lr d a 8 q r)
 unfolding fits word_of rows
@@ -766,8 +809,18 @@ lr-decodes-8 d a q r h =
     let in_a = below_32 a p.1 in
     let in_b : 0 < 32 = omega arith in
     let w = r_word 0x2F g 3 d a 0 in
-    found w 0xF9F0707F (0x2F + 2 ^ 12 * 3 + 2 ^ 20 * 0 + 2 ^ 27 * 0x02) (lr 8) (mask_funct5_rs2 w 0x2F 3 0x02 0 (r_opcode 0x2F g 3 d a 0 in_o in_g in_f in_d in_a in_b) (r_funct3 0x2F g 3 d a 0 in_o in_g in_f in_d in_a in_b) (r_funct5 0x2F g 3 d a 0 in_o in_g in_f in_d in_a in_b ∙ ordered-code n q r) (r_rs2 0x2F g 3 d a 0 in_o in_g in_f in_d in_a in_b)) refl
-    ∙ ap Some (rw (r_rd 0x2F g 3 d a 0 in_o in_g in_f in_d in_a in_b, r_rs1 0x2F g 3 d a 0 in_o in_g in_f in_d in_a in_b, r_aq 0x2F g 3 d a 0 in_o in_g in_f in_d in_a in_b, r_rl 0x2F g 3 d a 0 in_o in_g in_f in_d in_a in_b, ordered-aq n q r, ordered-rl n q r, flag_back q, flag_back r) refl)
+    found w 0xF9F0707F (0x2F + 2 ^ 12 * 3 + 2 ^ 20 * 0 + 2 ^ 27 * 0x02) (lr 8) (mask_funct5_rs2 w 0x2F 3 0x02 0 (r_opcode 0x2F g 3 d a 0 in_o in_g in_f in_d in_a in_b)
+    (r_funct3 0x2F g 3 d a 0 in_o in_g in_f in_d in_a in_b) (r_funct5 0x2F g 3 d a 0 in_o in_g in_f in_d in_a in_b ∙ ordered-code n q r) (r_rs2 0x2F g 3 d a 0 in_o in_g in_f in_d in_a in_b)) refl
+    ∙ ap Some (rw (
+      r_rd 0x2F g 3 d a 0 in_o in_g in_f in_d in_a in_b,
+      r_rs1 0x2F g 3 d a 0 in_o in_g in_f in_d in_a in_b,
+      r_aq 0x2F g 3 d a 0 in_o in_g in_f in_d in_a in_b,
+      r_rl 0x2F g 3 d a 0 in_o in_g in_f in_d in_a in_b,
+      ordered-aq n q r,
+      ordered-rl n q r,
+      flag_back q,
+      flag_back r,
+    ) refl)
 
 sc-decodes-8 : (d a b : ℕ) (q r : Bool) → fits (Instr.Sc d a b 8 q r) ≡ true → Decodes (Instr.Sc d a b 8 q r)
 unfolding fits word_of rows
@@ -782,8 +835,19 @@ sc-decodes-8 d a b q r h =
     let in_a = below_32 a p.1 in
     let in_b : b < 32 = below_32 b p.2 in
     let w = r_word 0x2F g 3 d a b in
-    found w 0xF800707F (0x2F + 2 ^ 12 * 3 + 2 ^ 27 * 0x03) (sc 8) (mask_funct5 w 0x2F 3 0x03 (r_opcode 0x2F g 3 d a b in_o in_g in_f in_d in_a in_b) (r_funct3 0x2F g 3 d a b in_o in_g in_f in_d in_a in_b) (r_funct5 0x2F g 3 d a b in_o in_g in_f in_d in_a in_b ∙ ordered-code n q r)) refl
-    ∙ ap Some (rw (r_rd 0x2F g 3 d a b in_o in_g in_f in_d in_a in_b, r_rs1 0x2F g 3 d a b in_o in_g in_f in_d in_a in_b, r_rs2 0x2F g 3 d a b in_o in_g in_f in_d in_a in_b, r_aq 0x2F g 3 d a b in_o in_g in_f in_d in_a in_b, r_rl 0x2F g 3 d a b in_o in_g in_f in_d in_a in_b, ordered-aq n q r, ordered-rl n q r, flag_back q, flag_back r) refl)
+    found w 0xF800707F (0x2F + 2 ^ 12 * 3 + 2 ^ 27 * 0x03) (sc 8) (mask_funct5 w 0x2F 3 0x03 (r_opcode 0x2F g 3 d a b in_o in_g in_f in_d in_a in_b)
+    (r_funct3 0x2F g 3 d a b in_o in_g in_f in_d in_a in_b) (r_funct5 0x2F g 3 d a b in_o in_g in_f in_d in_a in_b ∙ ordered-code n q r)) refl
+    ∙ ap Some (rw (
+      r_rd 0x2F g 3 d a b in_o in_g in_f in_d in_a in_b,
+      r_rs1 0x2F g 3 d a b in_o in_g in_f in_d in_a in_b,
+      r_rs2 0x2F g 3 d a b in_o in_g in_f in_d in_a in_b,
+      r_aq 0x2F g 3 d a b in_o in_g in_f in_d in_a in_b,
+      r_rl 0x2F g 3 d a b in_o in_g in_f in_d in_a in_b,
+      ordered-aq n q r,
+      ordered-rl n q r,
+      flag_back q,
+      flag_back r,
+    ) refl)
 
 amo-decodes-8 : (op : AmoOp) (d a b : ℕ) (q r : Bool) → fits (Instr.Amo op d a b 8 q r) ≡ true → Decodes (Instr.Amo op d a b 8 q r)
 unfolding fits word_of
@@ -798,8 +862,19 @@ amo-decodes-8 op d a b q r h =
     let in_a = below_32 a p.1 in
     let in_b : b < 32 = below_32 b p.2 in
     let w = r_word 0x2F g 3 d a b in
-    found w 0xF800707F (0x2F + 2 ^ 12 * 3 + 2 ^ 27 * amo_funct5 op) (amo op 8) (mask_funct5 w 0x2F 3 n (r_opcode 0x2F g 3 d a b in_o in_g in_f in_d in_a in_b) (r_funct3 0x2F g 3 d a b in_o in_g in_f in_d in_a in_b) (r_funct5 0x2F g 3 d a b in_o in_g in_f in_d in_a in_b ∙ ordered-code n q r)) (amo_double-only op)
-    ∙ ap Some (rw (r_rd 0x2F g 3 d a b in_o in_g in_f in_d in_a in_b, r_rs1 0x2F g 3 d a b in_o in_g in_f in_d in_a in_b, r_rs2 0x2F g 3 d a b in_o in_g in_f in_d in_a in_b, r_aq 0x2F g 3 d a b in_o in_g in_f in_d in_a in_b, r_rl 0x2F g 3 d a b in_o in_g in_f in_d in_a in_b, ordered-aq n q r, ordered-rl n q r, flag_back q, flag_back r) refl)
+    found w 0xF800707F (0x2F + 2 ^ 12 * 3 + 2 ^ 27 * amo_funct5 op) (amo op 8) (mask_funct5 w 0x2F 3 n (r_opcode 0x2F g 3 d a b in_o in_g in_f in_d in_a in_b)
+    (r_funct3 0x2F g 3 d a b in_o in_g in_f in_d in_a in_b) (r_funct5 0x2F g 3 d a b in_o in_g in_f in_d in_a in_b ∙ ordered-code n q r)) (amo_double-only op)
+    ∙ ap Some (rw (
+      r_rd 0x2F g 3 d a b in_o in_g in_f in_d in_a in_b,
+      r_rs1 0x2F g 3 d a b in_o in_g in_f in_d in_a in_b,
+      r_rs2 0x2F g 3 d a b in_o in_g in_f in_d in_a in_b,
+      r_aq 0x2F g 3 d a b in_o in_g in_f in_d in_a in_b,
+      r_rl 0x2F g 3 d a b in_o in_g in_f in_d in_a in_b,
+      ordered-aq n q r,
+      ordered-rl n q r,
+      flag_back q,
+      flag_back r,
+    ) refl)
 
 lr-decodes : (d a v : ℕ) (q r : Bool) → fits (Instr.Lr d a v q r) ≡ true → Decodes (Instr.Lr d a v q r)
 unfolding fits
@@ -850,7 +925,8 @@ hyper_load-decodes op d a b n is_load number in_n only h =
     let in_v : v < 32 = omega arith in
     let w = r_word 0x73 g f d a v in
     found w 0xFFF0707F (0x73 + 2 ^ 12 * f + 2 ^ 20 * n + 2 ^ 25 * g) (hyper_load op)
-    (mask_funct7_rs2 w 0x73 f g n (r_opcode 0x73 g f d a v in_o in_g in_f in_d in_a in_v) (r_funct3 0x73 g f d a v in_o in_g in_f in_d in_a in_v) (r_funct7 0x73 g f d a v in_o in_g in_f in_d in_a in_v) (r_rs2 0x73 g f d a v in_o in_g in_f in_d in_a in_v ∙ same)) only
+    (mask_funct7_rs2 w 0x73 f g n (r_opcode 0x73 g f d a v in_o in_g in_f in_d in_a in_v) (r_funct3 0x73 g f d a v in_o in_g in_f in_d in_a in_v)
+    (r_funct7 0x73 g f d a v in_o in_g in_f in_d in_a in_v) (r_rs2 0x73 g f d a v in_o in_g in_f in_d in_a in_v ∙ same)) only
     ∙ ap Some (rw (r_rd 0x73 g f d a v in_o in_g in_f in_d in_a in_v, r_rs1 0x73 g f d a v in_o in_g in_f in_d in_a in_v, none) refl)
 
 hyper_store-decodes : (op : HyperOp) (d a b : ℕ) → is_hyper_load op ≡ false → hyper_number op ≡ 0
@@ -874,7 +950,8 @@ hyper_store-decodes op d a b no_load number only h =
     let in_v : v < 32 = omega arith in
     let w = r_word 0x73 g f d a v in
     found w 0xFE007FFF (0x73 + 2 ^ 12 * f + 2 ^ 25 * g) (hyper_store op)
-    (mask_funct7_no_rd w 0x73 f g (r_opcode 0x73 g f d a v in_o in_g in_f in_d in_a in_v) (r_funct3 0x73 g f d a v in_o in_g in_f in_d in_a in_v) (r_funct7 0x73 g f d a v in_o in_g in_f in_d in_a in_v) (r_rd 0x73 g f d a v in_o in_g in_f in_d in_a in_v ∙ none)) only
+    (mask_funct7_no_rd w 0x73 f g (r_opcode 0x73 g f d a v in_o in_g in_f in_d in_a in_v) (r_funct3 0x73 g f d a v in_o in_g in_f in_d in_a in_v)
+    (r_funct7 0x73 g f d a v in_o in_g in_f in_d in_a in_v) (r_rd 0x73 g f d a v in_o in_g in_f in_d in_a in_v ∙ none)) only
     ∙ ap Some (rw (r_rs1 0x73 g f d a v in_o in_g in_f in_d in_a in_v, r_rs2 0x73 g f d a v in_o in_g in_f in_d in_a in_v, same, none) refl)
 
 hyper-decodes : (op : HyperOp) (d a b : ℕ) → fits (Instr.Hyper op d a b) ≡ true → Decodes (Instr.Hyper op d a b)

@@ -10,7 +10,9 @@ use Rattle.policy.specs.Text.{rules_of_text}
 use Rattle.host_io.specs.Outside.{FilesState}
 use Rattle.script.specs.AutoScripts.{events_of_text, first_refused}
 use Rattle.cli_plans.specs.CommandLine.{Source, Rounds, Auto, Bursts, Text}
-use Rattle.cli_plans.specs.Plans.{Due, Refuse, RunFrom, Make, Found, Faulty, Missing, Longer, Held, Plan, End, Read, Judge, found_plan, read_part, policy_judged, policy_part, part_judged, kernel_part, image_part, disk_refusal, disk_part, text_part, script_part}
+use Rattle.cli_plans.specs.Plans.{Due, Refuse, RunFrom, Make, Found, Faulty, Missing, Longer, Held, Plan, End, Read, Judge, found_plan}
+use Rattle.cli_plans.specs.Plans.{read_part, policy_judged, policy_part, part_judged, kernel_part, image_part, disk_refusal, disk_part}
+use Rattle.cli_plans.specs.Plans.{text_part, script_part}
 use Rattle.cli_plans.specs.Reading.{FoundAs, Follows}
 use Rattle.cli_plans.specs.declared.file_fault.FileFault.{FileFault}
 use Rattle.cli_plans.specs.declared.file_fault.Part.{Part}

@@ -20,7 +20,11 @@ use Rattle.policy_making.specs.Binding.{bound_rules}
 use Rattle.policy_making.specs.Faults.{Judged as Bound}
 use Rattle.cli_plans.specs.declared.command_words.command.DiskKind.{DiskKind}
 use Rattle.cli_plans.specs.CommandLine.{Command, Flat, Generated, Run, RunWords, MakePolicy, PolicyWords, Convert}
-use Rattle.cli_plans.specs.Plans.{Refuse, RunFrom, Plan, End, Judge, measure_judged, pages_judged, is_whole_pages, flat_events, flat_plan, gen_disk, gen_due, gen_plan, image_measure, made_judged, made_part, digest_part, Modules, no_modules, with_module, module_part, modules_part, making_plan, measure_plan, converted_judged, bound_plan, binding_plan, convert_plan, start_with, boot_judged, boot_plan, image_plan, run_plan, command_plan, plan_of}
+use Rattle.cli_plans.specs.Plans.{Refuse, RunFrom, Plan, End, Judge, measure_judged, pages_judged, is_whole_pages, flat_events, flat_plan}
+use Rattle.cli_plans.specs.Plans.{gen_disk, gen_due, gen_plan, image_measure, made_judged, made_part, digest_part, Modules, no_modules}
+use Rattle.cli_plans.specs.Plans.{with_module, module_part, modules_part, making_plan, measure_plan, converted_judged, bound_plan}
+use Rattle.cli_plans.specs.Plans.{binding_plan, convert_plan, start_with, boot_judged, boot_plan, image_plan, run_plan, command_plan}
+use Rattle.cli_plans.specs.Plans.{plan_of}
 use Rattle.cli_plans.specs.declared.file_fault.FileFault.{FileFault}
 use Rattle.cli_plans.specs.declared.file_fault.Part.{Part}
 use Rattle.cli_plans.specs.declared.refusal.Refusal.{Refusal}

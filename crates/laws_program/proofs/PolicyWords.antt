@@ -1,5 +1,6 @@
 -- The permitted entries of a policy that was read are words of 64 bits, and the policy is within its limits.
-use Rattle.std.proofs.Common.{◌≡◌, ℕ, ◌<◌, ◌≤◌, ◌^◌, Bool, true, false, ◌&&◌, ◌||◌, ◌==◌, nat_le, leb-true, List, [], ◌∷◌, ◌++◌, length, Option, Some, None, Ok, Err, refl, ap, subst, arith, if◌then◌else◌}
+use Rattle.std.proofs.Common.{◌≡◌, ℕ, ◌<◌, ◌≤◌, ◌^◌, Bool, true, false, ◌&&◌, ◌||◌, ◌==◌, nat_le, leb-true, List, [], ◌∷◌, ◌++◌, length}
+use Rattle.std.proofs.Common.{Option, Some, None, Ok, Err, refl, ap, subst, arith, if◌then◌else◌}
 use Rattle.std.proofs.lemmas.Bool.{and_parts, eqb-true}
 use Rattle.std.proofs.lemmas.Int.Digits.{digits_value-lt}
 use Rattle.std.proofs.lemmas.Bool.Decides.{nat_tests}
@@ -19,7 +20,9 @@ use Rattle.policy.specs.Refusals.{Judged}
 use Rattle.policy.specs.Values.{required_member, text_of, address_of, entry_of, if_within_limit, items_in, items_length, each_item}
 use Rattle.policy.specs.Bindings.{entries_in, bound_in, is_bound, binding, binding_of_two, binding_of_items, binding_of, each_binding}
 use Rattle.policy.specs.declared.binding.Binding.{Binding}
-use Rattle.policy.specs.Text.{format_of, known_keys, key_harts, key_ram_pages, key_entries, exports_of, kernel_rule, modules_of, each_entry, plain_entries, bound_entries, entries_by, entries_of, rules_after, rules_of_members, table_of_text, rules_of_text}
+use Rattle.policy.specs.Text.{format_of, known_keys, key_harts, key_ram_pages, key_entries, exports_of, kernel_rule, modules_of, each_entry}
+use Rattle.policy.specs.Text.{plain_entries, bound_entries, entries_by, entries_of, rules_after, rules_of_members, table_of_text}
+use Rattle.policy.specs.Text.{rules_of_text}
 use Rattle.policy.proofs.Judging.{bind_ok, after, ok_same, limited_ok}
 use Rattle.policy.proofs.ReadWithin.{rules_read}
 use Rattle.policy_limits.specs.declared.policy_fault.PolicyFault.{PolicyFault}

@@ -1,5 +1,6 @@
 -- The text of a measured start has the digest that was asked for.
-use Rattle.std.proofs.Common.{◌≡◌, ℕ, zero, suc, inl, inr, ◌+◌, ◌-◌, ◌*◌, ◌/◌, ◌<◌, ◌≤◌, List, [], ◌∷◌, ◌++◌, flat_map, length, map, replicate, drop, refl, sym, ◌∙◌, ap, subst, Bool, true, false, ◌||◌, arith, drop-drop, length-append}
+use Rattle.std.proofs.Common.{◌≡◌, ℕ, zero, suc, inl, inr, ◌+◌, ◌-◌, ◌*◌, ◌/◌, ◌<◌, ◌≤◌, List, [], ◌∷◌, ◌++◌, flat_map, length, map}
+use Rattle.std.proofs.Common.{replicate, drop, refl, sym, ◌∙◌, ap, subst, Bool, true, false, ◌||◌, arith, drop-drop, length-append}
 use Rattle.std.specs.Prelude.{◌==◌}
 use Rattle.std.proofs.lemmas.List.{take_at, drop_at}
 use Rattle.spec_processor.specs.Bytes.{page_bytes, page_size}

@@ -23,7 +23,8 @@ pub record HoldSaved (held : List ℕ → Option (List ℕ)) (words : ResumeWord
   pub events : HoldScript held words.script rules.harts script
 
 -- `resume` is due the run from the snapshot's state with the events that are left, and the two together are the whole run
-pub record GoesOn (held : List ℕ → Option (List ℕ)) (words : ResumeWords) (rules : Rules) (file disk : List ℕ) (script : Schedule) (k : ℕ) (s : Snapshot) : Type 0 where
+pub record GoesOn (held : List ℕ →
+    Option (List ℕ)) (words : ResumeWords) (rules : Rules) (file disk : List ℕ) (script : Schedule) (k : ℕ) (s : Snapshot) : Type 0 where
   pub due : due_in held (resume_plan (Ok words)) ≡ RunFrom (resumed_state rules (contents s)) (events_after s.events words.events script) words.save
   pub one : IsOneRun (boot_start rules file disk) script k s.events words.events (resumed_state rules (contents s))
 

@@ -183,49 +183,335 @@ rows_tell w = (
                                                                                                                               (
                                                                                                                                 (λ e. tt),
                                                                                                                                 (
-                                                                                                                                  (λ e. (record { mask = _; value = _; form = _; fits = eqb-true _ _ e; only = refl; kept = refl; opcode = refl; low = refl; atomic = λ registers pc x. tt }, inr (inr (inl refl)))),
+                                                                                                                                  (λ e. (
+                                                                                                                                    record {
+                                                                                                                                      mask = _;
+                                                                                                                                      value = _;
+                                                                                                                                      form = _;
+                                                                                                                                      fits = eqb-true _ _ e;
+                                                                                                                                      only = refl;
+                                                                                                                                      kept = refl;
+                                                                                                                                      opcode = refl;
+                                                                                                                                      low = refl;
+                                                                                                                                      atomic = λ registers pc x. tt;
+                                                                                                                                    },
+                                                                                                                                    inr (inr (inl refl)),
+                                                                                                                                  )),
                                                                                                                                   (
-                                                                                                                                    (λ e. (record { mask = _; value = _; form = _; fits = eqb-true _ _ e; only = refl; kept = refl; opcode = refl; low = refl; atomic = λ registers pc x. tt }, inr (inr (inr refl)))),
+                                                                                                                                    (λ e. (
+                                                                                                                                      record {
+                                                                                                                                        mask = _;
+                                                                                                                                        value = _;
+                                                                                                                                        form = _;
+                                                                                                                                        fits = eqb-true _ _ e;
+                                                                                                                                        only = refl;
+                                                                                                                                        kept = refl;
+                                                                                                                                        opcode = refl;
+                                                                                                                                        low = refl;
+                                                                                                                                        atomic = λ registers pc x. tt;
+                                                                                                                                      },
+                                                                                                                                      inr (inr (inr refl)),
+                                                                                                                                    )),
                                                                                                                                     (
-                                                                                                                                      (λ e. (record { mask = _; value = _; form = _; fits = eqb-true _ _ e; only = refl; kept = refl; opcode = refl; low = refl; atomic = λ registers pc x. tt }, inr (inr (inl refl)))),
+                                                                                                                                      (λ e. (
+                                                                                                                                        record {
+                                                                                                                                          mask = _;
+                                                                                                                                          value = _;
+                                                                                                                                          form = _;
+                                                                                                                                          fits = eqb-true _ _ e;
+                                                                                                                                          only = refl;
+                                                                                                                                          kept = refl;
+                                                                                                                                          opcode = refl;
+                                                                                                                                          low = refl;
+                                                                                                                                          atomic = λ registers pc x. tt;
+                                                                                                                                        },
+                                                                                                                                        inr (inr (inl refl)),
+                                                                                                                                      )),
                                                                                                                                       (
-                                                                                                                                        (λ e. (record { mask = _; value = _; form = _; fits = eqb-true _ _ e; only = refl; kept = refl; opcode = refl; low = refl; atomic = λ registers pc x. tt }, inr (inr (inr refl)))),
+                                                                                                                                        (λ e. (
+                                                                                                                                          record {
+                                                                                                                                            mask = _;
+                                                                                                                                            value = _;
+                                                                                                                                            form = _;
+                                                                                                                                            fits = eqb-true _ _ e;
+                                                                                                                                            only = refl;
+                                                                                                                                            kept = refl;
+                                                                                                                                            opcode = refl;
+                                                                                                                                            low = refl;
+                                                                                                                                            atomic = λ registers pc x. tt;
+                                                                                                                                          },
+                                                                                                                                          inr (inr (inr refl)),
+                                                                                                                                        )),
                                                                                                                                         (
-                                                                                                                                          (λ e. (record { mask = _; value = _; form = _; fits = eqb-true _ _ e; only = refl; kept = refl; opcode = refl; low = refl; atomic = λ registers pc x. tt }, inr (inr (inl refl)))),
+                                                                                                                                          (λ e. (
+                                                                                                                                            record {
+                                                                                                                                              mask = _;
+                                                                                                                                              value = _;
+                                                                                                                                              form = _;
+                                                                                                                                              fits = eqb-true _ _ e;
+                                                                                                                                              only = refl;
+                                                                                                                                              kept = refl;
+                                                                                                                                              opcode = refl;
+                                                                                                                                              low = refl;
+                                                                                                                                              atomic = λ registers pc x. tt;
+                                                                                                                                            },
+                                                                                                                                            inr (inr (inl refl)),
+                                                                                                                                          )),
                                                                                                                                           (
-                                                                                                                                            (λ e. (record { mask = _; value = _; form = _; fits = eqb-true _ _ e; only = refl; kept = refl; opcode = refl; low = refl; atomic = λ registers pc x. tt }, inr (inr (inr refl)))),
+                                                                                                                                            (λ e. (
+                                                                                                                                              record {
+                                                                                                                                                mask = _;
+                                                                                                                                                value = _;
+                                                                                                                                                form = _;
+                                                                                                                                                fits = eqb-true _ _ e;
+                                                                                                                                                only = refl;
+                                                                                                                                                kept = refl;
+                                                                                                                                                opcode = refl;
+                                                                                                                                                low = refl;
+                                                                                                                                                atomic = λ registers pc x. tt;
+                                                                                                                                              },
+                                                                                                                                              inr (inr (inr refl)),
+                                                                                                                                            )),
                                                                                                                                             (
-                                                                                                                                              (λ e. (record { mask = _; value = _; form = _; fits = eqb-true _ _ e; only = refl; kept = refl; opcode = refl; low = refl; atomic = λ registers pc x. tt }, inr (inr (inl refl)))),
+                                                                                                                                              (λ e. (
+                                                                                                                                                record {
+                                                                                                                                                  mask = _;
+                                                                                                                                                  value = _;
+                                                                                                                                                  form = _;
+                                                                                                                                                  fits = eqb-true _ _ e;
+                                                                                                                                                  only = refl;
+                                                                                                                                                  kept = refl;
+                                                                                                                                                  opcode = refl;
+                                                                                                                                                  low = refl;
+                                                                                                                                                  atomic = λ registers pc x. tt;
+                                                                                                                                                },
+                                                                                                                                                inr (inr (inl refl)),
+                                                                                                                                              )),
                                                                                                                                               (
-                                                                                                                                                (λ e. (record { mask = _; value = _; form = _; fits = eqb-true _ _ e; only = refl; kept = refl; opcode = refl; low = refl; atomic = λ registers pc x. tt }, inr (inr (inr refl)))),
+                                                                                                                                                (λ e. (
+                                                                                                                                                  record {
+                                                                                                                                                    mask = _;
+                                                                                                                                                    value = _;
+                                                                                                                                                    form = _;
+                                                                                                                                                    fits = eqb-true _ _ e;
+                                                                                                                                                    only = refl;
+                                                                                                                                                    kept = refl;
+                                                                                                                                                    opcode = refl;
+                                                                                                                                                    low = refl;
+                                                                                                                                                    atomic = λ registers pc x. tt;
+                                                                                                                                                  },
+                                                                                                                                                  inr (inr (inr refl)),
+                                                                                                                                                )),
                                                                                                                                                 (
-                                                                                                                                                  (λ e. (record { mask = _; value = _; form = _; fits = eqb-true _ _ e; only = refl; kept = refl; opcode = refl; low = refl; atomic = λ registers pc x. tt }, inr (inr (inl refl)))),
+                                                                                                                                                  (λ e. (
+                                                                                                                                                    record {
+                                                                                                                                                      mask = _;
+                                                                                                                                                      value = _;
+                                                                                                                                                      form = _;
+                                                                                                                                                      fits = eqb-true _ _ e;
+                                                                                                                                                      only = refl;
+                                                                                                                                                      kept = refl;
+                                                                                                                                                      opcode = refl;
+                                                                                                                                                      low = refl;
+                                                                                                                                                      atomic = λ registers pc x. tt;
+                                                                                                                                                    },
+                                                                                                                                                    inr (inr (inl refl)),
+                                                                                                                                                  )),
                                                                                                                                                   (
-                                                                                                                                                    (λ e. (record { mask = _; value = _; form = _; fits = eqb-true _ _ e; only = refl; kept = refl; opcode = refl; low = refl; atomic = λ registers pc x. tt }, inr (inr (inr refl)))),
+                                                                                                                                                    (λ e. (
+                                                                                                                                                      record {
+                                                                                                                                                        mask = _;
+                                                                                                                                                        value = _;
+                                                                                                                                                        form = _;
+                                                                                                                                                        fits = eqb-true _ _ e;
+                                                                                                                                                        only = refl;
+                                                                                                                                                        kept = refl;
+                                                                                                                                                        opcode = refl;
+                                                                                                                                                        low = refl;
+                                                                                                                                                        atomic = λ registers pc x. tt;
+                                                                                                                                                      },
+                                                                                                                                                      inr (inr (inr refl)),
+                                                                                                                                                    )),
                                                                                                                                                     (
-                                                                                                                                                      (λ e. (record { mask = _; value = _; form = _; fits = eqb-true _ _ e; only = refl; kept = refl; opcode = refl; low = refl; atomic = λ registers pc x. tt }, inr (inr (inl refl)))),
+                                                                                                                                                      (λ e. (
+                                                                                                                                                        record {
+                                                                                                                                                          mask = _;
+                                                                                                                                                          value = _;
+                                                                                                                                                          form = _;
+                                                                                                                                                          fits = eqb-true _ _ e;
+                                                                                                                                                          only = refl;
+                                                                                                                                                          kept = refl;
+                                                                                                                                                          opcode = refl;
+                                                                                                                                                          low = refl;
+                                                                                                                                                          atomic = λ registers pc x. tt;
+                                                                                                                                                        },
+                                                                                                                                                        inr (inr (inl refl)),
+                                                                                                                                                      )),
                                                                                                                                                       (
-                                                                                                                                                        (λ e. (record { mask = _; value = _; form = _; fits = eqb-true _ _ e; only = refl; kept = refl; opcode = refl; low = refl; atomic = λ registers pc x. tt }, inr (inr (inr refl)))),
+                                                                                                                                                        (λ e. (
+                                                                                                                                                          record {
+                                                                                                                                                            mask = _;
+                                                                                                                                                            value = _;
+                                                                                                                                                            form = _;
+                                                                                                                                                            fits = eqb-true _ _ e;
+                                                                                                                                                            only = refl;
+                                                                                                                                                            kept = refl;
+                                                                                                                                                            opcode = refl;
+                                                                                                                                                            low = refl;
+                                                                                                                                                            atomic = λ registers pc x. tt;
+                                                                                                                                                          },
+                                                                                                                                                          inr (inr (inr refl)),
+                                                                                                                                                        )),
                                                                                                                                                         (
-                                                                                                                                                          (λ e. (record { mask = _; value = _; form = _; fits = eqb-true _ _ e; only = refl; kept = refl; opcode = refl; low = refl; atomic = λ registers pc x. tt }, inr (inr (inl refl)))),
+                                                                                                                                                          (λ e. (
+                                                                                                                                                            record {
+                                                                                                                                                              mask = _;
+                                                                                                                                                              value = _;
+                                                                                                                                                              form = _;
+                                                                                                                                                              fits = eqb-true _ _ e;
+                                                                                                                                                              only = refl;
+                                                                                                                                                              kept = refl;
+                                                                                                                                                              opcode = refl;
+                                                                                                                                                              low = refl;
+                                                                                                                                                              atomic = λ registers pc x. tt;
+                                                                                                                                                            },
+                                                                                                                                                            inr (inr (inl refl)),
+                                                                                                                                                          )),
                                                                                                                                                           (
-                                                                                                                                                            (λ e. (record { mask = _; value = _; form = _; fits = eqb-true _ _ e; only = refl; kept = refl; opcode = refl; low = refl; atomic = λ registers pc x. tt }, inr (inr (inr refl)))),
+                                                                                                                                                            (λ e. (
+                                                                                                                                                              record {
+                                                                                                                                                                mask = _;
+                                                                                                                                                                value = _;
+                                                                                                                                                                form = _;
+                                                                                                                                                                fits = eqb-true _ _ e;
+                                                                                                                                                                only = refl;
+                                                                                                                                                                kept = refl;
+                                                                                                                                                                opcode = refl;
+                                                                                                                                                                low = refl;
+                                                                                                                                                                atomic = λ registers pc x. tt;
+                                                                                                                                                              },
+                                                                                                                                                              inr (inr (inr refl)),
+                                                                                                                                                            )),
                                                                                                                                                             (
-                                                                                                                                                              (λ e. (record { mask = _; value = _; form = _; fits = eqb-true _ _ e; only = refl; kept = refl; opcode = refl; low = refl; atomic = λ registers pc x. tt }, inr (inr (inl refl)))),
+                                                                                                                                                              (λ e. (
+                                                                                                                                                                record {
+                                                                                                                                                                  mask = _;
+                                                                                                                                                                  value = _;
+                                                                                                                                                                  form = _;
+                                                                                                                                                                  fits = eqb-true _ _ e;
+                                                                                                                                                                  only = refl;
+                                                                                                                                                                  kept = refl;
+                                                                                                                                                                  opcode = refl;
+                                                                                                                                                                  low = refl;
+                                                                                                                                                                  atomic = λ registers pc x. tt;
+                                                                                                                                                                },
+                                                                                                                                                                inr (inr (inl refl)),
+                                                                                                                                                              )),
                                                                                                                                                               (
-                                                                                                                                                                (λ e. (record { mask = _; value = _; form = _; fits = eqb-true _ _ e; only = refl; kept = refl; opcode = refl; low = refl; atomic = λ registers pc x. tt }, inr (inr (inr refl)))),
+                                                                                                                                                                (λ e. (
+                                                                                                                                                                  record {
+                                                                                                                                                                    mask = _;
+                                                                                                                                                                    value = _;
+                                                                                                                                                                    form = _;
+                                                                                                                                                                    fits = eqb-true _ _ e;
+                                                                                                                                                                    only = refl;
+                                                                                                                                                                    kept = refl;
+                                                                                                                                                                    opcode = refl;
+                                                                                                                                                                    low = refl;
+                                                                                                                                                                    atomic = λ registers pc x. tt;
+                                                                                                                                                                  },
+                                                                                                                                                                  inr (inr (inr refl)),
+                                                                                                                                                                )),
                                                                                                                                                                 (
-                                                                                                                                                                  (λ e. (record { mask = _; value = _; form = _; fits = eqb-true _ _ e; only = refl; kept = refl; opcode = refl; low = refl; atomic = λ registers pc x. tt }, inr (inr (inl refl)))),
+                                                                                                                                                                  (λ e. (
+                                                                                                                                                                    record {
+                                                                                                                                                                      mask = _;
+                                                                                                                                                                      value = _;
+                                                                                                                                                                      form = _;
+                                                                                                                                                                      fits = eqb-true _ _ e;
+                                                                                                                                                                      only = refl;
+                                                                                                                                                                      kept = refl;
+                                                                                                                                                                      opcode = refl;
+                                                                                                                                                                      low = refl;
+                                                                                                                                                                      atomic = λ registers pc x. tt;
+                                                                                                                                                                    },
+                                                                                                                                                                    inr (inr (inl refl)),
+                                                                                                                                                                  )),
                                                                                                                                                                   (
-                                                                                                                                                                    (λ e. (record { mask = _; value = _; form = _; fits = eqb-true _ _ e; only = refl; kept = refl; opcode = refl; low = refl; atomic = λ registers pc x. tt }, inr (inr (inr refl)))),
+                                                                                                                                                                    (λ e. (
+                                                                                                                                                                      record {
+                                                                                                                                                                        mask = _;
+                                                                                                                                                                        value = _;
+                                                                                                                                                                        form = _;
+                                                                                                                                                                        fits = eqb-true _ _ e;
+                                                                                                                                                                        only = refl;
+                                                                                                                                                                        kept = refl;
+                                                                                                                                                                        opcode = refl;
+                                                                                                                                                                        low = refl;
+                                                                                                                                                                        atomic = λ registers pc x. tt;
+                                                                                                                                                                      },
+                                                                                                                                                                      inr (inr (inr refl)),
+                                                                                                                                                                    )),
                                                                                                                                                                     (
-                                                                                                                                                                      (λ e. (record { mask = _; value = _; form = _; fits = eqb-true _ _ e; only = refl; kept = refl; opcode = refl; low = refl; atomic = λ registers pc x. tt }, inr (inr (inl refl)))),
+                                                                                                                                                                      (λ e. (
+                                                                                                                                                                        record {
+                                                                                                                                                                          mask = _;
+                                                                                                                                                                          value = _;
+                                                                                                                                                                          form = _;
+                                                                                                                                                                          fits = eqb-true _ _ e;
+                                                                                                                                                                          only = refl;
+                                                                                                                                                                          kept = refl;
+                                                                                                                                                                          opcode = refl;
+                                                                                                                                                                          low = refl;
+                                                                                                                                                                          atomic = λ registers pc x. tt;
+                                                                                                                                                                        },
+                                                                                                                                                                        inr (inr (inl refl)),
+                                                                                                                                                                      )),
                                                                                                                                                                       (
-                                                                                                                                                                        (λ e. (record { mask = _; value = _; form = _; fits = eqb-true _ _ e; only = refl; kept = refl; opcode = refl; low = refl; atomic = λ registers pc x. tt }, inr (inr (inr refl)))),
+                                                                                                                                                                        (λ e. (
+                                                                                                                                                                          record {
+                                                                                                                                                                            mask = _;
+                                                                                                                                                                            value = _;
+                                                                                                                                                                            form = _;
+                                                                                                                                                                            fits = eqb-true _ _ e;
+                                                                                                                                                                            only = refl;
+                                                                                                                                                                            kept = refl;
+                                                                                                                                                                            opcode = refl;
+                                                                                                                                                                            low = refl;
+                                                                                                                                                                            atomic = λ registers pc x. tt;
+                                                                                                                                                                          },
+                                                                                                                                                                          inr (inr (inr refl)),
+                                                                                                                                                                        )),
                                                                                                                                                                         (
-                                                                                                                                                                          (λ e. (record { mask = _; value = _; form = _; fits = eqb-true _ _ e; only = refl; kept = refl; opcode = refl; low = refl; atomic = λ registers pc x. tt }, inr (inr (inl refl)))),
+                                                                                                                                                                          (λ e. (
+                                                                                                                                                                            record {
+                                                                                                                                                                              mask = _;
+                                                                                                                                                                              value = _;
+                                                                                                                                                                              form = _;
+                                                                                                                                                                              fits = eqb-true _ _ e;
+                                                                                                                                                                              only = refl;
+                                                                                                                                                                              kept = refl;
+                                                                                                                                                                              opcode = refl;
+                                                                                                                                                                              low = refl;
+                                                                                                                                                                              atomic = λ registers pc x. tt;
+                                                                                                                                                                            },
+                                                                                                                                                                            inr (inr (inl refl)),
+                                                                                                                                                                          )),
                                                                                                                                                                           (
-                                                                                                                                                                            (λ e. (record { mask = _; value = _; form = _; fits = eqb-true _ _ e; only = refl; kept = refl; opcode = refl; low = refl; atomic = λ registers pc x. tt }, inr (inr (inr refl)))),
+                                                                                                                                                                            (λ e. (
+                                                                                                                                                                              record {
+                                                                                                                                                                                mask = _;
+                                                                                                                                                                                value = _;
+                                                                                                                                                                                form = _;
+                                                                                                                                                                                fits = eqb-true _ _ e;
+                                                                                                                                                                                only = refl;
+                                                                                                                                                                                kept = refl;
+                                                                                                                                                                                opcode = refl;
+                                                                                                                                                                                low = refl;
+                                                                                                                                                                                atomic = λ registers pc x. tt;
+                                                                                                                                                                              },
+                                                                                                                                                                              inr (inr (inr refl)),
+                                                                                                                                                                            )),
                                                                                                                                                                             (
                                                                                                                                                                               (λ e. tt),
                                                                                                                                                                               (

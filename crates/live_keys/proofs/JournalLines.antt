@@ -1,5 +1,7 @@
 -- The text of a journal, read back.
-use Rattle.std.proofs.Common.{◌≡◌, ◌≤◌, ◌<◌, ◌+◌, ◌-◌, ◌*◌, ◌%◌, ◌^◌, ◌==◌, ℕ, zero, suc, Bool, true, false, nat_le, if◌then◌else◌, List, [], ◌∷◌, ◌++◌, length, map, flat_map, replicate, drop, Option, Some, None, is_none, unwrap_or, option_map, codes, refl, sym, ◌∙◌, ap, subst, append_assoc, arith, rules, length-append, add-one}
+use Rattle.std.proofs.Common.{◌≡◌, ◌≤◌, ◌<◌, ◌+◌, ◌-◌, ◌*◌, ◌%◌, ◌^◌, ◌==◌, ℕ, zero, suc, Bool, true, false, nat_le, if◌then◌else◌, List}
+use Rattle.std.proofs.Common.{[], ◌∷◌, ◌++◌, length, map, flat_map, replicate, drop, Option, Some, None, is_none, unwrap_or, option_map}
+use Rattle.std.proofs.Common.{codes, refl, sym, ◌∙◌, ap, subst, append_assoc, arith, rules, length-append, add-one}
 use Rattle.std.proofs.Math.ListN.{drop_of_length-le}
 use Rattle.std.specs.Fmt.{decimal}
 use Rattle.std.specs.List.{All, list_all, position_from}
@@ -186,8 +188,10 @@ journal_without first (key ∷ keys) last is bytes few =
     let behind = second_so (nat_le first key.before) (is_placed key.before keys last) is in
     let high = placed_le key.before last keys behind in
     let byte = leb-true key.byte 255 (first_so (nat_le key.byte 255) (are_bytes keys) bytes) in
-    autos_without (key.before - first) (key_line key.byte ∷ journal_lines key.before keys last) (omega arith)
-    (without_append 10 (codes "key") (32 ∷ decimal key.byte) (refl, (refl, (refl, tt))) (refl, decimal_without 10 key.byte (omega arith) (omega arith)), journal_without key.before keys last behind (second_so (nat_le key.byte 255) (are_bytes keys) bytes) few)
+    autos_without (key.before - first) (key_line key.byte ∷ journal_lines key.before keys last) (omega arith) (
+      without_append 10 (codes "key") (32 ∷ decimal key.byte) (refl, (refl, (refl, tt))) (refl, decimal_without 10 key.byte (omega arith) (omega arith)),
+      journal_without key.before keys last behind (second_so (nat_le key.byte 255) (are_bytes keys) bytes) few,
+    )
 
 pub journal_reads : (harts : ℕ) (keys : List LiveKey) (last : ℕ) → is_placed 0 keys last ≡ true → are_bytes keys ≡ true → last ≤ 2 ^ 32 →
     events_of_text harts (journal_text keys last) ≡ events_between harts 0 keys last
@@ -231,7 +235,10 @@ journal_read first (key ∷ keys) last is bytes few =
     let rest : List (List ℕ) = journal_lines key.before keys last ++ [] ∷ [] in
     subst (λ (ls : List (List ℕ)). EachRead ls)
     (sym (append_assoc (auto_lines (key.before - first)) (key_line key.byte ∷ journal_lines key.before keys last) ([] ∷ [])))
-    (autos_read (key.before - first) (key_line key.byte ∷ rest) (omega arith) (key_read key.byte byte, journal_read key.before keys last behind (second_so (nat_le key.byte 255) (are_bytes keys) bytes) few))
+    (autos_read (key.before - first) (key_line key.byte ∷ rest) (omega arith) (
+      key_read key.byte byte,
+      journal_read key.before keys last behind (second_so (nat_le key.byte 255) (are_bytes keys) bytes) few,
+    ))
 
 pub journal_accepted : (keys : List LiveKey) (last : ℕ) → is_placed 0 keys last ≡ true → are_bytes keys ≡ true → last ≤ 2 ^ 32 → first_refused (journal_text keys last) ≡ None
 unfolding journal_text first_refused

@@ -38,10 +38,15 @@ use Rattle.spec_reference.specs.Attacker.{poke_move}
 use Rattle.spec_reference.specs.Disk.{DmaStep, disk_beat}
 use Rattle.spec_reference.specs.Move.{Move, Idle, FromRam, IntoRam, DeniedAt, OutsideRam}
 use Rattle.spec_reference.specs.Loads.{decide, load_step_of}
-use Rattle.spec_reference.specs.Requests.{Source, Target, carried_out_writing, load_source, settings_of, source_at, source_of, target_of, csr_asked, carry_out_device_load, carry_out_load, carry_out_load_reserved, carry_out_device_store, carry_out_store, carry_out_store_conditional, carry_out_amo, carry_out_csr}
+use Rattle.spec_reference.specs.Requests.{Source, Target, carried_out_writing, load_source, settings_of, source_at, source_of, target_of}
+use Rattle.spec_reference.specs.Requests.{csr_asked, carry_out_device_load, carry_out_load, carry_out_load_reserved, carry_out_device_store}
+use Rattle.spec_reference.specs.Requests.{carry_out_store, carry_out_store_conditional, carry_out_amo, carry_out_csr}
 use Rattle.spec_reference.specs.Run.{happen, happen_under, step}
 use Rattle.spec_reference.specs.Trapping.{hart_at_return, hart_at_trap, trap_from, exception, returned_from_trap, may_enter}
-use Rattle.spec_reference.specs.Turn.{carry_out_kernel_only, carry_out_ecall, carry_out_sret, carry_out_effect, carry_out_instruction, carry_out_word, Fetched, NoWord, Stray, Word, fetch_of, act_on_fetch, place_of_pc, leads_into, outside_entry, leave_entry, fetch_in_entry, bound_entry, act_on_pending, act, turn_of_started, turn_of, turn}
+use Rattle.spec_reference.specs.Turn.{carry_out_kernel_only, carry_out_ecall, carry_out_sret, carry_out_effect, carry_out_instruction}
+use Rattle.spec_reference.specs.Turn.{carry_out_word, Fetched, NoWord, Stray, Word, fetch_of, act_on_fetch, place_of_pc, leads_into}
+use Rattle.spec_reference.specs.Turn.{outside_entry, leave_entry, fetch_in_entry, bound_entry, act_on_pending, act, turn_of_started}
+use Rattle.spec_reference.specs.Turn.{turn_of, turn}
 use Rattle.spec_reference.specs.SavedStates.{gpa_at}
 use Rattle.machine.specs.Machines.{HasAddress, HaveAddresses}
 use Rattle.laws_simulation.proofs.RequestsSound.{room_of}

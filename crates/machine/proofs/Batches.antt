@@ -126,7 +126,10 @@ pub one_step : (m now after : Machine) (h n : ℕ) → Rowed n m h now → (m.jo
 one_step m now after h n batch on is quiet =
     let behind : StandsFor after (step batch.state (Turn h)) = step_stands now after (Turn h) is batch.state batch.stands in
     record {
-      chain = (now, (batch.chain, (record { quiet = batch.quiet; running = on }, record { stands = step_stands now after (Turn h) is; event = step_happens now after batch.state (Turn h) batch.stands is })));
+      chain = (
+        now,
+        (batch.chain, (record { quiet = batch.quiet; running = on }, record { stands = step_stands now after (Turn h) is; event = step_happens now after batch.state (Turn h) batch.stands is })),
+      );
       quiet = quiet;
       state = step batch.state (Turn h);
       stands = behind;

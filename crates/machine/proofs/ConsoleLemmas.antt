@@ -243,4 +243,5 @@ room_after m next e has makes room =
 pub room_again : (n : ℕ) (m next : Machine) (e : Event) → HasState m → Repeats n m e next → length m.journal.printed < max_printed → length next.journal.printed ≤ max_printed
 room_again zero m next e has same room = let none : length next.journal.printed ≡ length m.journal.printed = ap (λ (x : Machine). length x.journal.printed) same in omega (arith, none)
 room_again (suc n) m next e has (before, (those, (on, makes))) room =
-    room_after before next e (record { state = run has.state (replicate n e); stands = repeats_stand n m before e those has.state has.stands }) makes (let quiet = on.quiet in omega (arith, quiet, room))
+    room_after before next e (record { state = run has.state (replicate n e); stands = repeats_stand n m before e those has.state has.stands }) makes (let quiet = on.quiet in
+    omega (arith, quiet, room))

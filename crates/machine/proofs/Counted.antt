@@ -155,7 +155,8 @@ good_place rules ram guard load within size free =
     let gpa : (m.gpa % page_size == 0) ≡ true = eq-eqb (m.gpa % page_size) 0 within.gpa in
     let va : (m.va % page_size == 0) ≡ true = eq-eqb (m.va % page_size) 0 within.va in
     let base : nat_le ram_base m.gpa ≡ true = let b = fit.base in grind (arith, nat_tests) in
-    let end : nat_le (ram_offset m.gpa + page_size * n) (length ram) ≡ true = let e = fit.inside in let room : ram_offset m.gpa + page_size * n ≤ length ram = omega (arith, e, size) in grind (arith, nat_tests) in
+    let end : nat_le (ram_offset m.gpa + page_size * n) (length ram) ≡
+    true = let e = fit.inside in let room : ram_offset m.gpa + page_size * n ≤ length ram = omega (arith, e, size) in grind (arith, nat_tests) in
     let none : list_any (is_taken guard) (module_pages rules m) ≡ false = found_any (is_taken guard) (module_pages rules m) (none_busy Held guard (module_pages rules m) free) in
     rw (gpa, va, base, end, none) refl
 

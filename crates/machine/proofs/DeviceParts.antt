@@ -87,7 +87,8 @@ disk_holds : (b : BlockState) (bytes : List ℕ) → (disk b).has bytes ≡ true
 unfolding disk
 disk_holds b bytes h busy =
     let range = second_true (is_word (length bytes)) (holds_transfer b (length bytes)) (first_true (is_word (length bytes) && holds_transfer b (length bytes)) _ h) in
-    let fits = not_idle (is_busy b) (nat_le (b.sector + b.count) (length bytes / sector_size)) (second_true _ (not (is_busy b) || nat_le (b.sector + b.count) (length bytes / sector_size)) range) busy in
+    let fits = not_idle (is_busy b) (nat_le (b.sector + b.count) (length bytes / sector_size)) (second_true _ (not (is_busy b) ||
+    nat_le (b.sector + b.count) (length bytes / sector_size)) range) busy in
     let most = max_is (b.sector + b.count) (length bytes / sector_size) fits in omega (arith, most)
 
 pub block_sound : (b : BlockState) (bytes : List ℕ) → port.has (PortState.Block b) ≡ true → (disk b).has bytes ≡ true → IsSound (record { block = b; bytes = bytes })

@@ -1,5 +1,6 @@
 -- What plain data keeps of a machine is the state that the machine stands for.
-use Rattle.std.proofs.Common.{◌≡◌, ℕ, zero, suc, ◌+◌, ◌-◌, ◌*◌, ◌<◌, List, drop, get_or, drop-cons, add-one, [], ◌∷◌, ◌++◌, length, refl, sym, ◌∙◌, ap, subst, Bool, true, false, arith, append_assoc, append-nil}
+use Rattle.std.proofs.Common.{◌≡◌, ℕ, zero, suc, ◌+◌, ◌-◌, ◌*◌, ◌<◌, List, drop, get_or, drop-cons, add-one, [], ◌∷◌, ◌++◌, length, refl}
+use Rattle.std.proofs.Common.{sym, ◌∙◌, ap, subst, Bool, true, false, arith, append_assoc, append-nil}
 use Rattle.std.specs.Prelude.{IfOk, Option, Some, None, option_map, Result, Ok, Err, slice_get}
 use Rattle.spec_processor.specs.Bits.{flag}
 use Rattle.sv_types.specs.Clock.{Clock, timer_of}

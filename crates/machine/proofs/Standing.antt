@@ -1,5 +1,6 @@
 -- What follows where a machine stands for a state. The other proofs use no more of it than this.
-use Rattle.std.proofs.Common.{◌≡◌, ◌≢◌, ◌≤◌, ◌+◌, ◌-◌, ℕ, zero, suc, List, [], ◌∷◌, ◌++◌, length, take, drop, Bool, true, false, Option, Some, None, refl, sym, ◌∙◌, ap, subst, append_assoc, arith, slice_get}
+use Rattle.std.proofs.Common.{◌≡◌, ◌≢◌, ◌≤◌, ◌+◌, ◌-◌, ℕ, zero, suc, List, [], ◌∷◌, ◌++◌, length, take, drop, Bool, true, false, Option}
+use Rattle.std.proofs.Common.{Some, None, refl, sym, ◌∙◌, ap, subst, append_assoc, arith, slice_get}
 use Rattle.sv_types.proofs.Sums.{plus_none}
 use Rattle.std.proofs.lemmas.List.{take-append-le, take-append-drop, length-drop}
 use Rattle.std.proofs.Math.Seq.{take-add}
@@ -13,7 +14,8 @@ use Rattle.spec_reference.specs.Disk.{disk_bytes}
 use Rattle.spec_reference.specs.Report.{output, report}
 use Rattle.spec_reference.specs.Run.{step}
 use Rattle.spec_reference.specs.States.{State, Journal}
-use Rattle.spec_hardware.specs.HardwareEvent.{IsEvent, HappensUnder, Happens, TurnOf, HartTurn, StartedTurn, OneOrTwo, Attempts, AfterOutcome, sent_again, hart_again, attempt_of, is_loading, Written, with_bytes_at}
+use Rattle.spec_hardware.specs.HardwareEvent.{IsEvent, HappensUnder, Happens, TurnOf, HartTurn, StartedTurn, OneOrTwo, Attempts}
+use Rattle.spec_hardware.specs.HardwareEvent.{AfterOutcome, sent_again, hart_again, attempt_of, is_loading, Written, with_bytes_at}
 use Rattle.spec_hardware.specs.HwHarts.{asks_again}
 use Rattle.spec_hardware.specs.Machine.{Machine, HwHart}
 use Rattle.spec_hardware.specs.Reaches.{Cleared, IsNew}

@@ -154,13 +154,17 @@ bounded_by : (m after : Machine) (r : State) (e : Event) (v : Verdict) → m.jou
 unfolding event_served
 bounded_by m after r (Turn h) Running on stands behind event steps b = turn_bounded m after r h stands on behind event b
 bounded_by m after r Beat Running on stands behind event steps b =
-    subst Bounded (sym steps) (left_bounded (with_count_raised m count_beat) (beat_served (with_count_raised m count_beat)) (beat_leaves (with_count_raised m count_beat)) (record { attempts = b.attempts; printed = b.printed }))
+    subst Bounded (sym steps) (left_bounded (with_count_raised m count_beat) (beat_served (with_count_raised m count_beat)) (beat_leaves (with_count_raised m count_beat))
+    (record { attempts = b.attempts; printed = b.printed }))
 bounded_by m after r (Key byte) Running on stands behind event steps b =
-    subst Bounded (sym steps) (left_bounded (with_count_raised m count_key) (key_served (with_count_raised m count_key) byte) (key_leaves (with_count_raised m count_key) byte) (record { attempts = b.attempts; printed = b.printed }))
+    subst Bounded (sym steps) (left_bounded (with_count_raised m count_key) (key_served (with_count_raised m count_key) byte) (key_leaves (with_count_raised m count_key) byte)
+    (record { attempts = b.attempts; printed = b.printed }))
 bounded_by m after r (Tick n) Running on stands behind event steps b =
-    subst Bounded (sym steps) (left_bounded (with_count_raised m count_tick) (tick_served (with_count_raised m count_tick) n) (tick_leaves (with_count_raised m count_tick) n) (record { attempts = b.attempts; printed = b.printed }))
+    subst Bounded (sym steps) (left_bounded (with_count_raised m count_tick) (tick_served (with_count_raised m count_tick) n) (tick_leaves (with_count_raised m count_tick) n)
+    (record { attempts = b.attempts; printed = b.printed }))
 bounded_by m after r (Poke gpa value) Running on stands behind event steps b =
-    subst Bounded (sym steps) (left_bounded (with_count_raised m count_beat) (poke_served (with_count_raised m count_beat) gpa value) (poke_leaves (with_count_raised m count_beat) gpa value) (record { attempts = b.attempts; printed = b.printed }))
+    subst Bounded (sym steps) (left_bounded (with_count_raised m count_beat) (poke_served (with_count_raised m count_beat) gpa value)
+    (poke_leaves (with_count_raised m count_beat) gpa value) (record { attempts = b.attempts; printed = b.printed }))
 bounded_by m after r e Shutdown on stands behind event steps b = subst Bounded (sym steps) b
 bounded_by m after r e (Stopped rule hart at) on stands behind event steps b = subst Bounded (sym steps) b
 

@@ -47,7 +47,8 @@ pub(crate) fn boot<R: Threads + Sync>(
     requires placed { ArePlaced policy.ram_pages (segments_of image.now) }
     requires quiet { IsSoundDisk (port_disk port) }
     ensures made { IfOk result (λ p. p ≡ image_machine p.region.tables (rules_of policy) image.now.entry (segments_of image.now) (port_disk port)) }
-    ensures new { (file : List ℕ) → IsImageOf file policy.ram_pages image.now → IfOk result (λ p. IsNew p (image_start (rules_of policy) file (port_disk port))) }
+    ensures new { (file : List ℕ) → IsImageOf file policy.ram_pages image.now →
+        IfOk result (λ p. IsNew p (image_start (rules_of policy) file (port_disk port))) }
     ensures journal { IfOk result (λ p. p.journal ≡ journal_at_boot) }
     ensures guarded { IfOk result IsGuarded }
     ensures measured { OnOk result (measure (image_text image.now) ≡ policy.kernel) }

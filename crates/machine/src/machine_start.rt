@@ -81,7 +81,8 @@ impl Machine {
         requires within { IsTrue (rules_within (rules_of policy)) }
         requires read { IsRead policy.ram_pages image.now }
         requires sectors { length disk.items % sector_size ≡ 0 }
-        ensures new { (file : List ℕ) → IsImageOf file policy.ram_pages image.now → IfOk result (λ m. IsNew m (virtio_start (rules_of policy) file disk.items)) }
+        ensures new { (file : List ℕ) → IsImageOf file policy.ram_pages image.now →
+            IfOk result (λ m. IsNew m (virtio_start (rules_of policy) file disk.items)) }
         ensures journal { IfOk result (λ m. m.journal ≡ journal_at_boot) }
         ensures measured { OnOk result (measure (image_text image.now) ≡ policy.kernel) }
         ensures permitted { OnOk result (has_number policy.entries.items image.now.entry ≡ true) }
@@ -101,7 +102,8 @@ impl Machine {
         requires within { IsTrue (rules_within (rules_of policy)) }
         requires read { IsRead policy.ram_pages image.now }
         requires quiet { IsSoundDisk (port_disk port) }
-        ensures new { (file : List ℕ) → IsImageOf file policy.ram_pages image.now → IfOk result (λ m. IsNew m (image_start (rules_of policy) file (port_disk port))) }
+        ensures new { (file : List ℕ) → IsImageOf file policy.ram_pages image.now →
+            IfOk result (λ m. IsNew m (image_start (rules_of policy) file (port_disk port))) }
         ensures journal { IfOk result (λ m. m.journal ≡ journal_at_boot) }
         ensures measured { OnOk result (measure (image_text image.now) ≡ policy.kernel) }
         ensures permitted { OnOk result (has_number policy.entries.items image.now.entry ≡ true) }

@@ -78,7 +78,8 @@ record IsPart (first size : ℕ) (sites : List Site) : Type 0 where
 
 one_masked : (first size : ℕ) (piece rest : List ℕ) (site : Site) (sites : List Site) (p q : Bool) → nat_le first site.offset ≡ p → nat_lt (site.offset - first) size ≡ q
     → IsPart first size (site ∷ sites) → length piece ≡ size
-    → ((front : List ℕ) (back : List ℕ) → length front ≡ size → masked_text (front ++ back) (behind first sites) ≡ masked_text front (piece_sites first size sites) ++ masked_text back (behind (first + size) sites))
+    → ((front : List ℕ) (back : List ℕ) → length front ≡ size → masked_text (front ++ back) (behind first sites) ≡
+    masked_text front (piece_sites first size sites) ++ masked_text back (behind (first + size) sites))
     → masked_text (piece ++ rest) (behind first (site ∷ sites)) ≡ masked_text piece (piece_sites first size (site ∷ sites)) ++ masked_text rest (behind (first + size) (site ∷ sites))
 unfolding masked_text behind piece_sites
 one_masked first size piece rest site sites false q e f part len again = rw (e, past first size site.offset false q e f) (again piece rest len)
@@ -102,10 +103,13 @@ masked_parts first size piece rest (site ∷ sites) part len =
     one_masked first size piece rest site sites (nat_le first site.offset) (nat_lt (site.offset - first) size) refl refl part len
     (λ front back same. masked_parts first size front back sites left same)
 
-one_right : (exports : List Export) (bases : Bases) (first size : ℕ) (piece rest : List ℕ) (site : Site) (sites : List Site) (p q : Bool) → nat_le first site.offset ≡ p → nat_lt (site.offset - first) size ≡ q
+one_right : (exports : List Export) (bases : Bases) (first size : ℕ) (piece rest : List ℕ) (site : Site) (sites : List Site) (p q : Bool) → nat_le first site.offset ≡ p →
+    nat_lt (site.offset - first) size ≡ q
     → IsPart first size (site ∷ sites) → length piece ≡ size
-    → fields_right exports bases (behind first sites) (piece ++ rest) ≡ (fields_right exports bases (piece_sites first size sites) piece && fields_right exports bases (behind (first + size) sites) rest)
-    → fields_right exports bases (behind first (site ∷ sites)) (piece ++ rest) ≡ (fields_right exports bases (piece_sites first size (site ∷ sites)) piece && fields_right exports bases (behind (first + size) (site ∷ sites)) rest)
+    → fields_right exports bases (behind first sites) (piece ++ rest) ≡
+    (fields_right exports bases (piece_sites first size sites) piece && fields_right exports bases (behind (first + size) sites) rest)
+    → fields_right exports bases (behind first (site ∷ sites)) (piece ++ rest) ≡
+    (fields_right exports bases (piece_sites first size (site ∷ sites)) piece && fields_right exports bases (behind (first + size) (site ∷ sites)) rest)
 unfolding fields_right behind piece_sites
 one_right exports bases first size piece rest site sites false q e f part len again = rw (e, past first size site.offset false q e f) again
 one_right exports bases first size piece rest site sites true true e f part len again =
@@ -117,7 +121,8 @@ one_right exports bases first size piece rest site sites true false e f part len
     (and_swap (field_right exports bases rest (site_from (first + size) site)) _ _)
 
 right_parts : (exports : List Export) (bases : Bases) (first size : ℕ) (piece rest : List ℕ) (sites : List Site) → IsPart first size sites → length piece ≡ size
-    → fields_right exports bases (behind first sites) (piece ++ rest) ≡ (fields_right exports bases (piece_sites first size sites) piece && fields_right exports bases (behind (first + size) sites) rest)
+    → fields_right exports bases (behind first sites) (piece ++ rest) ≡
+    (fields_right exports bases (piece_sites first size sites) piece && fields_right exports bases (behind (first + size) sites) rest)
 unfolding fields_right behind piece_sites
 right_parts exports bases first size piece rest [] part len = refl
 right_parts exports bases first size piece rest (site ∷ sites) part len =
@@ -163,16 +168,19 @@ pub mask_law : MaskLaw
 mask_law pieces sites cut =
     masked_from 0 pieces sites refl cut.pages cut.aligned (subst (λ (n : ℕ). EndsAt n sites) (omega arith) cut.inside) ∙ ap (masked_text (concat pieces)) (all_after sites)
 
-rights_from : (exports : List Export) (bases : Bases) (first : ℕ) (pieces : List (List ℕ)) (sites : List Site) → first % page_size ≡ 0 → All IsWhole pieces → All IsAligned sites → EndsAt (first + length (concat pieces)) sites
+rights_from : (exports : List Export) (bases : Bases) (first : ℕ) (pieces : List (List ℕ)) (sites : List Site) → first % page_size ≡ 0 → All IsWhole pieces → All IsAligned sites →
+    EndsAt (first + length (concat pieces)) sites
     → right_from exports bases first pieces sites ≡ fields_right exports bases (behind first sites) (concat pieces)
 unfolding right_from fields_right
 rights_from exports bases first [] sites start whole aligned ends = rw (none_behind first sites (subst (λ (n : ℕ). EndsAt n sites) (omega arith) ends)) refl
 rights_from exports bases first (piece ∷ pieces) sites start whole aligned ends =
     let size : length piece % page_size ≡ 0 = All-head IsWhole piece pieces whole in
-    let rest = rights_from exports bases (first + length piece) pieces sites (omega arith) (All-tail IsWhole piece pieces whole) aligned (subst (λ (n : ℕ). EndsAt n sites) (next first piece pieces) ends) in
+    let rest = rights_from exports bases (first + length piece) pieces sites (omega arith) (All-tail IsWhole piece pieces whole) aligned
+    (subst (λ (n : ℕ). EndsAt n sites) (next first piece pieces) ends) in
     ap (λ (b : Bool). fields_right exports bases (piece_sites first (length piece) sites) piece && b) rest
     ∙ sym (right_parts exports bases first (length piece) piece (concat pieces) sites (record { start = start; whole = size; aligned = aligned }) refl)
 
 pub right_law : RightLaw
 right_law pieces sites exports bases cut =
-    rights_from exports bases 0 pieces sites refl cut.pages cut.aligned (subst (λ (n : ℕ). EndsAt n sites) (omega arith) cut.inside) ∙ ap (λ (l : List Site). fields_right exports bases l (concat pieces)) (all_after sites)
+    rights_from exports bases 0 pieces sites refl cut.pages cut.aligned (subst (λ (n : ℕ). EndsAt n sites) (omega arith) cut.inside) ∙
+    ap (λ (l : List Site). fields_right exports bases l (concat pieces)) (all_after sites)

@@ -7,7 +7,8 @@ use Rattle.std.proofs.lemmas.List.Elements.{All-head, All-tail}
 use Rattle.std.specs.List.{All, list_any}
 use Rattle.toml.specs.View.{items_of}
 use Rattle.spec_processor.specs.Regions.{max_ram_pages}
-use Rattle.sv_types.specs.Policies.{Rules, each_within, entry_within, bound_fits, all_bound, bound_within, numbers_within, lists_within, init_within, modules_count_within, modules_within, rules_within}
+use Rattle.sv_types.specs.Policies.{Rules, each_within, entry_within, bound_fits, all_bound, bound_within, numbers_within, lists_within}
+use Rattle.sv_types.specs.Policies.{init_within, modules_count_within, modules_within, rules_within}
 use Rattle.policy.specs.Bindings.{binding, bindings_of, entries_in, bound_in, is_bound, binding_of_two, binding_of, each_binding}
 use Rattle.policy.specs.declared.binding.Binding.{Binding}
 use Rattle.policy.specs.Printed.{binding_data}

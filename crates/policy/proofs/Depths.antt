@@ -10,7 +10,9 @@ use Rattle.sv_types.specs.declared.module.Site.{Site}
 use Rattle.sv_types.specs.declared.policy.Export.{Export}
 use Rattle.policy.specs.Bindings.{bindings_of}
 use Rattle.policy.specs.declared.binding.Binding.{Binding}
-use Rattle.policy.specs.Printed.{with_member, with_init, with_exports, with_modules, address_data, binding_data, export_data, span_data, site_data, module_data, kernel_data, rules_members, entries_data, exports_data, sites_data, modules_data, measure_data, number_data}
+use Rattle.policy.specs.Printed.{with_member, with_init, with_exports, with_modules, address_data, binding_data, export_data, span_data}
+use Rattle.policy.specs.Printed.{site_data, module_data, kernel_data, rules_members, entries_data, exports_data, sites_data, modules_data}
+use Rattle.policy.specs.Printed.{measure_data, number_data}
 
 depth_of_either : (o : Ordering) (a b c : Members) (n : ℕ) → members_depth a ≤ n → members_depth b ≤ n → members_depth c ≤ n → members_depth (match_ordering o a b c) ≤ n
 depth_of_either Less a b c n x y z = x

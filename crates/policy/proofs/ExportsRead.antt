@@ -27,7 +27,8 @@ is_exported-append name (x ∷ xs) e =
     [ true ↦ elim (bytes_eq e.name name) as (λ c. true ≡ (if c then true else true)) [ true ↦ refl | false ↦ refl ] | false ↦ refl ]
 
 -- the names with that of one export more
-pub names_more : (names more : BTreeSet (String Global)) (before : List Export) (e : Export) → HasNames names before → UpdatesBy string_cmp (λ k. slice_cmp nat_cmp e.name (string_bytes k)) names more true → HasNames more (before ++ e ∷ [])
+pub names_more : (names more : BTreeSet (String Global)) (before : List Export) (e : Export) → HasNames names before →
+    UpdatesBy string_cmp (λ k. slice_cmp nat_cmp e.name (string_bytes k)) names more true → HasNames more (before ++ e ∷ [])
 names_more names more before e has updates name =
     btree_set_updates_text e.name names more true updates name
     ∙ ap (λ (b : Bool). if bytes_eq e.name name then true else b) (has name)

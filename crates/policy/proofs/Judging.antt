@@ -29,12 +29,14 @@ refused_on (Err fault) f e is =
     let same : Fault fault ≡ e = cc is in ap (λ (x : PolicyRefusal). Err x) same
 
 -- a fault is why, where it's the answer
-pub refuses_fault : {A B : Type 0} (result : Result A PolicyRefusal) (judged : Judged B) (fault : PolicyFault) → IsErrAnd result (λ e. e ≡ Fault fault) → judged ≡ Err fault → IfErr result (Refuses judged)
+pub refuses_fault : {A B : Type 0} (result : Result A PolicyRefusal) (judged : Judged B) (fault : PolicyFault) → IsErrAnd result (λ e. e ≡ Fault fault) → judged ≡ Err fault →
+    IfErr result (Refuses judged)
 refuses_fault (Ok a) judged fault is bad = tt
 refuses_fault (Err e) judged fault is bad = λ _. ap as_answer bad ∙ ap (λ (x : PolicyRefusal). Err x) (sym is)
 
 -- why the first step refused is why the whole does, where its fault is the whole's
-answer_on : {B C : Type 0} (first : Judged B) (whole : Judged C) (e : PolicyRefusal) → as_answer first ≡ Err e → ((fault : PolicyFault) → first ≡ Err fault → whole ≡ Err fault) → as_answer whole ≡ Err e
+answer_on : {B C : Type 0} (first : Judged B) (whole : Judged C) (e : PolicyRefusal) → as_answer first ≡ Err e → ((fault : PolicyFault) → first ≡ Err fault → whole ≡ Err fault) →
+    as_answer whole ≡ Err e
 answer_on (Ok b) whole e answered on = absurd (cc answered)
 answer_on (Err fault) whole e answered on =
     let same : Fault fault ≡ e = cc answered in ap as_answer (on fault refl) ∙ ap (λ (x : PolicyRefusal). Err x) same

@@ -20,7 +20,8 @@ pub members_view_insert : (es : List Entry) (k : String Global) (v : Value) → 
 members_view_insert [] k v = refl
 members_view_insert (e ∷ es) k v =
     members_of_either (string_cmp k e.0) ((k, v) ∷ e ∷ es) ((e.0, v) ∷ es) (e ∷ insert_entry string_cmp es k v)
-    ∙ ap (λ (rest : Members). match_ordering (string_cmp k e.0) (members_view ((k, v) ∷ e ∷ es)) (members_view ((e.0, v) ∷ es)) (member (string_bytes e.0) (view e.1) rest)) (members_view_insert es k v)
+    ∙ ap (λ (rest : Members). match_ordering (string_cmp k e.0) (members_view ((k, v) ∷ e ∷ es)) (members_view ((e.0, v) ∷ es)) (member (string_bytes e.0) (view e.1) rest))
+    (members_view_insert es k v)
 
 -- ---- keys of lists
 

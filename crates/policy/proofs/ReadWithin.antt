@@ -4,14 +4,23 @@ use Rattle.std.proofs.lemmas.Bool.{and_parts}
 use Rattle.std.specs.Cmp.Derive.{both_true}
 use Rattle.toml.specs.Data.{Data, Items, no_items, item, Members, get_member}
 use Rattle.spec_processor.specs.Bytes.{ram_base}
-use Rattle.sv_types.specs.Policies.{Rules, ModuleRule, format_within, harts_within, ram_pages_within, entry_within, entries_count_within, entries_within, exports_count_within, export_within, exports_within, all_bound, bound_within, is_exported, span_within, init_within, place_within, is_aligned, base_within, anchor_within, is_after, next_site_within, sites_within, sites_count_within, sites_of, module_within, modules_within, modules_count_within, is_module, module_pages_within, rules_within}
+use Rattle.sv_types.specs.Policies.{Rules, ModuleRule, format_within, harts_within, ram_pages_within, entry_within, entries_count_within}
+use Rattle.sv_types.specs.Policies.{entries_within, exports_count_within, export_within, exports_within, all_bound, bound_within}
+use Rattle.sv_types.specs.Policies.{is_exported, span_within, init_within, place_within, is_aligned, base_within, anchor_within, is_after}
+use Rattle.sv_types.specs.Policies.{next_site_within, sites_within, sites_count_within, sites_of, module_within, modules_within}
+use Rattle.sv_types.specs.Policies.{modules_count_within, is_module, module_pages_within, rules_within}
 use Rattle.sv_types.specs.declared.module.Span.{Span}
 use Rattle.sv_types.specs.declared.module.Site.{Site}
 use Rattle.sv_types.specs.declared.relocation_kind.RelocationKind.{RelocationKind}
 use Rattle.sv_types.specs.declared.policy.Export.{Export}
 use Rattle.sv_types.specs.Steps.{◌>>=◌}
 use Rattle.policy.specs.Values.{required_member, integer_of, members_in, with_known, if_within_limit, number_of, natural_of, items_in, items_length, address_of, entry_of, name_of}
-use Rattle.policy.specs.Text.{kernel_of, key_name, key_pages, key_measure, key_harts, key_ram_pages, key_entries, known_keys, module_keys, module_pages_of, module_rule_of, format_number, format_of, each_entry, plain_entries, bound_entries, entries_by, entries_of, export_of_two, export_of, export_of_items, exports_of, unless_repeated, page_span, page_address_of, page_count_of, init_of_two, init_of_items, init_of, kernel_rule, fitting_kind, offset_of, kind_of, base_of, anchor_of, site_of_five, site_of_items, site_of, sites_in, module_of_members, module_of, modules_of, rules_after, rules_of_members}
+use Rattle.policy.specs.Text.{kernel_of, key_name, key_pages, key_measure, key_harts, key_ram_pages, key_entries, known_keys, module_keys}
+use Rattle.policy.specs.Text.{module_pages_of, module_rule_of, format_number, format_of, each_entry, plain_entries, bound_entries}
+use Rattle.policy.specs.Text.{entries_by, entries_of, export_of_two, export_of, export_of_items, exports_of, unless_repeated, page_span}
+use Rattle.policy.specs.Text.{page_address_of, page_count_of, init_of_two, init_of_items, init_of, kernel_rule, fitting_kind, offset_of}
+use Rattle.policy.specs.Text.{kind_of, base_of, anchor_of, site_of_five, site_of_items, site_of, sites_in, module_of_members, module_of}
+use Rattle.policy.specs.Text.{modules_of, rules_after, rules_of_members}
 use Rattle.policy.specs.Bindings.{each_binding, entries_in, bound_in}
 use Rattle.policy.proofs.ReadLists.{each_within_read, limited_read}
 use Rattle.policy.proofs.BindingsRead.{entry_read, bindings_read}

@@ -1,5 +1,6 @@
 -- A policy within its limits reads back from its printed table.
-use Rattle.std.proofs.Common.{◌≡◌, ℕ, ◌+◌, ◌*◌, ◌/◌, ◌%◌, ◌<◌, ◌≤◌, ◌-◌, nat_le, codes, pos, Bool, true, false, not, List, [], ◌∷◌, length, map, Option, Some, None, Ok, refl, sym, ◌∙◌, ap, arith, if◌then◌else◌, ◌==◌}
+use Rattle.std.proofs.Common.{◌≡◌, ℕ, ◌+◌, ◌*◌, ◌/◌, ◌%◌, ◌<◌, ◌≤◌, ◌-◌, nat_le, codes, pos, Bool, true, false, not, List, [], ◌∷◌, length}
+use Rattle.std.proofs.Common.{map, Option, Some, None, Ok, refl, sym, ◌∙◌, ap, arith, if◌then◌else◌, ◌==◌}
 use Rattle.std.proofs.lemmas.Bool.{and_parts, leb-true, le-leb, eqb-true, not-true}
 use Rattle.std.proofs.lemmas.List.{nil_from_length}
 use Rattle.std.proofs.lemmas.Bool.Decides.{nat_tests}
@@ -7,7 +8,12 @@ use Rattle.std.specs.List.{All}
 use Rattle.toml.specs.Data.{Items, Members, get_member}
 use Rattle.toml.specs.View.{items_of}
 use Rattle.spec_processor.specs.Bytes.{ram_base, page_size}
-use Rattle.sv_types.specs.Policies.{Rules, ModuleRule, each_within, entry_within, entries_count_within, exports_count_within, export_within, is_exported, span_within, init_within, next_site_within, site_within, place_within, is_aligned, base_within, anchor_within, is_after, sites_within, sites_count_within, sites_of, module_within, modules_within, modules_count_within, is_module, module_pages_within, format_within, harts_within, ram_pages_within, entries_within, exports_within, all_bound, bound_within, numbers_within, lists_within, rules_within}
+use Rattle.sv_types.specs.Policies.{Rules, ModuleRule, each_within, entry_within, entries_count_within, exports_count_within, export_within}
+use Rattle.sv_types.specs.Policies.{is_exported, span_within, init_within, next_site_within, site_within, place_within, is_aligned}
+use Rattle.sv_types.specs.Policies.{base_within, anchor_within, is_after, sites_within, sites_count_within, sites_of, module_within}
+use Rattle.sv_types.specs.Policies.{modules_within, modules_count_within, is_module, module_pages_within, format_within, harts_within}
+use Rattle.sv_types.specs.Policies.{ram_pages_within, entries_within, exports_within, all_bound, bound_within, numbers_within, lists_within}
+use Rattle.sv_types.specs.Policies.{rules_within}
 use Rattle.sv_types.specs.RelocationKinds as kinds
 use Rattle.spec_processor.specs.Regions.{max_ram_pages}
 use Rattle.sv_types.specs.declared.module.Span.{Span}
@@ -17,7 +23,9 @@ use Rattle.sv_types.specs.declared.relocation_kind.RelocationKind.{RelocationKin
 use Rattle.sv_types.specs.declared.relocation_kind.RelocationKind.TheVariants.{Word64, Branch, Jal, PcrelHi20, PcrelLo12I, PcrelLo12S, Hi20, Lo12I, Lo12S}
 use Rattle.policy.specs.Values.{if_within_limit, entry_of, items_length}
 use Rattle.policy.specs.Bindings.{bindings_of, entries_in, bound_in}
-use Rattle.policy.specs.Text.{format_number, plain_entries, bound_entries, entries_of, export_of_two, export_of, some_exports_of, span_at, init_of_two, init_of, kernel_rule, site_of_five, site_of, sites_in, module_of_members, module_of, some_modules_of, rules_after, rules_of_members, rules_of_text, table_of_text}
+use Rattle.policy.specs.Text.{format_number, plain_entries, bound_entries, entries_of, export_of_two, export_of, some_exports_of, span_at}
+use Rattle.policy.specs.Text.{init_of_two, init_of, kernel_rule, site_of_five, site_of, sites_in, module_of_members, module_of}
+use Rattle.policy.specs.Text.{some_modules_of, rules_after, rules_of_members, rules_of_text, table_of_text}
 use Rattle.policy.specs.Printed.{address_data, binding_data, entries_data, export_data, exports_data, span_data, site_data, sites_data, module_data, modules_data, kernel_data, rules_members}
 use Rattle.policy.specs.Ranges.{IsAddress, IsDigest, IsExport, IsModule, IsPolicy}
 use Rattle.policy.proofs.Judging.{then_ok, limited_true}

@@ -40,7 +40,8 @@ span_data span = array (items_of (address_data (ram_base + page_size * span.firs
 
 unfoldable pub site_data : Site → Data
 site_data site =
-    array (items_of (number_data site.offset ∷ number_data (kind_number site.kind) ∷ number_data site.base ∷ integer site.addend ∷ number_data site.anchor ∷ []))
+    array (items_of (number_data site.offset ∷ number_data (kind_number site.kind) ∷ number_data site.base ∷ integer site.addend ∷ number_data
+    site.anchor ∷ []))
 
 unfoldable pub binding_data : Binding → Data
 binding_data b = array (items_of (address_data b.va ∷ address_data b.gpa ∷ []))

@@ -1,13 +1,16 @@
 -- The text of a policy, over the table that it makes. The first refusal in this order is the answer: the text; its
 -- format; its unknown keys; its keys in order, where a table's unknown keys and a list's length are judged on entering.
 -- TOML 1.0; the keys are this project's own.
-use Rattle.std.specs.Prelude.{ℕ, ◌%◌, ℤ, pos, negsuc, Bool, true, false, ◌&&◌, ◌==◌, nat_le, List, [], ◌∷◌, length, codes, if◌then◌else◌, Option, Some, None, ok_or, Ok, Err}
+use Rattle.std.specs.Prelude.{ℕ, ◌%◌, ℤ, pos, negsuc, Bool, true, false, ◌&&◌, ◌==◌, nat_le, List, [], ◌∷◌, length, codes, if◌then◌else◌}
+use Rattle.std.specs.Prelude.{Option, Some, None, ok_or, Ok, Err}
 use Rattle.std.specs.Str.{is_utf8}
 use Rattle.toml.specs.Data.{Data, Items, no_items, item, Members, get_member}
 use Rattle.toml.specs.Parse.{parse_document}
 use Rattle.spec_processor.specs.Bytes.{page_size, ram_base, page_of}
 use Rattle.sv_types.specs.Limits.{plain_format}
-use Rattle.sv_types.specs.Policies.{Rules, ModuleRule, format_within, harts_within, ram_pages_within, entries_count_within, exports_count_within, modules_count_within, module_pages_within, sites_count_within, is_exported, span_within, place_within, is_aligned, base_within, anchor_within, is_after, is_module, sites_of}
+use Rattle.sv_types.specs.Policies.{Rules, ModuleRule, format_within, harts_within, ram_pages_within, entries_count_within}
+use Rattle.sv_types.specs.Policies.{exports_count_within, modules_count_within, module_pages_within, sites_count_within, is_exported}
+use Rattle.sv_types.specs.Policies.{span_within, place_within, is_aligned, base_within, anchor_within, is_after, is_module, sites_of}
 use Rattle.sv_types.specs.RelocationKinds as kinds
 use Rattle.sv_types.specs.declared.module.Span.{Span}
 use Rattle.sv_types.specs.declared.module.Site.{Site}
@@ -15,7 +18,8 @@ use Rattle.sv_types.specs.declared.policy.Export.{Export}
 use Rattle.sv_types.specs.declared.relocation_kind.RelocationKind.{RelocationKind}
 use Rattle.sv_types.specs.Steps.{◌>>=◌}
 use Rattle.policy.specs.Refusals.{Judged}
-use Rattle.policy.specs.Values.{required_member, integer_of, natural_of, members_in, items_in, if_within_limit, number_of, name_of, address_of, entry_of, measure_of, with_known, items_length, each_item}
+use Rattle.policy.specs.Values.{required_member, integer_of, natural_of, members_in, items_in, if_within_limit, number_of, name_of}
+use Rattle.policy.specs.Values.{address_of, entry_of, measure_of, with_known, items_length, each_item}
 use Rattle.policy.specs.Bindings.{each_binding, entries_in, bound_in}
 use Rattle.policy_limits.specs.declared.policy_fault.PolicyFault.{PolicyFault}
 
@@ -237,7 +241,17 @@ rules_after format harts ram_pages entries known = do
   exports ← exports_of (get_member (codes "exports") known)
   kernel ← kernel_rule ram_pages known
   modules ← modules_of (length exports) (get_member (codes "module") known)
-  Ok (record { format = format; harts = harts; ram_pages = ram_pages; entries = entries.0; bound = entries.1; exports = exports; kernel = kernel.0; init = kernel.1; modules = modules })
+  Ok (record {
+    format = format;
+    harts = harts;
+    ram_pages = ram_pages;
+    entries = entries.0;
+    bound = entries.1;
+    exports = exports;
+    kernel = kernel.0;
+    init = kernel.1;
+    modules = modules;
+  })
 
 unfoldable pub rules_of_members : Members → Judged Rules
 rules_of_members members = do

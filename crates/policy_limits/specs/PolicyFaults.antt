@@ -1,7 +1,9 @@
 -- The numbers of a policy's faults in the line that refuses it. This project's own.
 use Rattle.std.specs.Prelude.{ℕ}
 use Rattle.policy_limits.specs.declared.policy_fault.PolicyFault.{PolicyFault}
-use Rattle.policy_limits.specs.declared.policy_fault.PolicyFault.TheVariants.{NotToml, MissingKey, UnknownKey, WrongKind, BadHexadecimal, BeyondLimit, RepeatedName, OtherFormat, NotAscending, RepeatedEntry}
+use Rattle.policy_limits.specs.declared.policy_fault.PolicyFault.TheVariants.{NotToml, MissingKey, UnknownKey, WrongKind, BadHexadecimal}
+use Rattle.policy_limits.specs.declared.policy_fault.PolicyFault.TheVariants.{BeyondLimit, RepeatedName, OtherFormat, NotAscending}
+use Rattle.policy_limits.specs.declared.policy_fault.PolicyFault.TheVariants.{RepeatedEntry}
 
 abbrev pub policy_fault_number : PolicyFault → ℕ
 policy_fault_number NotToml = 1

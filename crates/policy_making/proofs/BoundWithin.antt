@@ -9,7 +9,9 @@ use Rattle.std.specs.Cmp.Derive.{both_true}
 use Rattle.spec_processor.specs.Regions.{max_ram_pages}
 use Rattle.sv_types.specs.Kernel.{LoadedSegment, kernel_refusal, kernel_segments, text_of}
 use Rattle.sv_types.specs.Measure.{measure}
-use Rattle.sv_types.specs.Policies.{Rules, all_bound, bound_within, each_within, entries_count_within, entries_within, exports_count_within, exports_within, format_within, harts_within, init_within, lists_within, modules_count_within, modules_within, numbers_within, ram_pages_within, rules_within}
+use Rattle.sv_types.specs.Policies.{Rules, all_bound, bound_within, each_within, entries_count_within, entries_within, exports_count_within}
+use Rattle.sv_types.specs.Policies.{exports_within, format_within, harts_within, init_within, lists_within, modules_count_within}
+use Rattle.sv_types.specs.Policies.{modules_within, numbers_within, ram_pages_within, rules_within}
 use Rattle.sv_types.specs.Steps.{◌>>=◌}
 use Rattle.elf64_load.specs.Judged.{each}
 use Rattle.policy_making.specs.Binding.{bound_place, bound_places, bound_rules, each_once, entries_bound, measured_bound, with_places}
@@ -145,7 +147,9 @@ limits r within =
 
 all_limits : (r : Rules) → format_within r.format ≡ true → HasLimits r → bound_within r ≡ true → rules_within r ≡ true
 all_limits r format has bound =
-    both_true (both_true (both_true (both_true (both_true (both_true format has.harts) has.ram) (both_true (both_true (both_true (both_true has.count has.entries) has.few_exports) has.exports) bound)) has.init) has.few_modules) has.modules
+    both_true (both_true
+    (both_true (both_true (both_true (both_true format has.harts) has.ram) (both_true (both_true (both_true (both_true has.count has.entries) has.few_exports) has.exports)
+    bound)) has.init) has.few_modules) has.modules
 
 count_of : (n most : ℕ) → entries_count_within most ≡ true → 1 ≤ n → n ≤ most → entries_count_within n ≡ true
 count_of n most within some few = grind (arith, nat_tests)

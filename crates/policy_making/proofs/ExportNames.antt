@@ -62,7 +62,8 @@ judged_names : (file : List ℕ) (names : List (List ℕ)) (found : List Export)
 unfolding images.exports_judged
 judged_names file names found e = names_judged (first_refusal (file_checks 2 file)) file names found e
 
-passed : (file : List ℕ) (names : List (List ℕ)) (judged : refusals.Judged (List Export)) (found : List Export) → images.exports_judged file names ≡ judged → in_image judged ≡ Ok found → names_of found ≡ names
+passed : (file : List ℕ) (names : List (List ℕ)) (judged : refusals.Judged (List Export)) (found : List Export) → images.exports_judged file names ≡ judged → in_image judged ≡
+    Ok found → names_of found ≡ names
 passed file names (Ok exports) found e same =
     let is : exports ≡ found = cc same in
     judged_names file names found (e ∙ ap (λ (l : List Export). Ok l) is)

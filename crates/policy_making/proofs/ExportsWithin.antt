@@ -10,7 +10,9 @@ use Rattle.std.specs.Str.{bytes_eq}
 use Rattle.std.proofs.lemmas.Bool.{and_parts, and_from}
 use Rattle.std.proofs.lemmas.Bool.Decides.{nat_tests}
 use Rattle.std.proofs.lemmas.Map.Text.{is_eq-slice_cmp}
-use Rattle.sv_types.specs.Policies.{Rules, ModuleRule, rules_within, numbers_within, lists_within, bound_within, init_within, modules_count_within, modules_within, exports_within, export_within, exports_count_within, is_exported, each_within, harts_within, ram_pages_within, entries_count_within, entries_within}
+use Rattle.sv_types.specs.Policies.{Rules, ModuleRule, rules_within, numbers_within, lists_within, bound_within, init_within}
+use Rattle.sv_types.specs.Policies.{modules_count_within, modules_within, exports_within, export_within, exports_count_within, is_exported}
+use Rattle.sv_types.specs.Policies.{each_within, harts_within, ram_pages_within, entries_count_within, entries_within}
 use Rattle.sv_types.specs.declared.policy.Export.{Export}
 use Rattle.policy_making.specs.Making.{Terms, each_once, exports_wanted, rules_with}
 use Rattle.policy_making.specs.Ranges.{terms_within}
@@ -71,7 +73,9 @@ limits_of_modules s digest kernel names exports modules good is few =
     let numbers : numbers_within rules ≡ true = and_from (harts_within s.harts) (ram_pages_within s.ram_pages) d.0 d.1 in
     let counted = and_from (entries_count_within (length s.entries)) (entries_within s.entries) c.1 b.1 in
     let entries = and_from (entries_count_within (length s.entries) && entries_within s.entries) (exports_count_within (length exports)) counted (few_wanted kernel names exports is) in
-    let each = and_from (entries_count_within (length s.entries) && entries_within s.entries && exports_count_within (length exports)) (exports_within exports) entries (wanted_within kernel names exports is) in
-    let lists : lists_within rules ≡ true = and_from (entries_count_within (length s.entries) && entries_within s.entries && exports_count_within (length exports) && exports_within exports) (bound_within rules) each refl in
+    let each = and_from (entries_count_within (length s.entries) && entries_within s.entries && exports_count_within (length exports)) (exports_within exports) entries
+    (wanted_within kernel names exports is) in
+    let lists : lists_within rules ≡
+    true = and_from (entries_count_within (length s.entries) && entries_within s.entries && exports_count_within (length exports) && exports_within exports) (bound_within rules) each refl in
     let count : modules_count_within (length modules) ≡ true = grind (arith, nat_tests) in
     all_but (numbers_within rules) (lists_within rules) (init_within s.ram_pages s.init) (modules_count_within (length modules)) (modules_within (length exports) modules) numbers lists a.1 count

@@ -15,7 +15,8 @@ use Rattle.elf64_load.specs.Refusals as refusals
 use Rattle.policy_making.specs.Making.{exports_for}
 use Rattle.policy_making.specs.Refusals.{in_image}
 
-few : (b : Bool) (exports found : List Export) → nat_lt max_exports (length exports) ≡ b → ◌≡◌ {A = refusals.Judged (List Export)} (if b then Err ImageFault.TooManyNames else Ok exports) (Ok found) → length found ≤ max_exports
+few : (b : Bool) (exports found : List Export) → nat_lt max_exports (length exports) ≡ b →
+    ◌≡◌ {A = refusals.Judged (List Export)} (if b then Err ImageFault.TooManyNames else Ok exports) (Ok found) → length found ≤ max_exports
 few true exports found e same = absurd (cc same)
 few false exports found e same =
     let is : exports ≡ found = cc same in
@@ -38,7 +39,8 @@ judged_few : (file : List ℕ) (names : List (List ℕ)) (found : List Export) �
 unfolding images.exports_judged
 judged_few file names found e = few_judged (first_refusal (file_checks 2 file)) file names found e
 
-passed : (file : List ℕ) (names : List (List ℕ)) (judged : refusals.Judged (List Export)) (found : List Export) → images.exports_judged file names ≡ judged → in_image judged ≡ Ok found → length found ≤ max_exports
+passed : (file : List ℕ) (names : List (List ℕ)) (judged : refusals.Judged (List Export)) (found : List Export) → images.exports_judged file names ≡ judged → in_image judged ≡
+    Ok found → length found ≤ max_exports
 passed file names (Ok exports) found e same =
     let is : exports ≡ found = cc same in
     judged_few file names found (e ∙ ap (λ (l : List Export). Ok l) is)

@@ -68,7 +68,8 @@ one_more exports names before o rule made one = record {
 
 all_by : (exports : List Export) (names : List (List ℕ)) (before rules : List ModuleRule) (o : ModuleFile) (objects : List ModuleFile) (judged : Judged ModuleRule) → module_made exports o ≡ judged
     → (judged >>= λ rule. each (module_made exports) (before ++ rule ∷ []) objects) ≡ Ok rules → IsShort o → AreMade (length exports) names before
-    → ((now : List ModuleRule) → each (module_made exports) now objects ≡ Ok rules → AreMade (length exports) (names ++ o.name ∷ []) now → AreMade (length exports) ((names ++ o.name ∷ []) ++ file_names objects) rules)
+    → ((now : List ModuleRule) → each (module_made exports) now objects ≡ Ok rules → AreMade (length exports) (names ++ o.name ∷ []) now →
+    AreMade (length exports) ((names ++ o.name ∷ []) ++ file_names objects) rules)
     → AreMade (length exports) (names ++ (o.name ∷ file_names objects)) rules
 all_by exports names before rules o objects (Ok rule) is e short made rest =
     subst (λ (ns : List (List ℕ)). AreMade (length exports) ns rules) (append_assoc names (o.name ∷ []) (file_names objects))
@@ -118,14 +119,16 @@ modules_limited s digest kernel names objects exports modules good named wanted 
     limits_of_modules s digest kernel names exports modules good wanted count
     ∙ modules_are_within (length exports) modules (new_from [] modules parts.1) made.within (few_together modules few)
 
-by_sites : (s : Terms) (digest kernel : List ℕ) (names : List (List ℕ)) (objects : List ModuleFile) (exports : List Export) (modules : List ModuleRule) (rules : Rules) (few : Bool) → few_sites modules ≡ few
+by_sites : (s : Terms) (digest kernel : List ℕ) (names : List (List ℕ)) (objects : List ModuleFile) (exports : List Export) (modules : List ModuleRule) (rules : Rules)
+    (few : Bool) → few_sites modules ≡ few
     → (if few then Ok (rules_with s digest exports modules) else Err TooManySites) ≡ Ok rules → terms_within s ≡ true → are_module_names (file_names objects) ≡ true
     → exports_wanted kernel names ≡ Ok exports → AreMade (length exports) (file_names objects) modules → rules_within rules ≡ true
 by_sites s digest kernel names objects exports modules rules true few e good named wanted made =
     subst (λ (r : Rules). rules_within r ≡ true) (ok_same (rules_with s digest exports modules) rules e) (modules_limited s digest kernel names objects exports modules good named wanted made few)
 by_sites s digest kernel names objects exports modules rules false few e good named wanted made = absurd (cc e)
 
-by_modules : (s : Terms) (digest kernel : List ℕ) (names : List (List ℕ)) (objects : List ModuleFile) (exports : List Export) (rules : Rules) (judged : Judged (List ModuleRule)) → modules_made exports objects ≡ judged
+by_modules : (s : Terms) (digest kernel : List ℕ) (names : List (List ℕ)) (objects : List ModuleFile) (exports : List Export) (rules : Rules) (judged : Judged (List ModuleRule)) →
+    modules_made exports objects ≡ judged
     → (judged >>= λ modules. if_few_sites (rules_with s digest exports modules)) ≡ Ok rules → terms_within s ≡ true → are_module_names (file_names objects) ≡ true → All IsShort objects
     → exports_wanted kernel names ≡ Ok exports → rules_within rules ≡ true
 by_modules s digest kernel names objects exports rules (Ok modules) is e good named short wanted =
@@ -149,9 +152,11 @@ files_short : (objects : List ObjectFile) → All IsShort (map file_of objects)
 files_short [] = All-nil IsShort
 files_short (o ∷ objects) = All-cons IsShort (file_of o) (map file_of objects) o.short (files_short objects)
 
-pub made_within : (s : Terms) (digest kernel : List ℕ) (names : List (List ℕ)) (objects : List ObjectFile) (exports : List Export) (modules : List ModuleRule) → exports_wanted kernel names ≡ Ok exports
+pub made_within : (s : Terms) (digest kernel : List ℕ) (names : List (List ℕ)) (objects : List ObjectFile) (exports : List Export) (modules : List ModuleRule) →
+    exports_wanted kernel names ≡ Ok exports
     → modules_made exports (map file_of objects) ≡ Ok modules → (result : Result Policy MakingRefusal) → IfOk result (λ made. if_few_sites (rules_with s digest exports modules) ≡ Ok (rules_of made))
     → terms_within s ≡ true → are_module_names (file_names (map file_of objects)) ≡ true → IfOk result (λ made. rules_within (rules_of made) ≡ true)
 made_within s digest kernel names objects exports modules wanted is (Ok made) e good named =
-    by_sites s digest kernel names (map file_of objects) exports modules (rules_of made) (few_sites modules) refl e good named wanted (all_made exports (map file_of objects) modules is (files_short objects))
+    by_sites s digest kernel names (map file_of objects) exports modules (rules_of made) (few_sites modules) refl e good named wanted
+    (all_made exports (map file_of objects) modules is (files_short objects))
 made_within s digest kernel names objects exports modules wanted is (Err refusal) e good named = tt

@@ -1,5 +1,6 @@
 -- Texts are whole pages.
-use Rattle.std.proofs.Common.{◌≡◌, ℕ, ◌+◌, ◌-◌, ◌*◌, ◌%◌, ◌≤◌, Bool, true, false, List, [], ◌∷◌, length, take, drop, replicate, Ok, Err, Some, None, Option, refl, ap, sym, subst, ◌∙◌, arith, length-append, length-take}
+use Rattle.std.proofs.Common.{◌≡◌, ℕ, ◌+◌, ◌-◌, ◌*◌, ◌%◌, ◌≤◌, Bool, true, false, List, [], ◌∷◌, length, take, drop, replicate, Ok, Err}
+use Rattle.std.proofs.Common.{Some, None, Option, refl, ap, sym, subst, ◌∙◌, arith, length-append, length-take}
 use Rattle.sv_types.proofs.InPages.{IsWhole}
 use Rattle.std.specs.Prelude.{flat_map, find, ◌==◌, if◌then◌else◌}
 use Rattle.std.specs.List.{list_all}

@@ -17,7 +17,8 @@ name_text (Some location) = location_text location
 -- who wrote, how often, and when first
 unfoldable pub write_head : Finding → List ℕ
 write_head f =
-    codes "write pc " ++ (address_text f.key ++ (codes " times " ++ (decimal f.times ++ (codes " hart " ++ (decimal f.hart ++ (codes " turn " ++ decimal f.turn))))))
+    codes "write pc " ++
+    (address_text f.key ++ (codes " times " ++ (decimal f.times ++ (codes " hart " ++ (decimal f.hart ++ (codes " turn " ++ decimal f.turn))))))
 
 -- and where
 unfoldable pub write_range : Finding → List ℕ
@@ -56,7 +57,8 @@ unfoldable pub fetch_lines : KernelNames → List Finding → List ℕ
 fetch_lines names findings = flat_map (fetch_line names) findings
 
 unfoldable pub load_line : Finding → List ℕ
-load_line f = codes "load id " ++ (decimal f.key ++ (codes " times " ++ (decimal f.times ++ (codes " hart " ++ (decimal f.hart ++ (codes " turn " ++ (decimal f.turn ++ line_end)))))))
+load_line f = codes "load id " ++
+    (decimal f.key ++ (codes " times " ++ (decimal f.times ++ (codes " hart " ++ (decimal f.hart ++ (codes " turn " ++ (decimal f.turn ++ line_end)))))))
 
 unfoldable pub load_lines : List Finding → List ℕ
 load_lines findings = flat_map load_line findings

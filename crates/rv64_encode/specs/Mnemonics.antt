@@ -13,7 +13,8 @@ use Rattle.spec_processor.specs.declared.instruction.OpImmOp.TheVariants.{Addi, 
 use Rattle.spec_processor.specs.declared.instruction.OpImm32Op.{OpImm32Op}
 use Rattle.spec_processor.specs.declared.instruction.OpImm32Op.TheVariants.{Addiw, Slliw, Srliw, Sraiw}
 use Rattle.spec_processor.specs.declared.instruction.OpOp.{OpOp}
-use Rattle.spec_processor.specs.declared.instruction.OpOp.TheVariants.{Add, Sll, Slt, Sltu, Xor, Srl, Or, And, Sub, Sra, Mul, Mulh, Mulhsu, Mulhu, Div, Divu, Rem, Remu}
+use Rattle.spec_processor.specs.declared.instruction.OpOp.TheVariants.{Add, Sll, Slt, Sltu, Xor, Srl, Or, And, Sub, Sra, Mul, Mulh, Mulhsu}
+use Rattle.spec_processor.specs.declared.instruction.OpOp.TheVariants.{Mulhu, Div, Divu, Rem, Remu}
 use Rattle.spec_processor.specs.declared.instruction.Op32Op.{Op32Op}
 use Rattle.spec_processor.specs.declared.instruction.Op32Op.TheVariants.{Addw, Sllw, Srlw, Subw, Sraw, Mulw, Divw, Divuw, Remw, Remuw}
 use Rattle.spec_processor.specs.declared.instruction.CsrOp.{CsrOp}
@@ -21,7 +22,8 @@ use Rattle.spec_processor.specs.declared.instruction.CsrOp.TheVariants.{Csrrw, C
 use Rattle.spec_processor.specs.declared.instruction.AmoOp.{AmoOp}
 use Rattle.spec_processor.specs.declared.instruction.AmoOp.TheVariants.{Amoswap, Amoadd, Amoxor, Amoand, Amoor, Amomin, Amomax, Amominu, Amomaxu}
 use Rattle.spec_processor.specs.declared.instruction.HyperOp.{HyperOp}
-use Rattle.spec_processor.specs.declared.instruction.HyperOp.TheVariants.{HlvB, HlvBu, HlvH, HlvHu, HlvxHu, HlvW, HlvWu, HlvxWu, HlvD, HsvB, HsvH, HsvW, HsvD, HfenceVvma, HfenceGvma}
+use Rattle.spec_processor.specs.declared.instruction.HyperOp.TheVariants.{HlvB, HlvBu, HlvH, HlvHu, HlvxHu, HlvW, HlvWu, HlvxWu, HlvD, HsvB}
+use Rattle.spec_processor.specs.declared.instruction.HyperOp.TheVariants.{HsvH, HsvW, HsvD, HfenceVvma, HfenceGvma}
 use Rattle.spec_processor.specs.declared.csr.Csr.{Csr}
 
 -- ---- mnemonics

@@ -10,11 +10,13 @@ use Rattle.spec_processor.specs.declared.csr.Csr.{Csr}
 use Rattle.spec_processor.specs.declared.instruction.CsrOp.{CsrOp}
 use Rattle.spec_processor.specs.declared.instruction.CsrOp.TheVariants.{Csrrw, Csrrs, Csrrc, Csrrwi, Csrrsi, Csrrci}
 use Rattle.spec_processor.specs.declared.instruction.HyperOp.{HyperOp}
-use Rattle.spec_processor.specs.declared.instruction.HyperOp.TheVariants.{HlvB, HlvBu, HlvH, HlvHu, HlvxHu, HlvW, HlvWu, HlvxWu, HlvD, HsvB, HsvH, HsvW, HsvD, HfenceVvma, HfenceGvma}
+use Rattle.spec_processor.specs.declared.instruction.HyperOp.TheVariants.{HlvB, HlvBu, HlvH, HlvHu, HlvxHu, HlvW, HlvWu, HlvxWu, HlvD, HsvB}
+use Rattle.spec_processor.specs.declared.instruction.HyperOp.TheVariants.{HsvH, HsvW, HsvD, HfenceVvma, HfenceGvma}
 use Rattle.spec_processor.specs.declared.instruction.Instr.{Instr}
 use Rattle.spec_processor.specs.declared.instruction.OpImmOp.{OpImmOp}
 use Rattle.spec_processor.specs.declared.instruction.OpImm32Op.{OpImm32Op}
-use Rattle.rv64_encode.specs.Mnemonics.{branch_name, load_name, store_name, op_imm_name, op_imm_32_name, op_name, op_32_name, csr_op_name, csr_name, amo_name, hyper_name, width_suffix, order_suffix, register_name}
+use Rattle.rv64_encode.specs.Mnemonics.{branch_name, load_name, store_name, op_imm_name, op_imm_32_name, op_name, op_32_name, csr_op_name}
+use Rattle.rv64_encode.specs.Mnemonics.{csr_name, amo_name, hyper_name, width_suffix, order_suffix, register_name}
 
 -- ---- operands
 

@@ -1,5 +1,6 @@
 -- Runs of events are first in their schedules.
-use Rattle.std.proofs.Common.{◌≡◌, ℕ, zero, suc, ◌+◌, ◌-◌, ◌%◌, ◌==◌, ◌<◌, ◌≤◌, List, ◌∷◌, ◌++◌, length, replicate, drop, get_or, refl, sym, ◌∙◌, ap, subst, Bool, false, if◌then◌else◌, Option, Some, None, arith, append_assoc, add-one}
+use Rattle.std.proofs.Common.{◌≡◌, ℕ, zero, suc, ◌+◌, ◌-◌, ◌%◌, ◌==◌, ◌<◌, ◌≤◌, List, ◌∷◌, ◌++◌, length, replicate, drop, get_or, refl, sym}
+use Rattle.std.proofs.Common.{◌∙◌, ap, subst, Bool, false, if◌then◌else◌, Option, Some, None, arith, append_assoc, add-one}
 use Rattle.std.specs.Prelude.{IfSome}
 use Rattle.std.proofs.lemmas.Bool.Decides.{nat_tests}
 use Rattle.std.proofs.lemmas.List.{replicate-append-replicate}

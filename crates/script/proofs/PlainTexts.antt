@@ -1,5 +1,6 @@
 -- Texts without lines `auto N` say what they said without these.
-use Rattle.std.proofs.Common.{◌≡◌, ℕ, ◌+◌, Bool, true, false, not, ◌==◌, cond, if◌then◌else◌, List, [], ◌∷◌, ◌++◌, map, flat_map, Option, Some, None, is_none, option_map, unwrap_or, codes, refl, sym, ◌∙◌, ap, subst}
+use Rattle.std.proofs.Common.{◌≡◌, ℕ, ◌+◌, Bool, true, false, not, ◌==◌, cond, if◌then◌else◌, List, [], ◌∷◌, ◌++◌, map, flat_map, Option}
+use Rattle.std.proofs.Common.{Some, None, is_none, option_map, unwrap_or, codes, refl, sym, ◌∙◌, ap, subst}
 use Rattle.std.specs.List.{list_all, position_from}
 use Rattle.std.specs.Str.{bytes_eq}
 use Rattle.std.proofs.lemmas.List.{map-append}
@@ -10,7 +11,8 @@ use Rattle.sv_types.specs.declared.event.Event.{Event}
 use Rattle.sv_types.specs.Schedule.{Schedule, Auto, lines, fields, fields_events, line_events, events_of_line, two_fields_events, repeats, script_events, is_of_no_form, first_of_no_form}
 use Rattle.script.specs.declared.said.Said.{Said}
 use Rattle.script.specs.declared.said.Said.TheVariants.{This}
-use Rattle.script.specs.AutoScripts.{all_said, drawn_times, two_fields_said, fields_said, line_said, said_of_line, text_said, is_refused, first_refused, events_drawn, events_of_text, is_auto, has_no_autos}
+use Rattle.script.specs.AutoScripts.{all_said, drawn_times, two_fields_said, fields_said, line_said, said_of_line, text_said, is_refused}
+use Rattle.script.specs.AutoScripts.{first_refused, events_drawn, events_of_text, is_auto, has_no_autos}
 
 -- ---- a line
 

@@ -1,6 +1,7 @@
 -- What the text of a script says: events, and lines `auto N`, each of which is the next N events of `auto(0, harts)`, counted on
 -- through the whole text.
-use Rattle.std.specs.Prelude.{ℕ, Bool, false, not, List, [], ◌∷◌, replicate, map, flat_map, ◌==◌, if◌then◌else◌, Option, Some, is_none, unwrap_or, option_map, codes}
+use Rattle.std.specs.Prelude.{ℕ, Bool, false, not, List, [], ◌∷◌, replicate, map, flat_map, ◌==◌, if◌then◌else◌, Option, Some, is_none}
+use Rattle.std.specs.Prelude.{unwrap_or, option_map, codes}
 use Rattle.std.specs.List.{list_all, position_from}
 use Rattle.std.specs.Str.{bytes_eq}
 use Rattle.sv_types.specs.declared.event.Event.{Event}

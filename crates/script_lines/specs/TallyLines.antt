@@ -55,7 +55,8 @@ stop_lines stops = flat_map stop_line (take max_stop_lines stops)
 
 unfoldable pub sweep_text : List (Outcome × Tally) → List ℕ
 sweep_text entries =
-    shut_down_line (tally_in ShutDown entries) ++ (count_line (length (stops_of entries)) ++ (stop_lines (stops_of entries) ++ ended_line (tally_in Ended entries)))
+    shut_down_line (tally_in ShutDown entries) ++
+    (count_line (length (stops_of entries)) ++ (stop_lines (stops_of entries) ++ ended_line (tally_in Ended entries)))
 
 -- ---- the status
 

@@ -20,7 +20,9 @@ use Rattle.cli_plans.specs.declared.file_fault.FileFault.{FileFault}
 use Rattle.secvisor_cli.specs.Answers.{Headline, Meets, MeetsReached, Outside, outside}
 use Rattle.cli_plans.specs.CommandLine.{Convert}
 use Rattle.secvisor_cli.specs.Converted.{Holds, IsBoundOf, IsConverted}
-use Rattle.cli_plans.specs.Plans.{Due, Refuse, Plan, End, Read, Judge, Found, Faulty, Missing, Longer, Held, binding_plan, binding_refusal, bound_plan, command_plan, convert_plan, due_of_convert, converted_judged, found_plan, kernel_part, part_judged, plan_of, policy_judged, policy_part, status_due}
+use Rattle.cli_plans.specs.Plans.{Due, Refuse, Plan, End, Read, Judge, Found, Faulty, Missing, Longer, Held, binding_plan, binding_refusal}
+use Rattle.cli_plans.specs.Plans.{bound_plan, command_plan, convert_plan, due_of_convert, converted_judged, found_plan, kernel_part}
+use Rattle.cli_plans.specs.Plans.{part_judged, plan_of, policy_judged, policy_part, status_due}
 use Rattle.cli_plans.specs.Reading.{Follows, FoundAs}
 
 -- this holds of what is due at each end of a plan that these files are asked by, where that is done

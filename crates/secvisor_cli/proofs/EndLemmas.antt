@@ -92,7 +92,8 @@ broke_reaches wanting first start events m old new never is_new b = record {
 -- ---- a whole run
 
 pub ran_reaches : (first : Machine) (start : State) (events : List Event) (m : Machine) (old mid new : SinkState) (result : Result Status Trouble) → IsNew first start →
-    HasRun first start events m old mid → length m.journal.printed < max_printed → IsFalse (flush_is_due m.journal.printed) → TookPrefix mid new (machine_output m) → (IsErrOf result Memory → new ≡ mid) →
+    HasRun first start events m old mid → length m.journal.printed < max_printed → IsFalse (flush_is_due m.journal.printed) → TookPrefix mid new (machine_output m) →
+    (IsErrOf result Memory → new ≡ mid) →
     RunsTo (IsErrOf result Memory) start events m old new
 ran_reaches first start events m old mid new result is_new ran room undue prefix quiet = record {
   done = events;

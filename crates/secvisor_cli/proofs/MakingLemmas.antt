@@ -19,7 +19,9 @@ use Rattle.secvisor_cli.specs.declared.ready.Made.{Made}
 use Rattle.secvisor_cli.specs.declared.ready.Stop.{Stop}
 use Rattle.secvisor_cli.specs.declared.ready.Stop.TheVariants.{Memory}
 use Rattle.cli_plans.specs.CommandLine.{PolicyWords}
-use Rattle.cli_plans.specs.Plans.{Due, Refuse, due_of_measure, measured_line, Plan, End, Judge, Held, max_image_bytes, max_object_bytes, making_fault, made_judged, made_part, Kernel, digest_part, Modules, with_module, module_part, modules_part, making_plan}
+use Rattle.cli_plans.specs.Plans.{Due, Refuse, due_of_measure, measured_line, Plan, End, Judge, Held, max_image_bytes, max_object_bytes}
+use Rattle.cli_plans.specs.Plans.{making_fault, made_judged, made_part, Kernel, digest_part, Modules, with_module, module_part}
+use Rattle.cli_plans.specs.Plans.{modules_part, making_plan}
 use Rattle.cli_plans.specs.Reading.{FoundAs, Follows, MayFollow}
 use Rattle.secvisor_cli.specs.Ready.{PartRead, stop_of_making, IsMade, Prepares, Passes, MayStage}
 use Rattle.secvisor_cli.proofs.ReadyLemmas.{end_ready, judge_ready, judge_wants, read_ready, stopped_ready}

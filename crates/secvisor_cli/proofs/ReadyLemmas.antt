@@ -1,5 +1,6 @@
 -- What is made ready, by the plan's shape.
-use Rattle.std.proofs.Common.{◌≡◌, ◌≢◌, ◌+◌, ◌%◌, ℕ, suc, List, ◌∷◌, ◌++◌, map, length, append_assoc, [], true, false, refl, sym, ◌∙◌, ap, subst, arith, rules, inl, inr, Some, None, Result, Ok, Err, IsErrAnd, if◌then◌else◌}
+use Rattle.std.proofs.Common.{◌≡◌, ◌≢◌, ◌+◌, ◌%◌, ℕ, suc, List, ◌∷◌, ◌++◌, map, length, append_assoc, [], true, false, refl, sym, ◌∙◌, ap}
+use Rattle.std.proofs.Common.{subst, arith, rules, inl, inr, Some, None, Result, Ok, Err, IsErrAnd, if◌then◌else◌}
 use Rattle.std.specs.Option.{option_copied}
 use Rattle.std.specs.Str.{bytes_eq}
 use Rattle.std.proofs.lemmas.List.{append-nil}
@@ -31,7 +32,8 @@ use Rattle.secvisor_cli.specs.declared.ready.Ready.{Ready}
 use Rattle.secvisor_cli.specs.declared.ready.Ready.TheVariants.{Run}
 use Rattle.secvisor_cli.specs.declared.ready.Stop.{Stop}
 use Rattle.secvisor_cli.specs.declared.ready.Stop.TheVariants.{Refused, Memory}
-use Rattle.cli_plans.specs.Plans.{Due, Refuse, RunFrom, Plan, End, Judge, Found, Faulty, Missing, Longer, Held, found_plan, read_part, measure_judged, pages_judged, is_whole_pages, gen_disk, gen_due, start_with}
+use Rattle.cli_plans.specs.Plans.{Due, Refuse, RunFrom, Plan, End, Judge, Found, Faulty, Missing, Longer, Held, found_plan, read_part}
+use Rattle.cli_plans.specs.Plans.{measure_judged, pages_judged, is_whole_pages, gen_disk, gen_due, start_with}
 use Rattle.cli_plans.specs.Reading.{FoundAs}
 use Rattle.machine.proofs.Standing.{printed_few}
 use Rattle.machine.proofs.Repeated.{counts_are, none_counted}

@@ -110,7 +110,8 @@ saved_err (Some s) old new status Write it = inr (it, refl)
 saved_err (Some s) old new status Memory it = absurd it
 
 -- a save never runs out of memory
-pub save_wants_none : (asked : Option Saving) (old new : FilesState) (status : Status) (trouble : Trouble) → SavedAfter asked old new (Ok status) (Err trouble) → IsErrOf {T = Status} (Err trouble) Memory → ⊥
+pub save_wants_none : (asked : Option Saving) (old new : FilesState) (status : Status) (trouble : Trouble) → SavedAfter asked old new (Ok status) (Err trouble) →
+    IsErrOf {T = Status} (Err trouble) Memory → ⊥
 save_wants_none None old new status trouble it wanting = cc it.1
 save_wants_none (Some s) old new status trouble (inl it) wanting = cc it.1
 save_wants_none (Some s) old new status Write (inr it) wanting = cc wanting
@@ -208,7 +209,8 @@ run_not_saved start events save m files old new trouble w runs = record {
 
 pub run_saved : (start : State) (events : List Event) (save : Option (List ℕ)) (m : Machine) (f0 f1 : FilesState) (old new : SinkState) (status : Status) (u : Unit {0}) →
     disk_bytes m.devices.disk ≡ disk_bytes (run start events).devices.disk → Writes (run_status (run start events).journal.verdict) (output (run start events)) old new (Ok status) →
-    RunsTo (IsErrOf {T = Status} (Ok status) Memory) start events m old new → AfterSave (saving_of_bytes (disk_bytes m.devices.disk) save) f0 f1 (Ok u) → RunsAndSaves start events save m f0 f1 old new (Ok status)
+    RunsTo (IsErrOf {T = Status} (Ok status) Memory) start events m old new → AfterSave (saving_of_bytes (disk_bytes m.devices.disk) save) f0 f1 (Ok u) →
+    RunsAndSaves start events save m f0 f1 old new (Ok status)
 run_saved start events save m f0 f1 old new status u disk w runs it = record {
   written = Ok status;
   writes = w;
@@ -230,5 +232,6 @@ run_broke start events save m f0 f1 old new status trouble disk w runs it =
       written = Ok status;
       writes = w;
       saves = behind;
-      runs = runs_under (IsErrOf {T = Status} (Ok status) Memory) (IsErrOf {T = Status} (Err trouble) Memory) start events m old new (λ wanting. absurd (save_wants_none asked f0 f1 status trouble behind wanting)) runs;
+      runs = runs_under (IsErrOf {T = Status} (Ok status) Memory) (IsErrOf {T = Status} (Err trouble) Memory) start events m old new
+          (λ wanting. absurd (save_wants_none asked f0 f1 status trouble behind wanting)) runs;
     }

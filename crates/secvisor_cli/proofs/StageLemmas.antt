@@ -31,7 +31,9 @@ use Rattle.secvisor_cli.specs.declared.ready.Ready.{Ready}
 use Rattle.secvisor_cli.specs.declared.ready.Stop.{Stop}
 use Rattle.secvisor_cli.specs.declared.ready.Stop.TheVariants.{Refused, Memory}
 use Rattle.cli_plans.specs.CommandLine.{Command, RunWords, Rounds, Auto, Bursts, Text}
-use Rattle.cli_plans.specs.Plans.{Due, Refuse, RunFrom, Plan, End, Judge, Held, found_plan, read_part, max_policy_bytes, max_script_bytes, policy_judged, policy_part, part_judged, kernel_part, disk_refusal, disk_part, text_part, script_part, image_measure, boot_judged, boot_plan, command_plan, plan_of, start_with}
+use Rattle.cli_plans.specs.Plans.{Due, Refuse, RunFrom, Plan, End, Judge, Held, found_plan, read_part, max_policy_bytes, max_script_bytes}
+use Rattle.cli_plans.specs.Plans.{policy_judged, policy_part, part_judged, kernel_part, disk_refusal, disk_part, text_part, script_part}
+use Rattle.cli_plans.specs.Plans.{image_measure, boot_judged, boot_plan, command_plan, plan_of, start_with}
 use Rattle.cli_plans.specs.Reading.{FoundAs, Follows, MayFollow}
 use Rattle.secvisor_cli.specs.Ready.{PartRead, stop_of, stop_of_unread, IsReady, Prepares, Passes, Staged, MayStage, IsPolicy, IsKernel, IsScript}
 use Rattle.secvisor_cli.proofs.ReadyLemmas.{end_ready, judge_ready, judge_wants, judge_end, read_ready, stopped_ready, bytes_eq-same, bytes_eq-other}
@@ -108,7 +110,8 @@ policy_staged name bytes old new (Err (Refused refusal)) fact is = λ next.
 policy_staged name bytes old new (Err Memory) fact is = λ next.
     read_ready Part.Policy name max_policy_bytes (λ b. Judge (policy_judged next (rules_of_text b))) old new new bytes _ fact (judge_wants _ new)
 
-pub policy_unread : (name : List ℕ) (old new : FilesState) (stop : Stop) → PartRead Part.Policy name max_policy_bytes old new (Err stop) → Staged {T = Policy} (policy_part name) rules_of old new (Err stop)
+pub policy_unread : (name : List ℕ) (old new : FilesState) (stop : Stop) → PartRead Part.Policy name max_policy_bytes old new (Err stop) →
+    Staged {T = Policy} (policy_part name) rules_of old new (Err stop)
 unfolding policy_part
 policy_unread name old new stop it = λ next. stopped_ready _ _ _ _ old new stop it
 
@@ -262,7 +265,8 @@ measure_due kind rules file disk events save measured =
 is_measured : (rules : Rules) (file : List ℕ) (digest : List ℕ) → digest ≡ image_measure file → digest ≡ rules.kernel → bytes_eq (image_measure file) rules.kernel ≡ true
 is_measured rules file digest found wanted = ap (λ (w : List ℕ). bytes_eq (image_measure file) w) (sym wanted ∙ found) ∙ bytes_eq-same (image_measure file)
 
-pub image_booted : (kind : DiskKind) (rules : Rules) (file disk : List ℕ) (events : List Event) (save : Option (List ℕ)) (image : KernelImage) (result : Result Ready Stop) → IsImageOf file rules.ram_pages image →
+pub image_booted : (kind : DiskKind) (rules : Rules) (file disk : List ℕ) (events : List Event) (save : Option (List ℕ)) (image : KernelImage) (result : Result Ready Stop) →
+    IsImageOf file rules.ram_pages image →
     measure (text_of (segments_of image)) ≡ rules.kernel → has_number rules.entries image.entry ≡ true → IsReady (RunFrom (start_with kind rules file disk) events save) result →
     IsReady (boot_judged kind rules file disk events save) result
 unfolding boot_judged
@@ -281,7 +285,8 @@ boot_wants kind rules file disk events save =
       | false ↦ tt
     ]
 
-pub boot_stopped : (kind : DiskKind) (rules : Rules) (file disk : List ℕ) (events : List Event) (save : Option (List ℕ)) (image : KernelImage) (boot : BootRefusal) → IsImageOf file rules.ram_pages image →
+pub boot_stopped : (kind : DiskKind) (rules : Rules) (file disk : List ℕ) (events : List Event) (save : Option (List ℕ)) (image : KernelImage) (boot : BootRefusal) →
+    IsImageOf file rules.ram_pages image →
     RefusesImage image rules boot → IsReady (boot_judged kind rules file disk events save) (Err (stop_of boot))
 unfolding boot_judged
 boot_stopped kind rules file disk events save image (BootRefusal.Measure found asked) of it =
@@ -291,7 +296,8 @@ boot_stopped kind rules file disk events save image (BootRefusal.Measure found a
     (ap (λ (f : List ℕ). Measure f asked) is ∙ ap (λ (w : List ℕ). Measure (image_measure file) w) it.1)
 boot_stopped kind rules file disk events save image (BootRefusal.Entry entry) of it =
     let is : entry ≡ header_entry file = it.0 ∙ of.entry in
-    subst (λ (b : Bool). IsReady (measure_due kind rules file disk events save b) (Err (Refused (Entry entry)))) (sym (is_measured rules file _ (image_measured file rules.ram_pages image _ of refl) it.1.1))
+    subst (λ (b : Bool). IsReady (measure_due kind rules file disk events save b) (Err (Refused (Entry entry))))
+    (sym (is_measured rules file _ (image_measured file rules.ram_pages image _ of refl) it.1.1))
     (subst (λ (b : Bool). IsReady (entry_due kind rules file disk events save b) (Err (Refused (Entry entry)))) (sym it.1.0 ∙ ap (λ (e : ℕ). has_number rules.entries e) is)
     (ap (λ (e : ℕ). Entry e) is))
 boot_stopped kind rules file disk events save image BootRefusal.Memory of it = boot_wants kind rules file disk events save

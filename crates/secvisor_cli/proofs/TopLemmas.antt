@@ -31,7 +31,9 @@ use Rattle.cli_plans.specs.CommandLine.{Command, judgement_of_words}
 use Rattle.cli_plans.specs.Plans.{Due, Refuse, RunFrom, Make, Exactly, Saving, policy_saving, saving_of_bytes, saves_due, Plan, bytes_due, status_due, plan_of}
 use Rattle.cli_plans.specs.Reading.{Follows, MayFollow, MaySave, Saved, SaveBroke, SavesUnder}
 use Rattle.secvisor_cli.specs.Ready.{IsMade, IsReady, IsReadyWhere, IsFresh, IsRunnable, MayCarryOut, MaySaveRun, Prepares}
-use Rattle.secvisor_cli.specs.Answers.{Outside, outside, tries_due, MayTryWhere, IsFree, AfterTry, TriedInVain, GaveUp, MeetsDue, Writes, SavesAndWrites, WritesAndSaves, Answers, AnswersReached, Performs, MeetsSaves, MeetsSavesAfter, Meets, MeetsReached, Headline, BenchAfter}
+use Rattle.secvisor_cli.specs.Answers.{Outside, outside, tries_due, MayTryWhere, IsFree, AfterTry, TriedInVain, GaveUp, MeetsDue, Writes}
+use Rattle.secvisor_cli.specs.Answers.{SavesAndWrites, WritesAndSaves, Answers, AnswersReached, Performs, MeetsSaves, MeetsSavesAfter}
+use Rattle.secvisor_cli.specs.Answers.{Meets, MeetsReached, Headline, BenchAfter}
 use Rattle.host_io.specs.Endings.{status_of_end}
 use Rattle.secvisor_cli.proofs.EndLemmas.{runs_under}
 use Rattle.cli_plans.proofs.PlanLemmas.{HasFoundFaults, HasFault, Keeps, follows_keeps, may_save, read_fault, saves_under, may_follow}
@@ -119,14 +121,23 @@ booted_answers (Make name rules line) ready old new result it a = absurd it
 abbrev exact_saving : Made → Saving
 exact_saving made = record { name = made.name.now; content = Exactly made.text.items }
 
-saved_as_policy : (name : List ℕ) (rules : Rules) (line : List ℕ) (made : Made) (old new : FilesState) → IsMade name rules line made → Saved (exact_saving made) old new → Saved (policy_saving name rules) old new
+saved_as_policy : (name : List ℕ) (rules : Rules) (line : List ℕ) (made : Made) (old new : FilesState) → IsMade name rules line made → Saved (exact_saving made) old new →
+    Saved (policy_saving name rules) old new
 saved_as_policy name rules line made old new it s =
     subst (λ (n : List ℕ). Saved (policy_saving n rules) old new) it.name_is
     (record { bytes = s.bytes; content = subst (λ (text : List ℕ). rules_of_text text ≡ Ok rules) (sym s.content) it.reads; held = s.held; others = s.others; leaves = s.leaves })
 
-broke_as_policy : (name : List ℕ) (rules : Rules) (line : List ℕ) (made : Made) (old new : FilesState) → IsMade name rules line made → SaveBroke (exact_saving made) old new → SaveBroke (policy_saving name rules) old new
+broke_as_policy : (name : List ℕ) (rules : Rules) (line : List ℕ) (made : Made) (old new : FilesState) → IsMade name rules line made → SaveBroke (exact_saving made) old new →
+    SaveBroke (policy_saving name rules) old new
 broke_as_policy name rules line made old new it b =
-    subst (λ (n : List ℕ). SaveBroke (policy_saving n rules) old new) it.name_is (record { bytes = b.bytes; content = subst (λ (text : List ℕ). rules_of_text text ≡ Ok rules) (sym b.content) it.reads; faults = b.faults; others = b.others; leaves = b.leaves })
+    subst (λ (n : List ℕ). SaveBroke (policy_saving n rules) old new) it.name_is (record {
+      bytes = b.bytes;
+      content = subst (λ (text : List ℕ). rules_of_text text ≡
+          Ok rules) (sym b.content) it.reads;
+      faults = b.faults;
+      others = b.others;
+      leaves = b.leaves;
+    })
 
 as_policy : (name : List ℕ) (rules : Rules) (line : List ℕ) (made : Made) (f0 f1 : FilesState) (old new : SinkState) (result : Result Status Trouble) → IsMade name rules line made →
     SavesAndWrites (exact_saving made) (string_bytes made.line) f0 f1 old new result → SavesAndWrites (policy_saving name rules) line f0 f1 old new result
@@ -144,7 +155,8 @@ made_answers (RunFrom start events save) made f0 f1 old new bench result it s = 
 made_answers (Make name rules line) made f0 f1 old new bench result it s = (as_policy name rules line made f0 f1 old new result it s, refl)
 
 -- a refusal's line was written, and nothing else was done
-pub refused_writes : (refusal : Refusal) (files : FilesState) (old new : SinkState) (bench : Option Machine) (result : Result Status Trouble) → Writes (refusal_status refusal) (refusal_line refusal) old new result →
+pub refused_writes : (refusal : Refusal) (files : FilesState) (old new : SinkState) (bench : Option Machine) (result : Result Status Trouble) →
+    Writes (refusal_status refusal) (refusal_line refusal) old new result →
     (IsErrOf result Memory → IsTrue (takes_memory refusal)) → (IsErrOf result Memory → new ≡ old) → WritesAndSaves (Refuse refusal) (outside files old bench) (outside files new bench) result
 refused_writes refusal files old new bench result w wants quiet = record { written = result; writes = w; saves = (refl, refl); wants = wants; quiet = quiet; bench = refl }
 
@@ -447,7 +459,8 @@ pub refused_status : (refusal : Refusal) (old new : Outside) (answer : Status) �
 refused_status refusal old new answer a =
     (subst (λ (w : Result Status Trouble). Writes (refusal_status refusal) (refusal_line refusal) old.sink new.sink w) (sym a.saves.1) a.writes).status
 
-pub refused_fault : (plan : Plan) (refusal : Refusal) (old new : Outside) (read : FilesState) (result : Result Status Trouble) → HasFoundFaults plan → Follows plan old.files read (Some (Refuse refusal)) →
+pub refused_fault : (plan : Plan) (refusal : Refusal) (old new : Outside) (read : FilesState) (result : Result Status Trouble) → HasFoundFaults plan →
+    Follows plan old.files read (Some (Refuse refusal)) →
     WritesAndSaves (Refuse refusal) (outside read old.sink old.bench) new result → status_of_end result ≡ Status.ReadFault → HasFault plan old.files new.files
 refused_fault plan refusal old new read (Ok answer) never follows a is =
     let status : answer ≡ refusal_status refusal = refused_status refusal (outside read old.sink old.bench) new answer a in
@@ -464,7 +477,8 @@ plan_fault plan old new result never p is =
     (reached_fault plan p.reached old.files p.read before new never p.follows
     (subst (λ (t : Status). MeetsReached p.reached before new t) is (reached_settled p.reached before new result p.answers)))
 
-pub performs_fault : (words : List (List ℕ)) (old new : Outside) (result : Result Status Trouble) → Performs (plan_of (judgement_of_words words)) old new result → status_of_end result ≡ Status.ReadFault →
+pub performs_fault : (words : List (List ℕ)) (old new : Outside) (result : Result Status Trouble) → Performs (plan_of (judgement_of_words words)) old new result →
+    status_of_end result ≡ Status.ReadFault →
     HasFault (plan_of (judgement_of_words words)) old.files new.files
 performs_fault words old new result p is = plan_fault (plan_of (judgement_of_words words)) old new result (judged_found_faults words) p is
 

@@ -1,5 +1,6 @@
 -- What the program owes to what is asked of it.
-use Rattle.std.specs.Prelude.{◌≡◌, ◌≢◌, ◌<◌, ◌≤◌, ◌⊎◌, ℕ, List, [], ◌++◌, length, Bool, true, false, IsTrue, IsFalse, Option, Some, None, Result, Ok, Err, OnOk, IfOk, IsErrOf}
+use Rattle.std.specs.Prelude.{◌≡◌, ◌≢◌, ◌<◌, ◌≤◌, ◌⊎◌, ℕ, List, [], ◌++◌, length, Bool, true, false, IsTrue, IsFalse, Option, Some, None}
+use Rattle.std.specs.Prelude.{Result, Ok, Err, OnOk, IfOk, IsErrOf}
 use Rattle.sv_types.specs.Limits.{max_printed}
 use Rattle.sv_types.specs.declared.event.Event.{Event}
 use Rattle.sv_types.specs.declared.status.Status.{Status}

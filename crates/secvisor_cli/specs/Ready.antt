@@ -40,7 +40,8 @@ use Rattle.secvisor_cli.specs.declared.making.MeasuredKernel.{MeasuredKernel}
 use Rattle.secvisor_cli.specs.declared.making.WantingModules.{WantingModules}
 use Rattle.secvisor_cli.specs.declared.ready.Stop.{Stop}
 use Rattle.secvisor_cli.specs.declared.ready.Stop.TheVariants.{Refused, Memory}
-use Rattle.cli_plans.specs.Plans.{Due, Refuse, RunFrom, Make, making_fault, binding_refusal, Kernel, Modules, saves_due, Plan, Found, Faulty, Missing, Longer, Held}
+use Rattle.cli_plans.specs.Plans.{Due, Refuse, RunFrom, Make, making_fault, binding_refusal, Kernel, Modules, saves_due, Plan, Found}
+use Rattle.cli_plans.specs.Plans.{Faulty, Missing, Longer, Held}
 use Rattle.cli_plans.specs.Reading.{Follows, FoundAs, MayFollow, MaySave}
 use Rattle.machine.specs.Standing.{HasState}
 

@@ -68,7 +68,8 @@ pub fn secvisor<R: Threads + Sync, F: Files, O: Sink>(
 
     // A read fault is answered only where the files tell that a name of the words isn't held, or the count of reads rose.
     ensures read_fault { result ≡ Status.ReadFault →
-        (IsTrue (F.state files.old).tells × ((name : List ℕ) × IsNamed (plan_of (judgement_of_words (map string_bytes words.now))) name × ((F.state files.old).held name ≡ None)))
+        (IsTrue (F.state files.old).tells ×
+        ((name : List ℕ) × IsNamed (plan_of (judgement_of_words (map string_bytes words.now))) name × ((F.state files.old).held name ≡ None)))
         ⊎ ((F.state files.old).read_faults < (F.state files.new).read_faults) }
 
     // The counts of faults never fall, and words that are refused read no file.
@@ -209,7 +210,8 @@ pub fn run_on_bench<F: Files, O: Sink>(
     requires saves { CanCount (F.state files.old).save_faults }
     requires runnable { IsRunnable ready }
     requires permitted { MaySaveRun ready.machine (first_events ready.events ready.script) (option_copied ready.save) (F.state files.old) }
-    ensures { (start : State) → IsNew ready.entry.machine start → Answers (RunFrom start (first_events ready.entry.events ready.entry.script) (option_copied ready.entry.save))
+    ensures { (start : State) → IsNew ready.entry.machine start →
+        Answers (RunFrom start (first_events ready.entry.events ready.entry.script) (option_copied ready.entry.save))
         (outside (F.state files.old) (O.state out.old) bench.old.machine)
         (outside (F.state files.new) (O.state out.new) bench.new.machine) result }
 {

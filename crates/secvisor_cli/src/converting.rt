@@ -44,7 +44,8 @@ fn bind_file<'a, R: Threads + Sync>(
     file: &[u8],
 ) -> Result<Ready<'a>, Stop>
     requires within { IsTrue (rules_within (rules_of policy)) }
-    ensures { (files : FilesState) → Prepares (kernel_part (rules_of policy) file.now (bound_plan (convert_split_of asked.now) (rules_of policy) file.now)) files files result }
+    ensures { (files : FilesState) →
+        Prepares (kernel_part (rules_of policy) file.now (bound_plan (convert_split_of asked.now) (rules_of policy) file.now)) files files result }
 {
     let image = judge_kernel(alloc, file, policy.ram_pages)?;
     let bound = bind(rt, alloc, policy, &image)?;

@@ -74,7 +74,8 @@ pub fn boot_file<'a, R: Threads + Sync, F: Files>(
     requires reads { CanCount (F.state files.old).read_faults }
     requires events { asked.now.events ≤ max_events }
     requires within { IsTrue (rules_within (rules_of policy)) }
-    ensures prepares { Prepares (kernel_part (rules_of policy) file.now (boot_plan (run_value asked.now) (rules_of policy) file.now)) (F.state files.old) (F.state files.new) (run_ready result) }
+    ensures prepares { Prepares (kernel_part (rules_of policy) file.now (boot_plan (run_value asked.now) (rules_of policy) file.now))
+        (F.state files.old) (F.state files.new) (run_ready result) }
     ensures draws { (number : ℕ) → source_value asked.now.script ≡ Auto number → IfOk result (DrawsFrom number) }
 {
     let image = judge_kernel(alloc, file, policy.ram_pages)?;

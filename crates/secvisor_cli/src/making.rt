@@ -110,9 +110,11 @@ fn read_module<F: Files>(
     requires permitted { MayStage (module_part word.now (modules_value modules.old)) (F.state files.old) }
     requires reads { CanCount (F.state files.old).read_faults }
     requires name { IsTrue (name_within word.now) }
-    ensures passes { OnOk result (Passes (module_part word.now (modules_value modules.old)) (modules_value modules.new) (F.state files.old) (F.state files.new)) }
+    ensures passes { OnOk result (Passes (module_part word.now (modules_value modules.old)) (modules_value modules.new) (F.state files.old)
+        (F.state files.new)) }
     ensures named { OnOk result (file_names (modules_value modules.new).objects ≡ file_names (modules_value modules.old).objects ++ word.now ∷ []) }
-    ensures stopped { IfErr result (λ stop. (next : Modules → Plan) → Prepares (module_part word.now (modules_value modules.old) next) (F.state files.old) (F.state files.new) (Err stop)) }
+    ensures stopped { IfErr result (λ stop. (next : Modules → Plan) →
+        Prepares (module_part word.now (modules_value modules.old) next) (F.state files.old) (F.state files.new) (Err stop)) }
 {
     let Some(name) = Name::new(word) else {
         unreachable!();

@@ -1,5 +1,6 @@
 -- Bytes written one after the other.
-use Rattle.std.proofs.Common.{◌≡◌, ℕ, zero, suc, ◌+◌, ◌-◌, ◌<◌, ◌≤◌, List, [], ◌∷◌, ◌++◌, refl, get_or, inl, inr, Bool, true, false, length-take, length, take, drop, sym, ◌∙◌, ap, arith, length-append, append_assoc, replicate}
+use Rattle.std.proofs.Common.{◌≡◌, ℕ, zero, suc, ◌+◌, ◌-◌, ◌<◌, ◌≤◌, List, [], ◌∷◌, ◌++◌, refl, get_or, inl, inr, Bool, true, false}
+use Rattle.std.proofs.Common.{length-take, length, take, drop, sym, ◌∙◌, ap, arith, length-append, append_assoc, replicate}
 use Rattle.std.proofs.Math.Seq.{drop-append-add}
 use Rattle.std.proofs.lemmas.List.{drop-drop, take-append-drop, length-replicate, take_at}
 use Rattle.std.specs.Prelude.{max, min, ◌*◌, ◌/◌, ◌==◌, nat_le, nat_lt, ◌&&◌, if◌then◌else◌}

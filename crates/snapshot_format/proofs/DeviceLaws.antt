@@ -8,7 +8,9 @@ use Rattle.sv_types.specs.declared.block.BlockStatus.{BlockStatus}
 use Rattle.sv_types.specs.declared.block.BlockState.{BlockState}
 use Rattle.spec_reference.specs.BlockDisk.{beat_size}
 use Rattle.sv_types.specs.declared.port.PortState.{PortState}
-use Rattle.snapshot_format.specs.DeviceForms.{console, busy, goes_with, beats_of, has_beats, StatusParts, transfer, status_of, status_parts, standing_status, block_of, block_parts, sectors, block, holds_transfer, disk, devices, is_block, block_in, port}
+use Rattle.snapshot_format.specs.DeviceForms.{console, busy, goes_with, beats_of, has_beats, StatusParts, transfer, status_of, status_parts}
+use Rattle.snapshot_format.specs.DeviceForms.{standing_status, block_of, block_parts, sectors, block, holds_transfer, disk, devices}
+use Rattle.snapshot_format.specs.DeviceForms.{is_block, block_in, port}
 use Rattle.snapshot_format.specs.FormLaw.{IsForm}
 use Rattle.snapshot_format.specs.Forms.{is_word, number, within, and_then, always}
 use Rattle.snapshot_format.specs.JournalForms.{count}

@@ -1,5 +1,6 @@
 -- Small forms are forms, and what is put together from forms is one.
-use Rattle.std.proofs.Common.{◌≡◌, ℕ, zero, suc, ◌+◌, ◌^◌, ◌<◌, ◌≤◌, Bool, true, false, cond, ltb, eqb, List, [], ◌∷◌, ◌++◌, length, get_or, take, drop, Result, Ok, Err, refl, sym, ap, subst, ◌∙◌, append_assoc, arith, inl, inr}
+use Rattle.std.proofs.Common.{◌≡◌, ℕ, zero, suc, ◌+◌, ◌^◌, ◌<◌, ◌≤◌, Bool, true, false, cond, ltb, eqb, List, [], ◌∷◌, ◌++◌, length, get_or}
+use Rattle.std.proofs.Common.{take, drop, Result, Ok, Err, refl, sym, ap, subst, ◌∙◌, append_assoc, arith, inl, inr}
 use Rattle.std.specs.Prelude.{◌&&◌, nat_lt}
 use Rattle.std.specs.Int.{w64, to_le_bytes, from_le_bytes}
 use Rattle.std.proofs.lemmas.Bool.{eqb-true, ltb-true, ltb-false, le-ltb, lt-ltb, eq-eqb, cases_lt}
@@ -9,7 +10,9 @@ use Rattle.snapshot_format.specs.declared.refusal.SnapRefusal.{SnapRefusal}
 use Rattle.snapshot_format.specs.declared.refusal.SnapRefusal.TheVariants.{OtherLength, OutOfRange}
 use Rattle.snapshot_format.specs.FormLaw.{IsBytes, IsForm}
 use Rattle.sv_types.specs.Steps.{◌>>=◌}
-use Rattle.snapshot_format.specs.Forms.{Form, encode_number, number_at, is_word, number, byte_at, byte, bytes_at, plain, nothing, if_in_range, within, pair_with, and_then, ◌⨾◌, map_value, map_form, always, encode_all, has_all, put_first, all_taken, list_form, counted_list, counted_bytes}
+use Rattle.snapshot_format.specs.Forms.{Form, encode_number, number_at, is_word, number, byte_at, byte, bytes_at, plain, nothing}
+use Rattle.snapshot_format.specs.Forms.{if_in_range, within, pair_with, and_then, ◌⨾◌, map_value, map_form, always, encode_all, has_all}
+use Rattle.snapshot_format.specs.Forms.{put_first, all_taken, list_form, counted_list, counted_bytes}
 pub use Rattle.sv_types.proofs.TruthValues.{and_first as first_true, and_second as second_true}
 pub use Rattle.std.proofs.lemmas.Bool.{and_from as both_true}
 

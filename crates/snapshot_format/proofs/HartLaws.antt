@@ -8,7 +8,9 @@ use Rattle.spec_processor.specs.declared.mode.Mode.TheVariants.{Kernel, User}
 use Rattle.spec_reference.specs.declared.saved_machine.harts.SavedHart.{SavedHart}
 use Rattle.snapshot_format.specs.FormLaw.{IsForm}
 use Rattle.snapshot_format.specs.Forms.{is_word, number, within, always}
-use Rattle.snapshot_format.specs.HartForms.{flag_number, flag, mode_of, is_user, mode, place_number, place_of, place, address_number, address_of, is_nonzero, is_reservable, reservation, multiple_of, legal, privilege, trap_status, status, registers, hart_parts, hart_of, begins_with_0, hart, harts}
+use Rattle.snapshot_format.specs.HartForms.{flag_number, flag, mode_of, is_user, mode, place_number, place_of, place, address_number}
+use Rattle.snapshot_format.specs.HartForms.{address_of, is_nonzero, is_reservable, reservation, multiple_of, legal, privilege, trap_status}
+use Rattle.snapshot_format.specs.HartForms.{status, registers, hart_parts, hart_of, begins_with_0, hart, harts}
 use Rattle.snapshot_format.specs.JournalForms.{count}
 use Rattle.snapshot_format.proofs.FormLaws.{second_true, number_is, within_is, and_then_is, made_is, listed_is, has_all_length, pair_is, numbers_are}
 

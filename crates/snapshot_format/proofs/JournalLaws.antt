@@ -11,7 +11,12 @@ use Rattle.sv_types.specs.declared.event.Rule.{Rule}
 use Rattle.sv_types.specs.declared.event.Verdict.{Verdict}
 use Rattle.snapshot_format.specs.FormLaw.{IsForm}
 use Rattle.snapshot_format.specs.Forms.{is_word, number, within, and_then, ◌⨾◌, always}
-use Rattle.snapshot_format.specs.JournalForms.{count, event_counts, hart_counts, rule_counts, counts_of, counts_parts, counts, codes_known, is_among, found_among, code, hart_number, kind_of, is_kind, demote_of, demote_parts, demote_form, denied_of, denied_parts, denied_note, answer, load_note_of, load_note_parts, load_note, unload_of, unload_parts, unload, retire_of, retire_parts, retire, note_after, note_form, notes, verdict_kind, is_verdict, entry_of, entry_parts, stopped_entry, write_of, write_parts, stopped_write, verdict_after, verdict, journal}
+use Rattle.snapshot_format.specs.JournalForms.{count, event_counts, hart_counts, rule_counts, counts_of, counts_parts, counts, codes_known}
+use Rattle.snapshot_format.specs.JournalForms.{is_among, found_among, code, hart_number, kind_of, is_kind, demote_of, demote_parts}
+use Rattle.snapshot_format.specs.JournalForms.{demote_form, denied_of, denied_parts, denied_note, answer, load_note_of, load_note_parts}
+use Rattle.snapshot_format.specs.JournalForms.{load_note, unload_of, unload_parts, unload, retire_of, retire_parts, retire, note_after}
+use Rattle.snapshot_format.specs.JournalForms.{note_form, notes, verdict_kind, is_verdict, entry_of, entry_parts, stopped_entry, write_of}
+use Rattle.snapshot_format.specs.JournalForms.{write_parts, stopped_write, verdict_after, verdict, journal}
 use Rattle.snapshot_format.proofs.FormLaws.{first_true, second_true, number_is, within_is, nothing_is, and_then_is, made_is, counted_is, pair_is, numbers_are, choose_is}
 use Rattle.snapshot_format.proofs.HartLaws.{aligned_is}
 

@@ -15,9 +15,13 @@ use Rattle.spec_reference.specs.BlockDisk.{sector_size}
 use Rattle.spec_reference.specs.declared.saved_machine.harts.SavedHart.{SavedHart}
 use Rattle.sv_types.specs.SbiCodes.{code_word}
 use Rattle.snapshot_format.specs.DeviceForms.{console, goes_with, has_beats, transfer, standing_status, block, holds_transfer, disk, devices, is_block, block_in, port}
-use Rattle.snapshot_format.specs.Forms.{Form, encode_number, is_word, number, byte, plain, nothing, within, and_then, ◌⨾◌, map_form, always, encode_all, has_all, list_form, counted_list, counted_bytes}
+use Rattle.snapshot_format.specs.Forms.{Form, encode_number, is_word, number, byte, plain, nothing, within, and_then, ◌⨾◌, map_form, always}
+use Rattle.snapshot_format.specs.Forms.{encode_all, has_all, list_form, counted_list, counted_bytes}
 use Rattle.snapshot_format.specs.HartForms.{flag, mode, place, is_nonzero, reservation, multiple_of, legal, privilege, trap_status, status, registers, begins_with_0, hart, harts}
-use Rattle.snapshot_format.specs.JournalForms.{count, event_counts, hart_counts, rule_counts, counts, codes_known, is_among, found_among, code, hart_number, is_kind, demote_form, denied_note, answer, load_note, unload, retire_of, retire_parts, retire, note_after, note_form, notes, is_verdict, stopped_entry, stopped_write, verdict_after, verdict, journal}
+use Rattle.snapshot_format.specs.JournalForms.{count, event_counts, hart_counts, rule_counts, counts, codes_known, is_among, found_among}
+use Rattle.snapshot_format.specs.JournalForms.{code, hart_number, is_kind, demote_form, denied_note, answer, load_note, unload, retire_of}
+use Rattle.snapshot_format.specs.JournalForms.{retire_parts, retire, note_after, note_form, notes, is_verdict, stopped_entry, stopped_write}
+use Rattle.snapshot_format.specs.JournalForms.{verdict_after, verdict, journal}
 use Rattle.snapshot_format.specs.PageForms.{protection_form, protections, is_above, text_page, text, pages, module_within, next_module, modules, load, load_after, load_under_way, gate}
 use Rattle.snapshot_format.specs.Snapshots.{magic, magic_form, Header, header_of, header_parts, header, Contents, body, whole_of, whole_header, whole_body, snapshot, max_snapshot_bytes}
 use Rattle.snapshot_format.proofs.FormLaws.{first_true, second_true}
@@ -233,12 +237,16 @@ hart_number_short harts = numbers_short (λ n. nat_lt n harts)
 answer_short : (harts : ℕ) → IsAtMost (answer harts) 32
 unfolding answer code
 answer_short harts =
-    pair_short _ _ 8 24 (hart_number_short harts) (pair_short _ _ 8 16 number_short (pair_short _ _ 8 8 number_short (made_short (found_among codes_known) code_word always (within (is_among codes_known) number) 8 (within_short (is_among codes_known) number 8 number_short))))
+    pair_short _ _ 8 24 (hart_number_short harts)
+    (pair_short _ _ 8 16 number_short (pair_short _ _ 8 8 number_short (made_short (found_among codes_known) code_word always (within (is_among codes_known) number) 8
+    (within_short (is_among codes_known) number 8 number_short))))
 
 retire_short : (harts : ℕ) → IsAtMost (retire harts) 24
 unfolding retire code
 retire_short harts =
-    made_short retire_of retire_parts (is_kind 5) _ 24 (pair_short _ _ 8 16 (hart_number_short harts) (pair_short _ _ 8 8 number_short (made_short (found_among codes_known) code_word always (within (is_among codes_known) number) 8 (within_short (is_among codes_known) number 8 number_short))))
+    made_short retire_of retire_parts (is_kind 5) _ 24
+    (pair_short _ _ 8 16 (hart_number_short harts)
+    (pair_short _ _ 8 8 number_short (made_short (found_among codes_known) code_word always (within (is_among codes_known) number) 8 (within_short (is_among codes_known) number 8 number_short))))
 
 note_after_short : (harts kind : ℕ) → IsAtMost (note_after harts kind) 32
 unfolding note_after demote_form denied_note load_note unload

@@ -12,8 +12,12 @@ use Rattle.snapshot_format.specs.declared.whole.TextPage.{TextPage}
 use Rattle.snapshot_format.specs.FormLaw.{IsForm}
 use Rattle.snapshot_format.specs.Forms.{byte, within, and_then, ◌⨾◌, always}
 use Rattle.snapshot_format.specs.HartForms.{flag}
-use Rattle.snapshot_format.specs.PageForms.{protection_number, protection_of, protection_form, protections, is_above, last_page, text_page_of, text_page_parts, text_page, text, Pages, pages, module_of, module_parts, module_within, last_id, next_module, modules, load_of, load_parts, load, some_or, nowhere, load_after, load_under_way, gate}
-use Rattle.snapshot_format.proofs.FormLaws.{first_true, second_true, number_is, plain_is, byte_is, nothing_is, within_is, and_then_is, made_is, listed_is, has_all_length, counted_is, pair_is, numbers_are}
+use Rattle.snapshot_format.specs.PageForms.{protection_number, protection_of, protection_form, protections, is_above, last_page}
+use Rattle.snapshot_format.specs.PageForms.{text_page_of, text_page_parts, text_page, text, Pages, pages, module_of, module_parts}
+use Rattle.snapshot_format.specs.PageForms.{module_within, last_id, next_module, modules, load_of, load_parts, load, some_or, nowhere}
+use Rattle.snapshot_format.specs.PageForms.{load_after, load_under_way, gate}
+use Rattle.snapshot_format.proofs.FormLaws.{first_true, second_true, number_is, plain_is, byte_is, nothing_is, within_is, and_then_is}
+use Rattle.snapshot_format.proofs.FormLaws.{made_is, listed_is, has_all_length, counted_is, pair_is, numbers_are}
 use Rattle.snapshot_format.proofs.HartLaws.{flag_is, aligned_is}
 
 -- ---- protections

@@ -13,7 +13,10 @@ use Rattle.snapshot_format.specs.HartForms.{Status, legal, multiple_of, status, 
 use Rattle.snapshot_format.specs.Reading.{Gives}
 use Rattle.snapshot_format.specs.declared.reader.row.Range.{Range}
 use Rattle.snapshot_format.specs.declared.reader.row.Range.TheVariants.{Any, Below, Between}
-use Rattle.snapshot_format.specs.Rows.{HeaderNumbers, answer_ranges, block_ranges, demote_of_row, demote_ranges, entry_of_row, entry_ranges, header_numbers, header_of_row, header_ranges, is_within, module_of_row, module_ranges, retire_ranges, write_of_row, write_ranges, ranged, row_taken, counts_of_row, may_hold, register_after, status_of_row}
+use Rattle.snapshot_format.specs.Rows.{HeaderNumbers, answer_ranges, block_ranges, demote_of_row, demote_ranges, entry_of_row, entry_ranges}
+use Rattle.snapshot_format.specs.Rows.{header_numbers, header_of_row, header_ranges, is_within, module_of_row, module_ranges, retire_ranges}
+use Rattle.snapshot_format.specs.Rows.{write_of_row, write_ranges, ranged, row_taken, counts_of_row, may_hold, register_after}
+use Rattle.snapshot_format.specs.Rows.{status_of_row}
 use Rattle.snapshot_format.proofs.ReadLists.{with_front, regroup, goes_on, is_done}
 use Rattle.sv_types.specs.Steps.{◌>>=◌}
 use Rattle.sv_types.specs.declared.event.Counts.{Counts}
@@ -180,7 +183,8 @@ block_by_row bytes = simp bind_assoc
 abbrev Within : List Range → ℕ → List ℕ → Type 0
 Within ranges i row = is_within (next_range ranges i) (get_or row i 0) ≡ true
 
-within_more : (range : Range) (ranges : List Range) (i n : ℕ) (values row : List ℕ) → is_within range n ≡ true → row ≡ n ∷ values → ((j : ℕ) → j < length ranges → Within ranges j values) → i < suc (length ranges)
+within_more : (range : Range) (ranges : List Range) (i n : ℕ) (values row : List ℕ) → is_within range n ≡ true → row ≡ n ∷ values →
+    ((j : ℕ) → j < length ranges → Within ranges j values) → i < suc (length ranges)
     → Within (range ∷ ranges) i row
 within_more range ranges zero n values row is same others lt = rw same is
 within_more range ranges (suc i) n values row is same others lt = rw same (others i (omega arith))

@@ -15,7 +15,8 @@ use Rattle.snapshot_format.specs.Forms.{and_then, always}
 use Rattle.snapshot_format.specs.HartForms.{harts}
 use Rattle.snapshot_format.specs.PageForms.{pages}
 use Rattle.snapshot_format.specs.SnapshotLaw.{SnapshotLaw}
-use Rattle.snapshot_format.specs.Snapshots.{magic, magic_at, magic_form, Header, header_of, header_parts, header, Contents, Body, body, whole_of, whole_header, whole_body, snapshot, max_snapshot_bytes, if_at_end, snapshot_read}
+use Rattle.snapshot_format.specs.Snapshots.{magic, magic_at, magic_form, Header, header_of, header_parts, header, Contents, Body, body}
+use Rattle.snapshot_format.specs.Snapshots.{whole_of, whole_header, whole_body, snapshot, max_snapshot_bytes, if_at_end, snapshot_read}
 use Rattle.snapshot_format.proofs.DeviceLaws.{devices_are}
 use Rattle.snapshot_format.proofs.FormLaws.{bind_ok, passed, first_true, second_true, number_is, plain_is, and_then_is, made_is, pair_is, numbers_are}
 use Rattle.snapshot_format.proofs.HartLaws.{harts_are, harts_number}

@@ -1,5 +1,6 @@
 -- The forms of the devices: the console's input, the block device and its disk. This project's own.
-use Rattle.std.specs.Prelude.{ℕ, Option, Some, None, is_some, ◌+◌, ◌*◌, ◌/◌, ◌%◌, ◌^◌, List, Bool, true, false, not, ◌&&◌, ◌||◌, nat_lt, nat_le, ◌==◌, if◌then◌else◌}
+use Rattle.std.specs.Prelude.{ℕ, Option, Some, None, is_some, ◌+◌, ◌*◌, ◌/◌, ◌%◌, ◌^◌, List, Bool, true, false, not, ◌&&◌, ◌||◌, nat_lt}
+use Rattle.std.specs.Prelude.{nat_le, ◌==◌, if◌then◌else◌}
 use Rattle.sv_types.specs.Console.{max_queued}
 use Rattle.sv_types.specs.Limits.{max_disk_bytes}
 use Rattle.spec_reference.specs.BlockDisk.{is_busy, beats_done, beat_size, sector_size}

@@ -1,5 +1,6 @@
 -- The forms of what pages are, and of the modules in them. This project's own.
-use Rattle.std.specs.Prelude.{ℕ, ◌-◌, List, [], length, Bool, true, false, not, ◌&&◌, Option, Some, None, option_map, is_some, slice_get, nat_lt, nat_le, ◌==◌, if◌then◌else◌}
+use Rattle.std.specs.Prelude.{ℕ, ◌-◌, List, [], length, Bool, true, false, not, ◌&&◌, Option, Some, None, option_map, is_some, slice_get}
+use Rattle.std.specs.Prelude.{nat_lt, nat_le, ◌==◌, if◌then◌else◌}
 use Rattle.spec_reference.specs.declared.saved_machine.harts.SavedHart.{SavedHart}
 use Rattle.spec_reference.specs.declared.saved_machine.whole.SavedLoad.{SavedLoad}
 use Rattle.snapshot_format.specs.Forms.{Form, number, byte, plain, nothing, within, and_then, ◌⨾◌, map_form, always, list_form, counted_list}

@@ -2,7 +2,9 @@
 -- extension's "Trap Cause Codes".
 use Rattle.std.specs.Prelude.{ℕ}
 use Rattle.spec_processor.specs.declared.cause.Cause.{Cause}
-use Rattle.spec_processor.specs.declared.cause.Cause.TheVariants.{InstrMisaligned, InstrAccess, Illegal, Breakpoint, LoadMisaligned, LoadAccess, StoreMisaligned, StoreAccess, UserCall, GuestCall, InstrPage, LoadPage, StorePage, GuestFetch, GuestLoad, Virtual, GuestStore}
+use Rattle.spec_processor.specs.declared.cause.Cause.TheVariants.{InstrMisaligned, InstrAccess, Illegal, Breakpoint, LoadMisaligned}
+use Rattle.spec_processor.specs.declared.cause.Cause.TheVariants.{LoadAccess, StoreMisaligned, StoreAccess, UserCall, GuestCall, InstrPage}
+use Rattle.spec_processor.specs.declared.cause.Cause.TheVariants.{LoadPage, StorePage, GuestFetch, GuestLoad, Virtual, GuestStore}
 
 abbrev pub cause_number : Cause → ℕ
 cause_number InstrMisaligned = 0

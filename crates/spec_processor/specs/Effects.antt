@@ -2,7 +2,8 @@
 -- whole numbers modulo 2 ^ 64.
 -- RISC-V Unprivileged manual, "RV32I Base Integer Instruction Set", "RV64I Base Integer Instruction Set", the
 -- extensions "M", "A", "Zicsr" and "Zifencei"; Privileged manual, "Supervisor Instructions".
-use Rattle.std.specs.Prelude.{ℕ, ◌+◌, ◌-◌, ◌*◌, ◌/◌, ◌%◌, ◌^◌, ◌==◌, if◌then◌else◌, Bool, true, false, not, List, ℤ, pos, ◌*ℤ◌, nat_lt, int_lt, int_div, int_rem, bit_and, bit_or, bit_xor, min, max, slice_index, slice_set}
+use Rattle.std.specs.Prelude.{ℕ, ◌+◌, ◌-◌, ◌*◌, ◌/◌, ◌%◌, ◌^◌, ◌==◌, if◌then◌else◌, Bool, true, false, not, List, ℤ, pos, ◌*ℤ◌, nat_lt}
+use Rattle.std.specs.Prelude.{int_lt, int_div, int_rem, bit_and, bit_or, bit_xor, min, max, slice_index, slice_set}
 use Rattle.std.specs.Int.{Width, w32, w64, w128, cast_signed, cast_unsigned, int_shr}
 use Rattle.spec_processor.specs.Bits.{flag}
 use Rattle.spec_processor.specs.Bytes.{instruction_size}
@@ -18,7 +19,8 @@ use Rattle.spec_processor.specs.declared.instruction.OpImmOp.TheVariants.{Addi, 
 use Rattle.spec_processor.specs.declared.instruction.OpImm32Op.{OpImm32Op}
 use Rattle.spec_processor.specs.declared.instruction.OpImm32Op.TheVariants.{Addiw, Slliw, Srliw, Sraiw}
 use Rattle.spec_processor.specs.declared.instruction.OpOp.{OpOp}
-use Rattle.spec_processor.specs.declared.instruction.OpOp.TheVariants.{Add, Sll, Slt, Sltu, Xor, Srl, Or, And, Sub, Sra, Mul, Mulh, Mulhsu, Mulhu, Div, Divu, Rem, Remu}
+use Rattle.spec_processor.specs.declared.instruction.OpOp.TheVariants.{Add, Sll, Slt, Sltu, Xor, Srl, Or, And, Sub, Sra, Mul, Mulh, Mulhsu}
+use Rattle.spec_processor.specs.declared.instruction.OpOp.TheVariants.{Mulhu, Div, Divu, Rem, Remu}
 use Rattle.spec_processor.specs.declared.instruction.Op32Op.{Op32Op}
 use Rattle.spec_processor.specs.declared.instruction.Op32Op.TheVariants.{Addw, Sllw, Srlw, Subw, Sraw, Mulw, Divw, Divuw, Remw, Remuw}
 use Rattle.spec_processor.specs.declared.instruction.CsrOp.{CsrOp}

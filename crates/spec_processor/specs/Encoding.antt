@@ -1,7 +1,8 @@
 -- The word of an instruction, and which instructions have one.
 -- RISC-V Unprivileged manual, "RV32/64G Instruction Set Listings" and "Immediate Encoding Variants"; Privileged
 -- manual, "RISC-V Privileged Instruction Set Listings".
-use Rattle.std.specs.Prelude.{ℕ, ◌+◌, ◌-◌, ◌*◌, ◌%◌, ◌^◌, ◌==◌, ◌&&◌, ◌||◌, if◌then◌else◌, Bool, true, false, ℤ, pos, neg_ℤ, nat_lt, int_lt, int_le, unsigned_abs}
+use Rattle.std.specs.Prelude.{ℕ, ◌+◌, ◌-◌, ◌*◌, ◌%◌, ◌^◌, ◌==◌, ◌&&◌, ◌||◌, if◌then◌else◌, Bool, true, false, ℤ, pos, neg_ℤ, nat_lt, int_lt}
+use Rattle.std.specs.Prelude.{int_le, unsigned_abs}
 use Rattle.std.specs.Int.{w64, cast_unsigned, from_bool}
 use Rattle.spec_processor.specs.declared.instruction.Instr.{Instr}
 use Rattle.spec_processor.specs.declared.instruction.BranchOp.{BranchOp}
@@ -15,7 +16,8 @@ use Rattle.spec_processor.specs.declared.instruction.OpImmOp.TheVariants.{Addi, 
 use Rattle.spec_processor.specs.declared.instruction.OpImm32Op.{OpImm32Op}
 use Rattle.spec_processor.specs.declared.instruction.OpImm32Op.TheVariants.{Addiw, Slliw, Srliw, Sraiw}
 use Rattle.spec_processor.specs.declared.instruction.OpOp.{OpOp}
-use Rattle.spec_processor.specs.declared.instruction.OpOp.TheVariants.{Add, Sll, Slt, Sltu, Xor, Srl, Or, And, Sub, Sra, Mul, Mulh, Mulhsu, Mulhu, Div, Divu, Rem, Remu}
+use Rattle.spec_processor.specs.declared.instruction.OpOp.TheVariants.{Add, Sll, Slt, Sltu, Xor, Srl, Or, And, Sub, Sra, Mul, Mulh, Mulhsu}
+use Rattle.spec_processor.specs.declared.instruction.OpOp.TheVariants.{Mulhu, Div, Divu, Rem, Remu}
 use Rattle.spec_processor.specs.declared.instruction.Op32Op.{Op32Op}
 use Rattle.spec_processor.specs.declared.instruction.Op32Op.TheVariants.{Addw, Sllw, Srlw, Subw, Sraw, Mulw, Divw, Divuw, Remw, Remuw}
 use Rattle.spec_processor.specs.declared.instruction.CsrOp.{CsrOp}
@@ -23,9 +25,11 @@ use Rattle.spec_processor.specs.declared.instruction.CsrOp.TheVariants.{Csrrw, C
 use Rattle.spec_processor.specs.declared.instruction.AmoOp.{AmoOp}
 use Rattle.spec_processor.specs.declared.instruction.AmoOp.TheVariants.{Amoswap, Amoadd, Amoxor, Amoand, Amoor, Amomin, Amomax, Amominu, Amomaxu}
 use Rattle.spec_processor.specs.declared.instruction.HyperOp.{HyperOp}
-use Rattle.spec_processor.specs.declared.instruction.HyperOp.TheVariants.{HlvB, HlvBu, HlvH, HlvHu, HlvxHu, HlvW, HlvWu, HlvxWu, HlvD, HsvB, HsvH, HsvW, HsvD, HfenceVvma, HfenceGvma}
+use Rattle.spec_processor.specs.declared.instruction.HyperOp.TheVariants.{HlvB, HlvBu, HlvH, HlvHu, HlvxHu, HlvW, HlvWu, HlvxWu, HlvD, HsvB}
+use Rattle.spec_processor.specs.declared.instruction.HyperOp.TheVariants.{HsvH, HsvW, HsvD, HfenceVvma, HfenceGvma}
 use Rattle.spec_processor.specs.IntegerRegisters.{register_count}
-use Rattle.spec_processor.specs.Opcodes.{amo_opcode, auipc_opcode, branch_opcode, jal_opcode, jalr_opcode, load_opcode, lui_opcode, op_32_opcode, op_imm_32_opcode, op_imm_opcode, op_opcode, store_opcode, system_opcode}
+use Rattle.spec_processor.specs.Opcodes.{amo_opcode, auipc_opcode, branch_opcode, jal_opcode, jalr_opcode, load_opcode, lui_opcode}
+use Rattle.spec_processor.specs.Opcodes.{op_32_opcode, op_imm_32_opcode, op_imm_opcode, op_opcode, store_opcode, system_opcode}
 use Rattle.spec_processor.specs.Instructions.{bits, ecall_word, ebreak_word, sret_word, wfi_word}
 
 -- ---- fields in range

@@ -1,11 +1,14 @@
 -- The G-stage of translation, and both stages together.
 -- RISC-V Privileged manual, H extension: "Two-Stage Address Translation", "Guest Physical Address Translation",
 -- "Hypervisor Guest Address Translation and Protection (hgatp) Register"; Sv39x4.
-use Rattle.std.specs.Prelude.{◌≡◌, ℕ, ◌+◌, ◌-◌, ◌*◌, ◌/◌, ◌^◌, ◌<◌, ◌≤◌, Bool, true, false, ◌&&◌, List, [], ◌∷◌, length, ◌==◌, if◌then◌else◌, nat_le, Option, Some, None, Result, Ok, Err}
+use Rattle.std.specs.Prelude.{◌≡◌, ℕ, ◌+◌, ◌-◌, ◌*◌, ◌/◌, ◌^◌, ◌<◌, ◌≤◌, Bool, true, false, ◌&&◌, List, [], ◌∷◌, length, ◌==◌}
+use Rattle.std.specs.Prelude.{if◌then◌else◌, nat_le, Option, Some, None, Result, Ok, Err}
 use Rattle.spec_processor.specs.Bytes.{word}
 use Rattle.spec_processor.specs.Regions.{Region, host_word}
 use Rattle.spec_processor.specs.Instructions.{bits}
-use Rattle.spec_processor.specs.Translation.{Destination, At, PageFault, Unreadable, Settings, walk, root_of, first_stage, entry_user, entry_accessed, entry_dirty, entry_readable, entry_writable, entry_executable, entry_size, page_bits, index_bits, index_of}
+use Rattle.spec_processor.specs.Translation.{Destination, At, PageFault, Unreadable, Settings, walk, root_of, first_stage, entry_user}
+use Rattle.spec_processor.specs.Translation.{entry_accessed, entry_dirty, entry_readable, entry_writable, entry_executable, entry_size}
+use Rattle.spec_processor.specs.Translation.{page_bits, index_bits, index_of}
 use Rattle.spec_processor.specs.declared.access.Access.{Access}
 use Rattle.spec_processor.specs.declared.access.Access.TheVariants.{Fetch, Load, Store}
 use Rattle.spec_processor.specs.declared.mode.Mode.{Mode}

@@ -10,7 +10,9 @@ use Rattle.spec_processor.specs.Requests.{csr_value}
 use Rattle.spec_processor.specs.Traps.{mode_at_return}
 use Rattle.spec_processor.specs.HypervisorRegisters.{csr_access, read_virtual, write_virtual, registers_at_return, pending}
 use Rattle.spec_processor.specs.Hardware.{Core, Step, Attempted, with_region, plain_exception, raise, after_interrupt}
-use Rattle.spec_processor.specs.HardwareMemory.{translation_result, aligned_translation, load_htinst, store_htinst, atomic_htinst, retire, retire_with, after_load, after_load_reserved, after_store, after_store_conditional, after_amo}
+use Rattle.spec_processor.specs.HardwareMemory.{translation_result, aligned_translation, load_htinst, store_htinst, atomic_htinst, retire}
+use Rattle.spec_processor.specs.HardwareMemory.{retire_with, after_load, after_load_reserved, after_store, after_store_conditional}
+use Rattle.spec_processor.specs.HardwareMemory.{after_amo}
 use Rattle.spec_processor.specs.declared.cause.Cause.{Cause}
 use Rattle.spec_processor.specs.declared.csr.Csr.{Csr}
 use Rattle.spec_processor.specs.declared.csr.CsrFault.{CsrFault}

@@ -2,11 +2,13 @@
 -- RISC-V Privileged manual, H extension: "Hypervisor and Virtual Supervisor CSRs", "Hypervisor Interrupt (hvip, hip, and
 -- hie) Registers", "Virtual Supervisor Interrupt (vsip and vsie) Registers", "Virtual-Instruction Exceptions", "Trap
 -- Entry".
-use Rattle.std.specs.Prelude.{◌≡◌, ℕ, ◌+◌, ◌*◌, ◌/◌, ◌^◌, ◌<◌, Bool, true, false, not, ◌&&◌, ◌||◌, List, [], ◌∷◌, ◌==◌, if◌then◌else◌, bit_and, bit_or, Option, Some, None, Result, Ok, Err}
+use Rattle.std.specs.Prelude.{◌≡◌, ℕ, ◌+◌, ◌*◌, ◌/◌, ◌^◌, ◌<◌, Bool, true, false, not, ◌&&◌, ◌||◌, List, [], ◌∷◌, ◌==◌, if◌then◌else◌}
+use Rattle.std.specs.Prelude.{bit_and, bit_or, Option, Some, None, Result, Ok, Err}
 use Rattle.std.specs.List.{list_any}
 use Rattle.spec_processor.specs.Bits.{bit, flag, without}
 use Rattle.spec_processor.specs.Causes.{cause_number}
-use Rattle.spec_processor.specs.Registers.{csr_of_number, software_bit, timer_bit, external_bit, legal_status, uxl, legal_interrupts, legal_tvec, time_place, legal_counteren, legal_epc, legal_satp}
+use Rattle.spec_processor.specs.Registers.{csr_of_number, software_bit, timer_bit, external_bit, legal_status, uxl, legal_interrupts}
+use Rattle.spec_processor.specs.Registers.{legal_tvec, time_place, legal_counteren, legal_epc, legal_satp}
 use Rattle.spec_processor.specs.Traps.{trap_cause, status_at_trap, status_at_return, takes_interrupts, interrupt_number, is_interrupt, first_interrupt}
 use Rattle.spec_processor.specs.declared.csr.Csr.{Csr}
 use Rattle.spec_processor.specs.declared.csr.CsrFault.{CsrFault}
@@ -99,7 +101,8 @@ guest_alias hideleg register = at_guest_places (bit_and register (delegated_bits
 -- a write of sie or sip sets the delegated bits of hie or hvip as the value has them, and leaves the others
 unfoldable pub with_alias : ℕ → ℕ → ℕ → ℕ → ℕ
 with_alias hideleg register_bits register value =
-    bit_or (without register (delegated_bits hideleg register_bits)) (bit_and (at_hypervisor_places (legal_interrupts value)) (delegated_bits hideleg register_bits))
+    bit_or (without register (delegated_bits hideleg register_bits)) (bit_and (at_hypervisor_places (legal_interrupts value))
+    (delegated_bits hideleg register_bits))
 
 -- each register holds only bits that may stand
 pub record IsLegal (c : HypervisorRegisters) : Type 0 where

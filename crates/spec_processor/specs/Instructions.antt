@@ -3,8 +3,11 @@
 -- the instruction with its fields.
 -- RISC-V Unprivileged manual, "RV32/64G Instruction Set Listings" and "Immediate Encoding Variants"; Privileged
 -- manual, "RISC-V Privileged Instruction Set Listings".
-use Rattle.std.specs.Prelude.{ℕ, ◌+◌, ◌-◌, ◌*◌, ◌/◌, ◌%◌, ◌^◌, ℤ, pos, ◌-ℤ◌, List, [], ◌∷◌, ◌==◌, if◌then◌else◌, nat_lt, bit_and, Bool, Option, find, option_map}
-use Rattle.spec_processor.specs.Opcodes.{amo_opcode, auipc_opcode, branch_opcode, jal_opcode, jalr_opcode, load_opcode, lui_opcode, misc_mem_opcode, op_32_opcode, op_imm_32_opcode, op_imm_opcode, op_opcode, store_opcode, system_opcode}
+use Rattle.std.specs.Prelude.{ℕ, ◌+◌, ◌-◌, ◌*◌, ◌/◌, ◌%◌, ◌^◌, ℤ, pos, ◌-ℤ◌, List, [], ◌∷◌, ◌==◌, if◌then◌else◌, nat_lt, bit_and, Bool}
+use Rattle.std.specs.Prelude.{Option, find, option_map}
+use Rattle.spec_processor.specs.Opcodes.{amo_opcode, auipc_opcode, branch_opcode, jal_opcode, jalr_opcode, load_opcode, lui_opcode}
+use Rattle.spec_processor.specs.Opcodes.{misc_mem_opcode, op_32_opcode, op_imm_32_opcode, op_imm_opcode, op_opcode, store_opcode}
+use Rattle.spec_processor.specs.Opcodes.{system_opcode}
 use Rattle.spec_processor.specs.declared.instruction.Instr.{Instr}
 use Rattle.spec_processor.specs.declared.instruction.BranchOp.{BranchOp}
 use Rattle.spec_processor.specs.declared.instruction.BranchOp.TheVariants as Branch

@@ -9,7 +9,8 @@ pub record Region : Type 0 where
   pub ram : List ℕ
 
 abbrev pub region_code : Coded Region
-region_code = code_by (List ℕ × List ℕ) (coded× (coded_list coded_ℕ) (coded_list coded_ℕ)) (λ r. (r.tables, r.ram)) (λ p. record { tables = p.0; ram = p.1 }) (λ _. refl)
+region_code = code_by (List ℕ ×
+    List ℕ) (coded× (coded_list coded_ℕ) (coded_list coded_ℕ)) (λ r. (r.tables, r.ram)) (λ p. record { tables = p.0; ram = p.1 }) (λ _. refl)
 
 -- all bytes, in the order of their host places
 abbrev pub host_bytes : Region → List ℕ

@@ -2,7 +2,8 @@
 -- reservations. Places are numbers of bytes in one memory.
 -- RISC-V Unprivileged manual, "Load and Store Instructions", "Load-Reserved/Store-Conditional Instructions", and the
 -- extension "Zicsr".
-use Rattle.std.specs.Prelude.{◌≡◌, ◌⊎◌, ℕ, ◌+◌, ◌-◌, ◌%◌, ◌<◌, Bool, true, false, ◌&&◌, ◌==◌, if◌then◌else◌, nat_le, nat_lt, min, max, bit_or, Option, Some, None}
+use Rattle.std.specs.Prelude.{◌≡◌, ◌⊎◌, ℕ, ◌+◌, ◌-◌, ◌%◌, ◌<◌, Bool, true, false, ◌&&◌, ◌==◌, if◌then◌else◌, nat_le, nat_lt, min, max}
+use Rattle.std.specs.Prelude.{bit_or, Option, Some, None}
 use Rattle.std.specs.Int.{Width, w8, w16, w32, w64, cast_signed}
 use Rattle.spec_processor.specs.Bits.{without}
 use Rattle.spec_processor.specs.Effects.{machine_word}

@@ -12,13 +12,17 @@ use Rattle.sv_types.specs.declared.module.Span.{Span}
 use Rattle.spec_processor.specs.IntegerRegisters as abi
 use Rattle.sv_types.specs.declared.sbi.SbiCode.{SbiCode}
 use Rattle.sv_types.specs.declared.sbi.SbiCode.TheVariants.{Success, RefusedByMeasure}
-use Rattle.spec_reference.specs.States.{State, Hart, Devices, Journal, has_number, module_pages, with_module, without_module, without_pages, without_reservation}
+use Rattle.spec_reference.specs.States.{State, Hart, Devices, Journal, has_number, module_pages, with_module, without_module, without_pages}
+use Rattle.spec_reference.specs.States.{without_reservation}
 use Rattle.spec_reference.specs.Counting.{with_count, with_note, printed_low, machine_ended, count_load, count_unload, count_refused}
 use Rattle.spec_reference.specs.Calls.{facts_of, asked_by, started_hart, interrupt_harts, mask_names}
 use Rattle.spec_reference.specs.ModuleCalls.{answer_of}
 use Rattle.spec_reference.specs.declared.answers.Answer.{Answer}
 use Rattle.spec_reference.specs.declared.answers.SideEffect.{SideEffect}
-use Rattle.spec_reference.specs.declared.answers.SideEffect.TheVariants.{SetsTimer, Prints, TakesInput, ShutsDown, SendsInterrupts, StartsHart, BeginsLoad, RefusesLoad, ApprovesModule, ReleasesModule, UnloadsModule, RefusesUnload, RetiresInit, RefusesRetire}
+use Rattle.spec_reference.specs.declared.answers.SideEffect.TheVariants.{SetsTimer, Prints, TakesInput, ShutsDown, SendsInterrupts}
+use Rattle.spec_reference.specs.declared.answers.SideEffect.TheVariants.{StartsHart, BeginsLoad, RefusesLoad, ApprovesModule}
+use Rattle.spec_reference.specs.declared.answers.SideEffect.TheVariants.{ReleasesModule, UnloadsModule, RefusesUnload, RetiresInit}
+use Rattle.spec_reference.specs.declared.answers.SideEffect.TheVariants.{RefusesRetire}
 use Rattle.spec_reference.specs.declared.answers.Reply.{Reply}
 use Rattle.spec_reference.specs.declared.answers.Reply.TheVariants.{Gives, Replies, Stays, Stops}
 

@@ -1,6 +1,7 @@
 -- The block device: its registers and its beats, with one definition each for a load, a store, a beat and the line.
 -- This project's own. It knows no machine: a beat is told RAM and which pages may be written.
-use Rattle.std.specs.Prelude.{ℕ, ◌+◌, ◌*◌, ◌%◌, ◌^◌, Bool, true, false, not, ◌&&◌, List, length, ◌==◌, if◌then◌else◌, nat_le, nat_lt, Option, Some, None, option_map}
+use Rattle.std.specs.Prelude.{ℕ, ◌+◌, ◌*◌, ◌%◌, ◌^◌, Bool, true, false, not, ◌&&◌, List, length, ◌==◌, if◌then◌else◌, nat_le, nat_lt}
+use Rattle.std.specs.Prelude.{Option, Some, None, option_map}
 use Rattle.spec_processor.specs.Bytes.{part, overwrite, in_ram, ram_offset, page_of}
 use Rattle.sv_types.specs.BlockNumbers.{sector_offset, address_offset, count_offset, command_offset, status_offset, command_of, status_number}
 use Rattle.sv_types.specs.declared.block.BlockCommand.{BlockCommand}

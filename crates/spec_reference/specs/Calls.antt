@@ -1,7 +1,8 @@
 -- Calls from kernel mode, but for those about modules. Each call has one line, which says its answer.
 -- RISC-V SBI, "Base Extension", "Legacy Extensions", "Timer Extension", "IPI Extension", "RFENCE Extension",
 -- "Hart State Management Extension", "System Reset Extension". The extension 08534543 is this project's own.
-use Rattle.std.specs.Prelude.{ℕ, ◌+◌, ◌-◌, ◌^◌, Bool, true, false, not, ◌&&◌, ◌||◌, List, [], ◌∷◌, map, length, replicate, slice_index, ◌==◌, if◌then◌else◌, nat_le, nat_lt, Option, Some, None, slice_get, is_some}
+use Rattle.std.specs.Prelude.{ℕ, ◌+◌, ◌-◌, ◌^◌, Bool, true, false, not, ◌&&◌, ◌||◌, List, [], ◌∷◌, map, length, replicate, slice_index}
+use Rattle.std.specs.Prelude.{◌==◌, if◌then◌else◌, nat_le, nat_lt, Option, Some, None, slice_get, is_some}
 use Rattle.std.specs.List.{list_all}
 use Rattle.spec_processor.specs.Bits.{bit}
 use Rattle.sv_types.specs.Console.{console_line}
@@ -15,14 +16,18 @@ use Rattle.sv_types.specs.declared.saved.ModulePlacement.{ModulePlacement}
 use Rattle.sv_types.specs.declared.sbi.SbiCode.{SbiCode}
 use Rattle.sv_types.specs.declared.sbi.SbiCode.TheVariants.{Success, NoInput, NotSupported, InvalidParameter, InvalidAddress, Already}
 use Rattle.spec_processor.specs.declared.mode.Mode.TheVariants.{Kernel}
-use Rattle.spec_reference.specs.SbiFunctions.{get_specification, get_implementation, get_version, probe, get_machine, set_the_timer, send_ipi, last_fence, mask_width, hart_start, hart_stop, hart_status, state_started, state_stopped, system_reset, shutdown_type, last_reset_type}
+use Rattle.spec_reference.specs.SbiFunctions.{get_specification, get_implementation, get_version, probe, get_machine, set_the_timer}
+use Rattle.spec_reference.specs.SbiFunctions.{send_ipi, last_fence, mask_width, hart_start, hart_stop, hart_status, state_started}
+use Rattle.spec_reference.specs.SbiFunctions.{state_stopped, system_reset, shutdown_type, last_reset_type}
 use Rattle.spec_reference.specs.States.{State, Hart, has_number, is_protected}
 use Rattle.spec_reference.specs.declared.answers.Answer.{Answer}
 use Rattle.spec_reference.specs.declared.answers.SideEffect.TheVariants.{Nothing, SetsTimer, Prints, TakesInput, ShutsDown, SendsInterrupts, StartsHart}
 use Rattle.spec_reference.specs.declared.answers.Extension.{Extension}
 use Rattle.spec_reference.specs.declared.answers.Reply.{Reply}
 use Rattle.spec_reference.specs.declared.answers.Reply.TheVariants.{Gives, Replies, Stays, Stops}
-use Rattle.sv_types.specs.SbiExtensions.{set_timer_extension, put_char_extension, get_char_extension, shut_down_extension, base_extension, timer_extension, interrupt_extension, fence_extension, hart_state_extension, reset_extension, modules_extension}
+use Rattle.sv_types.specs.SbiExtensions.{set_timer_extension, put_char_extension, get_char_extension, shut_down_extension, base_extension}
+use Rattle.sv_types.specs.SbiExtensions.{timer_extension, interrupt_extension, fence_extension, hart_state_extension, reset_extension}
+use Rattle.sv_types.specs.SbiExtensions.{modules_extension}
 
 -- ---- what a call asks
 

@@ -11,9 +11,11 @@ use Rattle.sv_types.specs.declared.sbi.SbiCode.{SbiCode}
 use Rattle.sv_types.specs.declared.sbi.SbiCode.TheVariants.{Success, InvalidParameter, RefusedByMeasure, InvalidAddress, Already, PendingLoad}
 use Rattle.spec_reference.specs.SbiFunctions.{module_load, module_unload, init_retire}
 use Rattle.spec_reference.specs.States.{find_module}
-use Rattle.spec_reference.specs.Calls.{Asked, Facts, code, plain, not_supported, extension_of, set_timer, put_char, get_char, shut_down, base_call, timer_call, ipi_call, fence_call, hart_call, reset_call}
+use Rattle.spec_reference.specs.Calls.{Asked, Facts, code, plain, not_supported, extension_of, set_timer, put_char, get_char, shut_down}
+use Rattle.spec_reference.specs.Calls.{base_call, timer_call, ipi_call, fence_call, hart_call, reset_call}
 use Rattle.spec_reference.specs.declared.answers.Answer.{Answer}
-use Rattle.spec_reference.specs.declared.answers.SideEffect.TheVariants.{BeginsLoad, RefusesLoad, ApprovesModule, ReleasesModule, UnloadsModule, RefusesUnload, RetiresInit, RefusesRetire}
+use Rattle.spec_reference.specs.declared.answers.SideEffect.TheVariants.{BeginsLoad, RefusesLoad, ApprovesModule, ReleasesModule}
+use Rattle.spec_reference.specs.declared.answers.SideEffect.TheVariants.{UnloadsModule, RefusesUnload, RetiresInit, RefusesRetire}
 use Rattle.spec_reference.specs.declared.answers.Extension.{Extension}
 use Rattle.spec_reference.specs.declared.answers.Reply.TheVariants.{Stays}
 

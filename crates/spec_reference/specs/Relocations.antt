@@ -1,6 +1,7 @@
 -- The relocated fields of a module's text: clearing them, and which value each has to have.
 -- RISC-V ELF psABI, "Relocations".
-use Rattle.std.specs.Prelude.{ℕ, ◌+◌, ◌-◌, ◌*◌, ◌%◌, ◌^◌, Bool, true, false, ◌&&◌, List, fold, ◌==◌, if◌then◌else◌, bit_and, slice_get, Option, Some, None, ℤ, pos, negsuc, int_le}
+use Rattle.std.specs.Prelude.{ℕ, ◌+◌, ◌-◌, ◌*◌, ◌%◌, ◌^◌, Bool, true, false, ◌&&◌, List, fold, ◌==◌, if◌then◌else◌, bit_and, slice_get}
+use Rattle.std.specs.Prelude.{Option, Some, None, ℤ, pos, negsuc, int_le}
 use Rattle.sv_types.specs.Policies.{site_size}
 use Rattle.std.specs.List.{list_all}
 use Rattle.std.specs.Int.{w64, cast_unsigned}

@@ -8,7 +8,8 @@ use Rattle.spec_processor.specs.Registers.{IsLegalSupervisor}
 use Rattle.sv_types.specs.declared.saved.ModulePlacement.{ModulePlacement}
 use Rattle.spec_processor.specs.declared.mode.Mode.{Mode}
 use Rattle.spec_processor.specs.declared.mode.Mode.TheVariants.{Kernel, User}
-use Rattle.spec_reference.specs.States.{State, Hart, Disk, BlockDisk, VirtioDisk, Loading, Binding, binding_at, module_pages, pages_in_rule, has_number, is_approved_in, find_module}
+use Rattle.spec_reference.specs.States.{State, Hart, Disk, BlockDisk, VirtioDisk, Loading, Binding, binding_at, module_pages, pages_in_rule}
+use Rattle.spec_reference.specs.States.{has_number, is_approved_in, find_module}
 use Rattle.sv_types.specs.declared.block.BlockState.{BlockState}
 use Rattle.sv_types.specs.declared.virtio.VirtioMove.{VirtioMove}
 use Rattle.spec_reference.specs.BlockDisk.{is_busy, beat_size}

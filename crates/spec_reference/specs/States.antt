@@ -1,6 +1,7 @@
 -- The state of the reference machine, as plain data: what a RISC-V hart has in S and U mode (Unprivileged manual,
 -- "Programmers' Model for Base Integer ISA"; Privileged manual, "Supervisor CSRs"), memory, modules, devices and records.
-use Rattle.std.specs.Prelude.{ℕ, suc, Bool, true, false, ◌&&◌, ◌||◌, not, List, [], ◌∷◌, map, filter, ◌==◌, nat_lt, if◌then◌else◌, Option, Some, None, option_map, slice_get, slice_set, is_some}
+use Rattle.std.specs.Prelude.{ℕ, suc, Bool, true, false, ◌&&◌, ◌||◌, not, List, [], ◌∷◌, map, filter, ◌==◌, nat_lt, if◌then◌else◌, Option}
+use Rattle.std.specs.Prelude.{Some, None, option_map, slice_get, slice_set, is_some}
 use Rattle.std.specs.List.{list_any}
 use Rattle.spec_processor.specs.Bytes.{page_of}
 use Rattle.sv_types.specs.ApprovedPages.{ApprovedPage, numbers_from, approved_bytes}

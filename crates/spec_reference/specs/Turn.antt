@@ -21,7 +21,9 @@ use Rattle.spec_reference.specs.States.{State, Hart, Loading, Binding, binding_a
 use Rattle.spec_reference.specs.Counting.{count, note, count_demote}
 use Rattle.spec_reference.specs.Devices.{lines_at}
 use Rattle.spec_reference.specs.Trapping.{exception, take_interrupt, returned_from_trap}
-use Rattle.spec_reference.specs.Requests.{at_next_instruction, carried_out, source_of, target_of, settings_of, csr_asked, carry_out_load, carry_out_store, carry_out_load_reserved, carry_out_store_conditional, carry_out_amo, carry_out_csr}
+use Rattle.spec_reference.specs.Requests.{at_next_instruction, carried_out, source_of, target_of, settings_of, csr_asked, carry_out_load}
+use Rattle.spec_reference.specs.Requests.{carry_out_store, carry_out_load_reserved, carry_out_store_conditional, carry_out_amo}
+use Rattle.spec_reference.specs.Requests.{carry_out_csr}
 use Rattle.spec_reference.specs.Answers.{call}
 use Rattle.spec_reference.specs.Loads.{load_step}
 

@@ -1,7 +1,8 @@
 -- A beat: one move of the request under way, or a look for the next request. VIRTIO 1.2, "Split Virtqueues" and "Device
 -- Operation" of the block device; that a beat moves so few bytes (`beat_size`) is this project's own. The chain is read at the
 -- beat that accepts it, and every other word at the beat that reads it. A beat is told RAM and which pages may be written.
-use Rattle.std.specs.Prelude.{ℕ, ◌+◌, ◌%◌, ◌^◌, Bool, true, false, not, ◌&&◌, ◌==◌, bit_or, List, [], ◌∷◌, ◌++◌, length, filter, nat_lt, if◌then◌else◌, Option, Some, None}
+use Rattle.std.specs.Prelude.{ℕ, ◌+◌, ◌%◌, ◌^◌, Bool, true, false, not, ◌&&◌, ◌==◌, bit_or, List, [], ◌∷◌, ◌++◌, length, filter, nat_lt}
+use Rattle.std.specs.Prelude.{if◌then◌else◌, Option, Some, None}
 use Rattle.spec_processor.specs.Bytes.{part, overwrite, low_bytes, in_ram, ram_offset, page_of}
 use Rattle.spec_reference.specs.Move.{Move, Idle, FromRam, IntoRam, DeniedAt, OutsideRam}
 use Rattle.spec_reference.specs.VirtioDevice.{VirtioDevice, Request, driver_ok, is_broken, index_values, request_done, state_changed}

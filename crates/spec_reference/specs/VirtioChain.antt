@@ -1,6 +1,7 @@
 -- Chains of descriptors. VIRTIO 1.2, "The Virtqueue Descriptor Table": a descriptor has an address (8 bytes), a length
 -- (4), flags (2) and the next one's place in the table (2).
-use Rattle.std.specs.Prelude.{ℕ, zero, suc, ◌+◌, ◌-◌, ◌*◌, Bool, false, not, ◌&&◌, ◌==◌, List, [], ◌∷◌, length, take, drop, get_or, nat_le, nat_lt, if◌then◌else◌, Option, Some, None, option_map}
+use Rattle.std.specs.Prelude.{ℕ, zero, suc, ◌+◌, ◌-◌, ◌*◌, Bool, false, not, ◌&&◌, ◌==◌, List, [], ◌∷◌, length, take, drop, get_or, nat_le}
+use Rattle.std.specs.Prelude.{nat_lt, if◌then◌else◌, Option, Some, None, option_map}
 use Rattle.spec_processor.specs.Bits.{bit}
 use Rattle.spec_processor.specs.Bytes.{word, in_ram}
 use Rattle.sv_types.specs.declared.virtio.VirtioDescriptor.{VirtioDescriptor}

@@ -11,6 +11,7 @@ pub record MayPass {S : Type 0} (serves : S → Region → ℕ → Type 0) (seco
   pub asked : serves second r hgatp
 
 -- A walk went through it: it may be asked again, and is what walks under this hgatp value may make of it.
-pub record Passed {S : Type 0} (serves : S → Region → ℕ → Type 0) (walked : Region → ℕ → S → S → Type 0) (r : Region) (hgatp : ℕ) (before after : S) : Type 0 where
+pub record Passed {S : Type 0} (serves : S → Region → ℕ → Type 0) (walked : Region → ℕ → S → S →
+    Type 0) (r : Region) (hgatp : ℕ) (before after : S) : Type 0 where
   pub asked : serves after r hgatp
   pub walked_on : walked r hgatp before after

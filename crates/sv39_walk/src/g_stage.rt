@@ -148,7 +148,8 @@ fn walk_levels<L: Ledger>(
     steps: &mut Steps<L>,
 ) -> Option<Mapping>
     requires { IsTable root }
-    ensures value { (access : Kind) → address_at (walk (entry_in_region mem.now) (permits_guest access) (indices_of table_levels gpa) root gpa) ≡ mapping_answer result access }
+    ensures value { (access : Kind) → address_at (walk (entry_in_region mem.now) (permits_guest access) (indices_of table_levels gpa) root gpa) ≡
+        mapping_answer result access }
     ensures steps { steps.new ≤ steps.old + table_levels }
 {
     let mut table = root;

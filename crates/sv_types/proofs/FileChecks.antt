@@ -38,7 +38,8 @@ pub record Passed (file_size ram_pages : ℕ) (h : ProgramHeader) : Type 0 where
   pub short : h.file_size ≤ h.memory_size
   pub whole : is_executable h ≡ true → h.gpa % page_size ≡ 0
 
-tests_passed : (a b c d e : Bool) → first_refusal ((ImageFault.OutsideFile, a) ∷ (ImageFault.OutsideRam, b) ∷ (ImageFault.ShortMemory, c) ∷ (ImageFault.WritableText, d) ∷ (ImageFault.TextInsidePage, e) ∷ []) ≡ None
+tests_passed : (a b c d e : Bool) →
+    first_refusal ((ImageFault.OutsideFile, a) ∷ (ImageFault.OutsideRam, b) ∷ (ImageFault.ShortMemory, c) ∷ (ImageFault.WritableText, d) ∷ (ImageFault.TextInsidePage, e) ∷ []) ≡ None
     → (a ≡ false) × (b ≡ false) × (c ≡ false) × (d ≡ false) × (e ≡ false)
 tests_passed true b c d e none = cc
 tests_passed false true c d e none = cc

@@ -5,7 +5,9 @@ use Rattle.std.specs.List.{list_any, sum}
 use Rattle.std.proofs.lemmas.Bool.{and_parts, eqb-true}
 use Rattle.std.proofs.lemmas.Bool.Decides.{nat_tests}
 use Rattle.spec_processor.specs.Regions.{max_ram_pages}
-use Rattle.sv_types.specs.Policies.{Rules, ModuleRule, rules_within, numbers_within, lists_within, init_within, bound_within, bound_fits, all_bound, modules_count_within, modules_within, module_within, module_pages_within, sites_count_within, sites_within, sites_of, is_module, each_within}
+use Rattle.sv_types.specs.Policies.{Rules, ModuleRule, rules_within, numbers_within, lists_within, init_within, bound_within, bound_fits}
+use Rattle.sv_types.specs.Policies.{all_bound, modules_count_within, modules_within, module_within, module_pages_within, sites_count_within}
+use Rattle.sv_types.specs.Policies.{sites_within, sites_of, is_module, each_within}
 use Rattle.sv_types.specs.Limits.{plain_format, max_entries, max_modules}
 use Rattle.std.proofs.lemmas.List.{map-append}
 use Rattle.std.proofs.lemmas.List.Sums.{sum_by_push}
@@ -66,7 +68,8 @@ few_modules rules within = grind (arith, nat_tests)
 
 pub modules_part : (rules : Rules) → IsTrue (rules_within rules) → (modules_count_within (length rules.modules) ≡ true) × (modules_within (length rules.exports) rules.modules ≡ true)
 modules_part rules within =
-    let parts = and_parts (numbers_within rules && lists_within rules && init_within rules.ram_pages rules.init && modules_count_within (length rules.modules)) (modules_within (length rules.exports) rules.modules) within in
+    let parts = and_parts (numbers_within rules && lists_within rules && init_within rules.ram_pages rules.init && modules_count_within (length rules.modules))
+    (modules_within (length rules.exports) rules.modules) within in
     ((and_parts (numbers_within rules && lists_within rules && init_within rules.ram_pages rules.init) (modules_count_within (length rules.modules)) parts.0).1, parts.1)
 
 one_within : (exports : ℕ) (before xs : List ModuleRule) (i : ℕ) (rule : ModuleRule) → each_within (module_within exports) before xs ≡ true → slice_get xs i ≡ Some rule
@@ -83,7 +86,8 @@ pub rule_within : (rules : Rules) (id : ℕ) (rule : ModuleRule) → IsTrue (rul
     → (module_pages_within rule.pages ≡ true) × (sites_within rule.pages (length rules.exports) rule.sites ≡ true)
 rule_within rules id rule within found =
     let one = one_within (length rules.exports) [] rules.modules id rule (modules_part rules within).1 found in
-    let named = and_parts (module_pages_within rule.pages && sites_count_within (sites_of one.0) (length rule.sites) && sites_within rule.pages (length rules.exports) rule.sites) (not (is_module rule.name one.0)) one.1 in
+    let named = and_parts (module_pages_within rule.pages && sites_count_within (sites_of one.0) (length rule.sites) && sites_within rule.pages (length rules.exports) rule.sites)
+    (not (is_module rule.name one.0)) one.1 in
     let sites = and_parts (module_pages_within rule.pages && sites_count_within (sites_of one.0) (length rule.sites)) (sites_within rule.pages (length rules.exports) rule.sites) named.0 in
     ((and_parts (module_pages_within rule.pages) (sites_count_within (sites_of one.0) (length rule.sites)) sites.0).0, sites.1)
 

@@ -1,6 +1,7 @@
 -- The console: a queue of input bytes, and two registers of one byte. This project's own; the registers have the layout
 -- of the receiver buffer and the line status of the National Semiconductor PC16550D.
-use Rattle.std.specs.Prelude.{ℕ, ◌+◌, ◌%◌, Bool, ◌&&◌, List, [], ◌∷◌, ◌++◌, length, drop, slice_index, ◌==◌, nat_lt, if◌then◌else◌, Option, Some, None, option_map}
+use Rattle.std.specs.Prelude.{ℕ, ◌+◌, ◌%◌, Bool, ◌&&◌, List, [], ◌∷◌, ◌++◌, length, drop, slice_index, ◌==◌, nat_lt, if◌then◌else◌, Option}
+use Rattle.std.specs.Prelude.{Some, None, option_map}
 
 -- ---- the queue
 

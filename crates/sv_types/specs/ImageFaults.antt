@@ -3,7 +3,9 @@ use Rattle.std.specs.Prelude.{ℕ}
 use Rattle.sv_types.specs.declared.image_fault.HeaderFault.{HeaderFault}
 use Rattle.sv_types.specs.declared.image_fault.HeaderFault.TheVariants.{TooShort, Magic, Class, Version, Machine, Kind, Flags}
 use Rattle.sv_types.specs.declared.image_fault.ImageFault.{ImageFault}
-use Rattle.sv_types.specs.declared.image_fault.ImageFault.TheVariants.{Header, ProgramHeaders, OutsideFile, OutsideRam, ShortMemory, WritableText, TextInsidePage, SharedText, NoText, NoSymbols, UndefinedName, TooManyNames}
+use Rattle.sv_types.specs.declared.image_fault.ImageFault.TheVariants.{Header, ProgramHeaders, OutsideFile, OutsideRam, ShortMemory}
+use Rattle.sv_types.specs.declared.image_fault.ImageFault.TheVariants.{WritableText, TextInsidePage, SharedText, NoText, NoSymbols}
+use Rattle.sv_types.specs.declared.image_fault.ImageFault.TheVariants.{UndefinedName, TooManyNames}
 
 -- of the header of an ELF file
 abbrev pub header_fault_number : HeaderFault → ℕ

@@ -1,12 +1,15 @@
 -- Kernel images: which are refused and why, and what a good one puts into memory.
 -- ELF-64 Object File Format, "ELF Header" and "Program Header Table"; RISC-V ELF psABI, "File Header".
-use Rattle.std.specs.Prelude.{ℕ, ◌+◌, ◌-◌, ◌*◌, ◌%◌, Bool, false, not, ◌&&◌, ◌||◌, List, [], ◌∷◌, ◌++◌, length, replicate, map, filter, flat_map, fold, find, ◌==◌, if◌then◌else◌, nat_le, nat_lt, Option, Some, None}
+use Rattle.std.specs.Prelude.{ℕ, ◌+◌, ◌-◌, ◌*◌, ◌%◌, Bool, false, not, ◌&&◌, ◌||◌, List, [], ◌∷◌, ◌++◌, length, replicate, map, filter}
+use Rattle.std.specs.Prelude.{flat_map, fold, find, ◌==◌, if◌then◌else◌, nat_le, nat_lt, Option, Some, None}
 use Rattle.std.specs.List.{list_any}
 use Rattle.spec_processor.specs.Bits.{bit}
 use Rattle.spec_processor.specs.Bytes.{word, part, with_padding, overwrite, ram_offset, page_size, page_of, is_in_ram}
 use Rattle.sv_types.specs.ApprovedPages.{numbers_from}
 use Rattle.spec_processor.specs.Regions.{max_ram_pages}
-use Rattle.sv_types.specs.Elf.{file_header_size, ei_class, ei_data, ei_version, e_type, e_machine, e_version, e_entry, e_phoff, e_flags, e_phentsize, e_phnum, elf_magic, elfclass64, elfdata2lsb, ev_current, et_exec, em_riscv, ef_riscv_tso, program_header_size, p_flags, p_offset, p_vaddr, p_paddr, p_filesz, p_memsz, pt_load, pf_x_bit, pf_w_bit}
+use Rattle.sv_types.specs.Elf.{file_header_size, ei_class, ei_data, ei_version, e_type, e_machine, e_version, e_entry, e_phoff, e_flags}
+use Rattle.sv_types.specs.Elf.{e_phentsize, e_phnum, elf_magic, elfclass64, elfdata2lsb, ev_current, et_exec, em_riscv, ef_riscv_tso}
+use Rattle.sv_types.specs.Elf.{program_header_size, p_flags, p_offset, p_vaddr, p_paddr, p_filesz, p_memsz, pt_load, pf_x_bit, pf_w_bit}
 use Rattle.sv_types.specs.declared.image_fault.HeaderFault.{HeaderFault}
 use Rattle.sv_types.specs.declared.image_fault.ImageFault.{ImageFault}
 use Rattle.sv_types.specs.declared.kernel.ProgramHeader.{ProgramHeader}

@@ -1,10 +1,12 @@
 -- What a policy permits, as plain data, and the limits of its values. The limits are this project's own.
-use Rattle.std.specs.Prelude.{ℕ, ◌+◌, ◌-◌, slice_get, ◌*◌, ◌%◌, Bool, true, false, ◌&&◌, ◌||◌, not, ◌==◌, nat_le, nat_lt, List, [], ◌∷◌, ◌++◌, length, map, sum, if◌then◌else◌, Option, Some, None}
+use Rattle.std.specs.Prelude.{ℕ, ◌+◌, ◌-◌, slice_get, ◌*◌, ◌%◌, Bool, true, false, ◌&&◌, ◌||◌, not, ◌==◌, nat_le, nat_lt, List, [], ◌∷◌}
+use Rattle.std.specs.Prelude.{◌++◌, length, map, sum, if◌then◌else◌, Option, Some, None}
 use Rattle.std.specs.List.{list_any}
 use Rattle.std.specs.Str.{bytes_eq}
 use Rattle.spec_processor.specs.Bytes.{page_size, is_ram_address, instruction_size}
 use Rattle.spec_processor.specs.Regions.{max_ram_pages}
-use Rattle.sv_types.specs.Limits.{plain_format, bound_format, max_harts, min_ram_pages, max_entries, max_exports, max_modules, max_module_pages, max_module_sites, max_sites, first_export_base}
+use Rattle.sv_types.specs.Limits.{plain_format, bound_format, max_harts, min_ram_pages, max_entries, max_exports, max_modules}
+use Rattle.sv_types.specs.Limits.{max_module_pages, max_module_sites, max_sites, first_export_base}
 use Rattle.sv_types.specs.declared.module.Span.{Span}
 use Rattle.sv_types.specs.declared.module.Site.{Site}
 use Rattle.sv_types.specs.declared.policy.Export.{Export}

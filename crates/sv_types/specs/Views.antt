@@ -1,6 +1,7 @@
 -- What a root of the G-stage lets a hart see of memory, whatever RAM holds. This project's own, over the G-stage of
 -- the RISC-V Privileged manual, H extension, "Two-Stage Address Translation".
-use Rattle.std.specs.Prelude.{◌≡◌, ℕ, ◌+◌, ◌*◌, ◌^◌, ◌<◌, Bool, true, false, ◌&&◌, List, length, ◌==◌, if◌then◌else◌, nat_le, nat_lt, Option, Some, None, option_map, slice_get, Result, Err}
+use Rattle.std.specs.Prelude.{◌≡◌, ℕ, ◌+◌, ◌*◌, ◌^◌, ◌<◌, Bool, true, false, ◌&&◌, List, length, ◌==◌, if◌then◌else◌, nat_le, nat_lt}
+use Rattle.std.specs.Prelude.{Option, Some, None, option_map, slice_get, Result, Err}
 use Rattle.spec_processor.specs.Bytes.{ram_base, ram_offset, page_of, page_size}
 use Rattle.spec_processor.specs.Regions.{Region}
 use Rattle.spec_processor.specs.Translation.{Destination, At, PageFault, Unreadable}

@@ -2,7 +2,8 @@
 use Rattle.std.specs.Fmt.{digits}
 use Rattle.spec_processor.specs.Bytes.{word, overwrite}
 use Rattle.sv_types.specs.Console.{loaded_register}
-use Rattle.spec_processor.specs.Effects.{effect_of, op_value, op_32_value, op_imm_value, op_imm_32_value, branch_taken, load_width, load_signed, store_width, csr_operand, csr_writes, amo_value, amo_word}
+use Rattle.spec_processor.specs.Effects.{effect_of, op_value, op_32_value, op_imm_value, op_imm_32_value, branch_taken, load_width}
+use Rattle.spec_processor.specs.Effects.{load_signed, store_width, csr_operand, csr_writes, amo_value, amo_word}
 use Rattle.spec_processor.specs.Instructions.{instruction_of, rows}
 use Rattle.sv_types.specs.Addresses.{address_of}
 use Rattle.sv_types.specs.Schedule.{two_fields_events, three_fields_events, line_events, first_events}
@@ -24,11 +25,15 @@ use Rattle.spec_reference.specs.Disk.{disk_bytes, disk_load, disk_store, disk_li
 use Rattle.spec_reference.specs.Attacker.{poke_move}
 use Rattle.spec_reference.specs.Devices.{port_at, port_load, device_load, port_store, device_store, lines_at, with_bytes, after_move, beat, poke, key, tick}
 use Rattle.spec_reference.specs.Trapping.{hart_at_trap, trap_from, hart_at_return, returned_from_trap}
-use Rattle.spec_reference.specs.Requests.{source_at, load_source, target_at, store_target, carry_out_device_load, carry_out_load, carry_out_load_reserved, carry_out_device_store, carry_out_store, carry_out_store_conditional, carry_out_amo, carry_out_csr}
+use Rattle.spec_reference.specs.Requests.{source_at, load_source, target_at, store_target, carry_out_device_load, carry_out_load}
+use Rattle.spec_reference.specs.Requests.{carry_out_load_reserved, carry_out_device_store, carry_out_store, carry_out_store_conditional}
+use Rattle.spec_reference.specs.Requests.{carry_out_amo, carry_out_csr}
 use Rattle.spec_reference.specs.Calls.{hart_at, stopped_hart, mask_names, mask_exists, interrupt_harts, base_call, timer_call, ipi_call, fence_call, start_other, hart_call, reset_call, extension_of}
 use Rattle.spec_reference.specs.ModuleCalls.{good_address, load_call, unload_call, retire_call, module_call, call_answer_by}
 use Rattle.spec_reference.specs.Answers.{with_reply, devices_side_effect, journal_side_effect, pages_side_effect, harts_side_effect, state_after_answer}
-use Rattle.spec_reference.specs.Turn.{carry_out_kernel_only, carry_out_ecall, carry_out_sret, carry_out_effect, carry_out_instruction, carry_out_word, fetched_in, fetched_at, fetch, act_on_fetch, leads_into, noted_gpa, fetch_in_entry, bound_entry, act_on_pending, act, turn_of_started, turn_of, turn}
+use Rattle.spec_reference.specs.Turn.{carry_out_kernel_only, carry_out_ecall, carry_out_sret, carry_out_effect, carry_out_instruction}
+use Rattle.spec_reference.specs.Turn.{carry_out_word, fetched_in, fetched_at, fetch, act_on_fetch, leads_into, noted_gpa, fetch_in_entry}
+use Rattle.spec_reference.specs.Turn.{bound_entry, act_on_pending, act, turn_of_started, turn_of, turn}
 use Rattle.spec_reference.specs.Run.{happen, happen_under, step}
 use Rattle.spec_reference.specs.Report.{note_line}
 use Rattle.spec_reference.specs.Start.{start, flat_start}

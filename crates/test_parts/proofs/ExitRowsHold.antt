@@ -1,7 +1,8 @@
 -- Exits, computed.
 use Rattle.std.proofs.Common.{refl}
 use Rattle.spec_processor.specs.HypervisorRegisters.{registers_at_boot, registers_at_exit}
-use Rattle.spec_hardware.specs.Served.{serve_exit, exit_answered, exit_answer, answer_in, plain_answer, entry_answer, exit_ram_gpa, fetch_answer, load_answer, write_answer, store_answer, virtual_answer, transformed_effect, is_sret}
+use Rattle.spec_hardware.specs.Served.{serve_exit, exit_answered, exit_answer, answer_in, plain_answer, entry_answer, exit_ram_gpa}
+use Rattle.spec_hardware.specs.Served.{fetch_answer, load_answer, write_answer, store_answer, virtual_answer, transformed_effect, is_sret}
 use Rattle.test_parts.specs.ExitRows.{ExitRows}
 use Rattle.test_parts.proofs.Computing.{computing}
 

@@ -12,7 +12,9 @@ use Rattle.test_parts.specs.CallRows.{answer, error_answer}
 use Rattle.test_parts.specs.ModuleRows.{ModuleRows, loaded_at, turned_at, cleared_digest, all_calls, beat_after_a_page, beat_before_the_call}
 use Rattle.test_parts.proofs.Computing.{computing}
 
-its_calls_noted : all_calls.journal.notes ≡ Load 1 2 1 PendingLoad ∷ Load 0 5 0 Success ∷ Load 0 6 0 Already ∷ Load 0 7 1 InvalidAddress ∷ Load 0 8 1 InvalidAddress ∷ Load 0 9 2 InvalidParameter ∷ Unload 0 10 1 InvalidParameter ∷ Unload 0 11 0 Success ∷ []
+its_calls_noted : all_calls.journal.notes ≡
+    Load 1 2 1 PendingLoad ∷ Load 0 5 0 Success ∷ Load 0 6 0 Already ∷ Load 0 7 1 InvalidAddress ∷ Load 0 8 1 InvalidAddress ∷ Load 0 9 2 InvalidParameter ∷ Unload 0 10 1
+    InvalidParameter ∷ Unload 0 11 0 Success ∷ []
 unfolding computing load_step_of decide is_good_load is_as_measured masked_text fields_right field_right clear_field site_value measure sha256 first_words schedule rounds compress hash_after digest_bytes
 its_calls_noted = refl
 

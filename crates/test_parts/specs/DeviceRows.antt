@@ -117,7 +117,10 @@ pub record DeviceRows : Type 0 where
   pub denied_status : status_dma_step DiskToMemory 0x80000000 0 ≡ 3
   pub reads_protected_pages : status_dma_step MemoryToDisk 0x80000000 0 ≡ 1
   pub beat_outside_ram : status_dma_step DiskToMemory 0x90000000 0 ≡ 4
-  pub beat_takes_a_reservation : (hart_of (step (with_hart (machine_with (busy_with DiskToMemory 0x80002000 1)) 1 (record (hart_of (small 0 0) 1) { reservation = Some 0x2040 })) Beat) 1).reservation ≡ None
+  pub beat_takes_a_reservation :
+      (hart_of
+      (step (with_hart (machine_with (busy_with DiskToMemory 0x80002000 1)) 1 (record (hart_of (small 0 0) 1) { reservation = Some 0x2040 })) Beat)
+      1).reservation ≡ None
   -- ---- keys and time
   pub key : (step (small 0 0) (Key 65)).devices.console ≡ 65 ∷ []
   pub key_dropped : (step (record (small 0 0) { devices = devices_with (replicate 256 1) block_at_boot }) (Key 65)).journal.counts.dropped ≡ 1

@@ -72,7 +72,8 @@ pub record ExitRows : Type 0 where
   pub kernel_fetch : kernel_makes (by_cause Cause.GuestFetch 0x80002000 0x80002000 0) ≡ demote before 0 of_kernel 0x80002000
   pub kernel_return : kernel_makes (by_cause Cause.Virtual 0x10200073 0 0) ≡ returned_from_trap before 0 of_kernel
   pub kernel_virtual : kernel_makes (by_cause Cause.Virtual 0x20002373 0 0) ≡ exception before 0 of_kernel Cause.Illegal 0x20002373
-  pub kernel_fetch_implicit : kernel_makes (by_cause Cause.GuestFetch 0x80002000 0x80002000 implicit_read) ≡ exception before 0 of_kernel Cause.InstrAccess 0x80002000
+  pub kernel_fetch_implicit : kernel_makes (by_cause Cause.GuestFetch 0x80002000 0x80002000 implicit_read) ≡
+      exception before 0 of_kernel Cause.InstrAccess 0x80002000
   -- ---- user mode
   pub user_fetch : user_makes (by_cause Cause.GuestFetch 0x80000000 0x80000000 0) ≡ exception before 0 of_user Cause.InstrAccess 0x80000000
   pub user_virtual : user_makes (by_cause Cause.Virtual 0x10200073 0 0) ≡ exception before 0 of_user Cause.Illegal 0x10200073
@@ -96,13 +97,15 @@ pub record ExitRows : Type 0 where
   pub user_fetch_outside_ram : user_makes (by_cause Cause.GuestFetch 0x90000000 0x90000000 0) ≡ exception before 0 of_user Cause.InstrAccess 0x90000000
   pub device_loads : kernel_makes (by_cause Cause.GuestLoad 0x10000005 0x10000005 load_byte)
       ≡ carry_out_device_load before 0 of_kernel 6 0x10000005 1 true (device_load before.devices 0x10000005 1)
-  pub device_loads_of_another_width : kernel_makes (by_cause Cause.GuestLoad 0x10000000 0x10000000 load_word) ≡ exception before 0 of_kernel Cause.LoadAccess 0x10000000
+  pub device_loads_of_another_width : kernel_makes (by_cause Cause.GuestLoad 0x10000000 0x10000000 load_word) ≡
+      exception before 0 of_kernel Cause.LoadAccess 0x10000000
   pub loads_of_no_device : user_makes (by_cause Cause.GuestLoad 0x90000000 0x90000000 load_word) ≡ exception before 0 of_user Cause.LoadAccess 0x90000000
   pub load_of_an_unreadable_entry : user_makes (by_cause Cause.GuestLoad 0x5000 0x10000000 implicit_read) ≡ exception before 0 of_user Cause.LoadAccess 0x5000
   pub protected_store : kernel_makes (by_cause Cause.GuestStore 0x80000003 0x80000003 store_byte) ≡ write_stopped before 0 of_kernel 0x80000003
   pub device_stores : kernel_makes (by_cause Cause.GuestStore 0x10000000 0x10000000 store_byte)
       ≡ carry_out_device_store before 0 of_kernel 0x10000000 (device_store before.devices before.journal 0x10000000 1 65)
-  pub device_stores_of_another_width : kernel_makes (by_cause Cause.GuestStore 0x10000000 0x10000000 store_word) ≡ exception before 0 of_kernel Cause.StoreAccess 0x10000000
+  pub device_stores_of_another_width : kernel_makes (by_cause Cause.GuestStore 0x10000000 0x10000000 store_word) ≡
+      exception before 0 of_kernel Cause.StoreAccess 0x10000000
   pub stores_to_no_device : user_makes (by_cause Cause.GuestStore 0x90000000 0x90000000 store_word) ≡ exception before 0 of_user Cause.StoreAccess 0x90000000
   -- ---- in an entry
   pub fetch_at_the_entry : exit_answer (inside 0x80000100) (by_cause Cause.GuestFetch 0x80000100 0x80002100 0) ≡ Demotes 0x80002100

@@ -68,7 +68,8 @@ mapped_start = start mapped_rules mapped_ram (1 ∷ []) 0x80001000 (block_disk n
 
 abbrev pub mapped_state : State
 mapped_state = with_hart
-    (record mapped_start { devices = record mapped_start.devices { disk = BlockDisk (record { block = busy_with DiskToMemory 0x80004000 0; bytes = new_entries }) } })
+    (record mapped_start
+    { devices = record mapped_start.devices { disk = BlockDisk (record { block = busy_with DiskToMemory 0x80004000 0; bytes = new_entries }) } })
     0 (record (hart_in User 0x5000 (replicate 32 0)) { supervisor = record supervisor_at_boot { stvec = 0x1000; satp = 0x8000000000080002 } })
 
 pub record GuestRows : Type 0 where

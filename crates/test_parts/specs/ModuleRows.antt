@@ -47,7 +47,8 @@ one_word_page = page (words (0x00000073 ∷ []))
 
 -- SHA-256 of the two pages' digests
 abbrev pub two_page_digest : List ℕ
-two_page_digest = 115 ∷ 189 ∷ 155 ∷ 218 ∷ 156 ∷ 85 ∷ 10 ∷ 89 ∷ 124 ∷ 146 ∷ 12 ∷ 12 ∷ 171 ∷ 91 ∷ 220 ∷ 22 ∷ 12 ∷ 140 ∷ 28 ∷ 134 ∷ 31 ∷ 106 ∷ 160 ∷ 144 ∷ 220 ∷ 134 ∷ 133 ∷ 4 ∷ 207 ∷ 106 ∷ 16 ∷ 134 ∷ []
+two_page_digest = 115 ∷ 189 ∷ 155 ∷ 218 ∷ 156 ∷ 85 ∷ 10 ∷ 89 ∷ 124 ∷ 146 ∷ 12 ∷ 12 ∷ 171 ∷ 91 ∷ 220 ∷ 22 ∷ 12 ∷ 140 ∷ 28 ∷ 134 ∷ 31 ∷ 106 ∷ 160 ∷ 144
+    ∷ 220 ∷ 134 ∷ 133 ∷ 4 ∷ 207 ∷ 106 ∷ 16 ∷ 134 ∷ []
 
 abbrev pub module_of : ℕ → List ℕ → ModuleRule
 module_of pages measure = record { name = []; pages = pages; measure = measure; sites = [] }
@@ -122,13 +123,15 @@ address_site = site 0 RelocationKind.Word64 0 0 ∷ []
 
 -- SHA-256 of the page with its field cleared, and of that digest
 abbrev pub cleared_digest : List ℕ
-cleared_digest = 201 ∷ 118 ∷ 143 ∷ 36 ∷ 73 ∷ 111 ∷ 235 ∷ 244 ∷ 147 ∷ 81 ∷ 133 ∷ 117 ∷ 220 ∷ 148 ∷ 44 ∷ 16 ∷ 37 ∷ 229 ∷ 216 ∷ 187 ∷ 2 ∷ 92 ∷ 156 ∷ 242 ∷ 128 ∷ 122 ∷ 89 ∷ 149 ∷ 128 ∷ 61 ∷ 218 ∷ 205 ∷ []
+cleared_digest = 201 ∷ 118 ∷ 143 ∷ 36 ∷ 73 ∷ 111 ∷ 235 ∷ 244 ∷ 147 ∷ 81 ∷ 133 ∷ 117 ∷ 220 ∷ 148 ∷ 44 ∷ 16 ∷ 37 ∷ 229 ∷ 216 ∷ 187 ∷ 2 ∷ 92 ∷ 156 ∷ 242
+    ∷ 128 ∷ 122 ∷ 89 ∷ 149 ∷ 128 ∷ 61 ∷ 218 ∷ 205 ∷ []
 
 abbrev pub address_rule : ModuleRule
 address_rule = record {
   name = [];
   pages = 1;
-  measure = 55 ∷ 21 ∷ 96 ∷ 201 ∷ 140 ∷ 169 ∷ 196 ∷ 224 ∷ 171 ∷ 124 ∷ 213 ∷ 215 ∷ 203 ∷ 47 ∷ 201 ∷ 204 ∷ 185 ∷ 27 ∷ 239 ∷ 143 ∷ 255 ∷ 214 ∷ 139 ∷ 67 ∷ 220 ∷ 203 ∷ 255 ∷ 18 ∷ 29 ∷ 78 ∷ 30 ∷ 174 ∷ [];
+  measure = 55 ∷ 21 ∷ 96 ∷ 201 ∷ 140 ∷ 169 ∷ 196 ∷ 224 ∷ 171 ∷ 124 ∷ 213 ∷ 215 ∷ 203 ∷ 47 ∷ 201 ∷ 204 ∷ 185 ∷ 27 ∷ 239 ∷ 143 ∷ 255 ∷ 214 ∷ 139 ∷ 67 ∷
+      220 ∷ 203 ∷ 255 ∷ 18 ∷ 29 ∷ 78 ∷ 30 ∷ 174 ∷ [];
   sites = address_site;
 }
 
@@ -196,8 +199,11 @@ pub record ModuleRows : Type 0 where
   }
   pub wrong_page_turned : (turned_at 0x80006000).right ≡ false
   -- ---- unload and retire
-  pub unload_demotes_who_runs_there : (step (asks running_in_it 0 1 1 0 0) (Turn 1)).journal.notes ≡ Unload 0 1 1 Success ∷ Demote 1 2 0x80004000 0x80004000 ∷ []
-  pub unload_while_a_load_is_under_way : answer (asks (record with_second { loading = Some (record { hart = 1; about = record { id = 0; gpa = 0x80005000; va = 0; data_va = 0 }; left = 2 }) }) 0 1 1 0 0) ≡ error_answer 7
+  pub unload_demotes_who_runs_there : (step (asks running_in_it 0 1 1 0 0) (Turn 1)).journal.notes ≡
+      Unload 0 1 1 Success ∷ Demote 1 2 0x80004000 0x80004000 ∷ []
+  pub unload_while_a_load_is_under_way : answer
+      (asks (record with_second { loading = Some (record { hart = 1; about = record { id = 0; gpa = 0x80005000; va = 0; data_va = 0 }; left = 2 }) })
+      0 1 1 0 0) ≡ error_answer 7
   pub unload_of_none : answer (asks first 0 1 1 0 0) ≡ error_answer 3
   pub retire : pages_of (asks with_init 0 2 0 0 0) ≡ 0 ∷ []
   pub retire_twice : (asks (asks with_init 0 2 0 0 0) 0 2 0 0 0).journal.notes ≡ Retire 0 1 Success ∷ Retire 0 2 Already ∷ []

@@ -49,7 +49,8 @@ after_notes n =
 pub record TurnRows : Type 0 where
   -- ---- before the fetch
   pub interrupt : trap_facts (turn_of_hart (small 0x13 0) interrupted_hart) ≡ 0x8000000000000001 ∷ 0 ∷ 1 ∷ 0 ∷ []
-  pub interrupt_masked : at_pc (turn_of_hart (small 0x13 0) (record interrupted_hart { supervisor = record interrupted_hart.supervisor { sstatus = 0 } })) ≡ 0x80000004 ∷ 1 ∷ []
+  pub interrupt_masked : at_pc
+      (turn_of_hart (small 0x13 0) (record interrupted_hart { supervisor = record interrupted_hart.supervisor { sstatus = 0 } })) ≡ 0x80000004 ∷ 1 ∷ []
   -- ---- the fetch
   pub fetch_page_fault : trap_facts (turn_of_hart (small 0x13 0) (without_mappings (hart_in Kernel 0x80000000 plain))) ≡ trap_of 12 0x80000000
   pub fetch_outside_ram : trap_facts (turn_of_hart (small 0x13 0) (hart_in Kernel 0x90000000 plain)) ≡ trap_of 1 0x90000000
@@ -114,11 +115,13 @@ pub record TurnRows : Type 0 where
   pub store_elsewhere_leaves_it : reservation_of (turn_of_hart (small 0x00628023 0) (keeping_hart Kernel 0x80000000 0x80001000)) ≡ Some 0x2000
   -- ---- the mode that a trap came from, in SPP
   pub previous_mode_of_the_kernel : status_of (turn_of_hart (small 0x13 0) interrupted_hart) ≡ 0x120
-  pub previous_mode_of_the_user : status_of (turn_of_hart (small 0 0x73) (record (hart_in User 0x80001000 plain) { supervisor = record with_vector { sstatus = 0x102 } })) ≡ 0x20
+  pub previous_mode_of_the_user : status_of
+      (turn_of_hart (small 0 0x73) (record (hart_in User 0x80001000 plain) { supervisor = record with_vector { sstatus = 0x102 } })) ≡ 0x20
   -- ---- notes, of which the first 4,096 are kept
   pub last_note : slice_get (after_notes 4095).journal.notes 4095 ≡ Some (Demote 0 1 0x80001000 0x80001000)
   pub no_room_for_a_note : slice_get (after_notes 4096).journal.notes 4095 ≡ Some (Denied 0)
   pub max_notes_are_kept : length (after_notes 4096).journal.notes ≡ 4096
   pub note_is_counted : (after_notes 4096).journal.counts.notes ≡ 1
   -- ---- traps from user mode
-  pub trap_to_an_address_that_is_no_entry : (turn_of_hart (small 0 0) (record (hart_in User 0x80001000 plain) { supervisor = record with_vector { stvec = 0x80000104 } })).journal.counts.traps ≡ 0
+  pub trap_to_an_address_that_is_no_entry :
+      (turn_of_hart (small 0 0) (record (hart_in User 0x80001000 plain) { supervisor = record with_vector { stvec = 0x80000104 } })).journal.counts.traps ≡ 0

@@ -17,7 +17,8 @@ before_one_more parts part None = refl
 before_one_more parts part (Some more) = ap Some (append_assoc parts (part ∷ []) more)
 
 -- the step of a chain
-chain_step : (n : ℕ) (ram : List ℕ) (table size index : ℕ) (d : VirtioDescriptor) → d ≡ descriptor_at ram (table + 16 * index) → index < size → chain (suc n) ram table size index ≡ with_rest d (chain n ram table size d.next)
+chain_step : (n : ℕ) (ram : List ℕ) (table size index : ℕ) (d : VirtioDescriptor) → d ≡ descriptor_at ram (table + 16 * index) → index < size →
+    chain (suc n) ram table size index ≡ with_rest d (chain n ram table size d.next)
 unfolding chain
 chain_step n ram table size index d is below =
     let test : nat_lt index size ≡ true = grind (arith, below) in
@@ -26,14 +27,18 @@ chain_step n ram table size index d is below =
 after_place : (place : ℕ) → place < max_parts → max_parts - place ≡ suc (max_parts - (place + 1))
 after_place place below = omega (arith, below)
 
-pub chain_ends : (place : ℕ) (parts : List VirtioPart) (ram : List ℕ) (table size index : ℕ) (d : VirtioDescriptor) (whole : Option (List VirtioPart)) → place < max_parts → index < size → d ≡ descriptor_at ram (table + 16 * index) → d.is_indirect ≡ false → d.goes_on ≡ false → before parts (chain (max_parts - place) ram table size index) ≡ whole → Some (parts ++ d.part ∷ []) ≡ whole
+pub chain_ends : (place : ℕ) (parts : List VirtioPart) (ram : List ℕ) (table size index : ℕ) (d : VirtioDescriptor) (whole : Option (List VirtioPart)) → place < max_parts →
+    index < size → d ≡ descriptor_at ram (table + 16 * index) → d.is_indirect ≡ false → d.goes_on ≡ false → before parts (chain (max_parts - place) ram table size index) ≡ whole →
+    Some (parts ++ d.part ∷ []) ≡ whole
 unfolding with_rest
 chain_ends place parts ram table size index d whole below inside is direct ends chained =
     let step = chain_step (max_parts - (place + 1)) ram table size index d is inside in
     let one : chain (max_parts - place) ram table size index ≡ Some (d.part ∷ []) = rw (after_place place below, step, direct, ends) refl in
     sym (ap (before parts) one) ∙ chained
 
-pub chain_goes_on : (place : ℕ) (parts : List VirtioPart) (ram : List ℕ) (table size index : ℕ) (d : VirtioDescriptor) (whole : Option (List VirtioPart)) → place < max_parts → index < size → d ≡ descriptor_at ram (table + 16 * index) → d.is_indirect ≡ false → d.goes_on ≡ true → before parts (chain (max_parts - place) ram table size index) ≡ whole → before (parts ++ d.part ∷ []) (chain (max_parts - (place + 1)) ram table size d.next) ≡ whole
+pub chain_goes_on : (place : ℕ) (parts : List VirtioPart) (ram : List ℕ) (table size index : ℕ) (d : VirtioDescriptor) (whole : Option (List VirtioPart)) → place < max_parts →
+    index < size → d ≡ descriptor_at ram (table + 16 * index) → d.is_indirect ≡ false → d.goes_on ≡ true → before parts (chain (max_parts - place) ram table size index) ≡ whole →
+    before (parts ++ d.part ∷ []) (chain (max_parts - (place + 1)) ram table size d.next) ≡ whole
 unfolding with_rest
 chain_goes_on place parts ram table size index d whole below inside is direct goes chained =
     let step = chain_step (max_parts - (place + 1)) ram table size index d is inside in

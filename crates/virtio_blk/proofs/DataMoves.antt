@@ -1,5 +1,6 @@
 -- How the moves of a request's data go on.
-use Rattle.std.proofs.Common.{◌≡◌, ℕ, zero, suc, ◌+◌, ◌-◌, ◌%◌, ◌<◌, ◌≤◌, Bool, true, false, List, [], ◌∷◌, ◌++◌, length, take, drop, get_or, filter, refl, ◌∙◌, sym, ap, append_assoc, length-drop, arith}
+use Rattle.std.proofs.Common.{◌≡◌, ℕ, zero, suc, ◌+◌, ◌-◌, ◌%◌, ◌<◌, ◌≤◌, Bool, true, false, List, [], ◌∷◌, ◌++◌, length, take, drop}
+use Rattle.std.proofs.Common.{get_or, filter, refl, ◌∙◌, sym, ap, append_assoc, length-drop, arith}
 use Rattle.spec_processor.specs.Bytes.{page_size}
 use Rattle.std.proofs.lemmas.List.{drop_more, take_more, get_or-drop}
 use Rattle.spec_reference.specs.VirtioChain.{no_part, between}
@@ -59,7 +60,8 @@ pieces_enough (suc n) (suc m) write gpa place (suc len) a b =
     ap (λ (rest : List VirtioMove). piece write gpa place size ∷ rest)
     (pieces_enough n m write (gpa + size) (place + size) (suc len - size) (omega (arith, a, some)) (omega (arith, b, some)))
 
-pieces_first : (write : Bool) (gpa place len size : ℕ) → 0 < len → size ≡ piece_size gpa len → pieces len write gpa place len ≡ piece write gpa place size ∷ pieces (len - size) write (gpa + size) (place + size) (len - size)
+pieces_first : (write : Bool) (gpa place len size : ℕ) → 0 < len → size ≡ piece_size gpa len → pieces len write gpa place len ≡
+    piece write gpa place size ∷ pieces (len - size) write (gpa + size) (place + size) (len - size)
 unfolding pieces
 pieces_first write gpa place zero size some is = absurd (omega (arith, some))
 pieces_first write gpa place (suc n) size some is =
@@ -70,7 +72,8 @@ pieces_first write gpa place (suc n) size some is =
 -- ---- data
 
 -- the first piece of data
-pub data_moves_first : (place size : ℕ) (part : VirtioPart) (parts : List VirtioPart) → 0 < part.len → size ≡ piece_size part.gpa part.len → data_moves place (part ∷ parts) ≡ piece part.write part.gpa place size ∷ data_moves (place + size) (behind size (part ∷ parts))
+pub data_moves_first : (place size : ℕ) (part : VirtioPart) (parts : List VirtioPart) → 0 < part.len → size ≡ piece_size part.gpa part.len → data_moves place (part ∷ parts) ≡
+    piece part.write part.gpa place size ∷ data_moves (place + size) (behind size (part ∷ parts))
 unfolding data_moves
 data_moves_first place size part parts some is =
     let most : size ≤ part.len = rw is (piece_size_most part.gpa part.len) in

@@ -1,5 +1,6 @@
 -- A request that was just accepted is in its chain and on the disk.
-use Rattle.std.proofs.Common.{◌≡◌, ℕ, ◌+◌, ◌-◌, ◌*◌, ◌%◌, ◌^◌, ◌<◌, ◌≤◌, Bool, true, false, ◌&&◌, ◌||◌, ◌==◌, if◌then◌else◌, List, length, drop, replicate, get_or, refl, ◌∙◌, sym, ap, subst, length-drop, length-append, arith}
+use Rattle.std.proofs.Common.{◌≡◌, ℕ, ◌+◌, ◌-◌, ◌*◌, ◌%◌, ◌^◌, ◌<◌, ◌≤◌, Bool, true, false, ◌&&◌, ◌||◌, ◌==◌, if◌then◌else◌, List, length}
+use Rattle.std.proofs.Common.{drop, replicate, get_or, refl, ◌∙◌, sym, ap, subst, length-drop, length-append, arith}
 use Rattle.std.specs.List.{list_all}
 use Rattle.std.proofs.lemmas.Bool.Decides.{nat_tests}
 use Rattle.std.proofs.lemmas.List.{get_or-drop, get_or-take, length-replicate, length-take-le}
@@ -57,7 +58,8 @@ addresses_by ram disk_size kind sector parts k true is few small from to some =
     address_of ram (get_or parts k no_part).gpa (get_or parts k no_part).len lies some small
 addresses_by ram disk_size kind sector parts k false is few small from to some = absurd (omega (arith, from, to))
 
-pub new_placed : (ram : List ℕ) (disk_size kind head sector size used : ℕ) (parts : List VirtioPart) → 2 ≤ length parts → length parts ≤ 34 → 1 ≤ size → size ≤ 64 → used % 4 ≡ 0 → used < 2 ^ 63 → length ram < 2 ^ 62
+pub new_placed : (ram : List ℕ) (disk_size kind head sector size used : ℕ) (parts : List VirtioPart) → 2 ≤ length parts → length parts ≤ 34 → 1 ≤ size → size ≤ 64 → used % 4 ≡ 0 →
+    used < 2 ^ 63 → length ram < 2 ^ 62
     → IsPlaced (new_of head sector size used (result_by ram disk_size kind sector (data_of parts)) parts)
 new_placed ram disk_size kind head sector size used parts few most some large aligned below small =
     let result = result_by ram disk_size kind sector (data_of parts) in

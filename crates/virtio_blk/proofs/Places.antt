@@ -17,7 +17,8 @@ use Rattle.sv_types.specs.declared.virtio.VirtioResult.{VirtioResult}
 abbrev pub rest_of : VirtioRequest → List VirtioPart
 rest_of q = between q.parts (q.part + 1) (last_place q)
 
-left_first : (offset : ℕ) (q : VirtioRequest) → q.count ≤ 34 → length q.parts ≡ 34 → q.part < last_place q → behind offset (between q.parts q.part (last_place q)) ≡ behind offset (part_at q q.part ∷ rest_of q)
+left_first : (offset : ℕ) (q : VirtioRequest) → q.count ≤ 34 → length q.parts ≡ 34 → q.part < last_place q → behind offset (between q.parts q.part (last_place q)) ≡
+    behind offset (part_at q q.part ∷ rest_of q)
 left_first offset q most size before =
     let inside : q.part < length q.parts = omega (arith, size, before, most) in
     ap (behind offset) (between_first q.parts q.part (last_place q) before inside)
@@ -85,7 +86,9 @@ passed_same start q same placed before all = record {
 abbrev pub with_offset_raised : VirtioRequest → ℕ → VirtioRequest
 with_offset_raised q size = record q { offset = q.offset + size }
 
-pub moved_moves : (accepted : ℕ) (q : VirtioRequest) (n : ℕ) → IsPlaced q → q.part < last_place q → q.offset < (part_at q q.part).len → n ≡ piece_size ((part_at q q.part).gpa + q.offset) ((part_at q q.part).len - q.offset) → moves_left accepted q ≡ piece (part_at q q.part).write ((part_at q q.part).gpa + q.offset) (disk_offset q) n ∷ moves_left accepted (with_offset_raised q n)
+pub moved_moves : (accepted : ℕ) (q : VirtioRequest) (n : ℕ) → IsPlaced q → q.part < last_place q → q.offset < (part_at q q.part).len → n ≡
+    piece_size ((part_at q q.part).gpa + q.offset) ((part_at q q.part).len - q.offset) → moves_left accepted q ≡
+    piece (part_at q q.part).write ((part_at q q.part).gpa + q.offset) (disk_offset q) n ∷ moves_left accepted (with_offset_raised q n)
 unfolding moves_left
 moved_moves accepted q n placed before some is =
     let x = part_at q q.part in
@@ -94,7 +97,8 @@ moved_moves accepted q n placed before some is =
     let left : data_left q ≡ cut ∷ rest_of q = left_first q.offset q placed.most placed.parts before in
     let next : behind n (cut ∷ rest_of q) ≡ data_left (with_offset_raised q n) = after_more q.offset n (x ∷ rest_of q) ∙ sym (left_first (q.offset + n) q placed.most placed.parts before) in
     let place : disk_offset q + n ≡ disk_offset (with_offset_raised q n) = omega arith in
-    let all_data : data_moves (disk_offset q) (data_left q) ≡ piece x.write (x.gpa + q.offset) (disk_offset q) n ∷ data_moves (disk_offset (with_offset_raised q n)) (data_left (with_offset_raised q n)) =
+    let all_data : data_moves (disk_offset q) (data_left q) ≡
+    piece x.write (x.gpa + q.offset) (disk_offset q) n ∷ data_moves (disk_offset (with_offset_raised q n)) (data_left (with_offset_raised q n)) =
     ap (data_moves (disk_offset q)) left ∙ first
     ∙ ap (λ (parts : List VirtioPart). piece x.write (x.gpa + q.offset) (disk_offset q) n ∷ data_moves (disk_offset q + n) parts) next
     ∙ ap (λ (at : ℕ). piece x.write (x.gpa + q.offset) (disk_offset q) n ∷ data_moves at (data_left (with_offset_raised q n))) place in
@@ -106,7 +110,8 @@ moved_bytes q n placed before = ap bytes_in (left_first (q.offset + n) q placed.
 left_bytes : (q : VirtioRequest) → IsPlaced q → q.part < last_place q → bytes_in (data_left q) ≡ (part_at q q.part).len - q.offset + bytes_in (rest_of q)
 left_bytes q placed before = ap bytes_in (left_first q.offset q placed.most placed.parts before)
 
-pub moved_disk : (disk_size : ℕ) (q : VirtioRequest) (n : ℕ) → IsPlaced q → q.part < last_place q → n ≤ (part_at q q.part).len - q.offset → IsOnDisk disk_size q → IsOnDisk disk_size (with_offset_raised q n)
+pub moved_disk : (disk_size : ℕ) (q : VirtioRequest) (n : ℕ) → IsPlaced q → q.part < last_place q → n ≤ (part_at q q.part).len - q.offset → IsOnDisk disk_size q →
+    IsOnDisk disk_size (with_offset_raised q n)
 moved_disk disk_size q n placed before most on next =
     let new = moved_bytes q n placed before in
     let old = left_bytes q placed before in
@@ -136,7 +141,8 @@ last_moves_left accepted q end =
 abbrev pub without_data : VirtioRequest → VirtioRequest
 without_data q = record q { part = last_place q; offset = 0; result = VirtioResult.Failed }
 
-pub without_data_moves : (accepted : ℕ) (q : VirtioRequest) → filter is_last (last_left accepted q) ≡ last_left accepted q → moves_left accepted (without_data q) ≡ filter is_last (moves_left accepted q)
+pub without_data_moves : (accepted : ℕ) (q : VirtioRequest) → filter is_last (last_left accepted q) ≡ last_left accepted q → moves_left accepted (without_data q) ≡
+    filter is_last (moves_left accepted q)
 unfolding moves_left
 without_data_moves accepted q all =
     last_moves_left accepted (without_data q) refl

@@ -1,5 +1,6 @@
 -- The device as the code holds it, and what holds of it at each moment.
-use Rattle.std.specs.Prelude.{◌≡◌, ℕ, ◌+◌, ◌-◌, ◌*◌, ◌%◌, ◌^◌, ◌<◌, ◌≤◌, true, false, if◌then◌else◌, List, [], ◌∷◌, ◌++◌, length, replicate, Option, Some, None, IfSome}
+use Rattle.std.specs.Prelude.{◌≡◌, ℕ, ◌+◌, ◌-◌, ◌*◌, ◌%◌, ◌^◌, ◌<◌, ◌≤◌, true, false, if◌then◌else◌, List, [], ◌∷◌, ◌++◌, length, replicate}
+use Rattle.std.specs.Prelude.{Option, Some, None, IfSome}
 use Rattle.spec_processor.specs.Bytes.{page_size, ram_base, ram_offset}
 use Rattle.spec_reference.specs.BlockDisk.{beat_size}
 use Rattle.spec_reference.specs.VirtioDevice.{VirtioDevice, index_values, max_places}

@@ -69,7 +69,9 @@ fn new_request(
     requires header { HasHeader ram.now parts.now }
     requires most { length parts.now ≤ max_parts }
     requires head { head < index_values }
-    ensures { result ≡ new_of head (sector_of ram.now parts.now) size used (result_by ram.now disk_size (type_of ram.now parts.now) (sector_of ram.now parts.now) (data_of parts.now)) parts.now }
+    ensures { result ≡
+        new_of head (sector_of ram.now parts.now) size used (result_by ram.now disk_size (type_of ram.now parts.now) (sector_of ram.now parts.now)
+        (data_of parts.now)) parts.now }
 {
     let last = parts.len() - 1;
     let header = ram_offset(parts[0].gpa) as usize;
@@ -112,7 +114,13 @@ fn next_request(
     requires aligned { used % used_alignment ≡ 0 }
     requires used { used < 2 ^ 63 }
     requires small { length ram.now < 2 ^ 62 }
-    ensures request { (accepted : ℕ) → request_of accepted result ≡ record { moves = moves_by (result_by ram.now disk_size (type_of ram.now parts.now) (sector_of ram.now parts.now) (data_of parts.now)) (sector_of ram.now parts.now) (data_of parts.now) ++ last_moves (result_of parts.now).gpa used size head accepted; result = result_by ram.now disk_size (type_of ram.now parts.now) (sector_of ram.now parts.now) (data_of parts.now); written = 0 } }
+    ensures request { (accepted : ℕ) → request_of accepted result ≡
+        record {
+          moves = moves_by (result_by ram.now disk_size (type_of ram.now parts.now) (sector_of ram.now parts.now) (data_of parts.now))
+              (sector_of ram.now parts.now) (data_of parts.now) ++ last_moves (result_of parts.now).gpa used size head accepted;
+          result = result_by ram.now disk_size (type_of ram.now parts.now) (sector_of ram.now parts.now) (data_of parts.now);
+          written = 0;
+        } }
     ensures placed { IsPlaced result }
     ensures on_disk { IsOnDisk disk_size result }
 {
@@ -202,9 +210,14 @@ impl Virtio {
         requires ready { self.old.state.ready ≡ true }
         requires rings { HaveRings (device_of self.old) ram.now }
         requires small { length ram.now < 2 ^ 62 }
-        ensures device { device_of self.new ≡ (accept (device_of self.old) ram.now head (chain max_parts ram.now (ram_offset self.old.state.descriptors) self.old.state.size head)).device }
-        ensures told { result ≡ beat_of (accept (device_of self.old) ram.now head (chain max_parts ram.now (ram_offset self.old.state.descriptors) self.old.state.size head)).move }
-        ensures still { (region : Region) → after_move region (accept (device_of self.old) ram.now head (chain max_parts ram.now (ram_offset self.old.state.descriptors) self.old.state.size head)).move ≡ region }
+        ensures device { device_of self.new ≡
+            (accept (device_of self.old) ram.now head (chain max_parts ram.now (ram_offset self.old.state.descriptors) self.old.state.size head)).device }
+        ensures told { result ≡
+            beat_of (accept (device_of self.old) ram.now head (chain max_parts ram.now (ram_offset self.old.state.descriptors) self.old.state.size head)).move }
+        ensures still { (region : Region) →
+            after_move region
+            (accept (device_of self.old) ram.now head (chain max_parts ram.now (ram_offset self.old.state.descriptors) self.old.state.size
+            head)).move ≡ region }
     {
         let table = ram_offset(self.state.descriptors) as usize;
         let Some(parts) = read_chain(ram, table, self.state.size as u64, head) else {

@@ -7,7 +7,8 @@ ghost use Rattle.spec_reference.specs.BlockDisk.{beat_size};
 ghost use Rattle.spec_reference.specs.Disk.{is_writable};
 ghost use Rattle.spec_reference.specs.Move.{OutsideRam};
 ghost use Rattle.dma_guard.specs.Transfers.{beat_of, after_move};
-ghost use Rattle.spec_reference.specs.VirtioBeats.{broken_beat, last_moves_alone, with_written, with_request, finish_request, is_last, make, make_first, to_memory, to_disk, put_last, is_live, virtio_beat};
+ghost use Rattle.spec_reference.specs.VirtioBeats.{broken_beat, last_moves_alone, with_written, with_request, finish_request, is_last};
+ghost use Rattle.spec_reference.specs.VirtioBeats.{make, make_first, to_memory, to_disk, put_last, is_live, virtio_beat};
 ghost use Rattle.spec_reference.specs.VirtioStates.{request_of, moves_left};
 ghost use Rattle.virtio_blk.specs.Held.{IsPlaced, IsOnDisk, CanBeMade, device_of};
 
@@ -137,9 +138,13 @@ impl Virtio {
         requires placed { IsPlaced request.now }
         requires on_disk { IsOnDisk (length self.old.bytes) request.now }
         requires first { request.now.tail ≡ 0 }
-        ensures device { device_of self.new ≡ (to_memory (device_of self.old) (request_of self.old.state.accepted request.now) gpa place size mem.old.ram (is_writable guard.now)).device }
-        ensures told { result ≡ beat_of (to_memory (device_of self.old) (request_of self.old.state.accepted request.now) gpa place size mem.old.ram (is_writable guard.now)).move }
-        ensures memory { mem.new ≡ after_move mem.old (to_memory (device_of self.old) (request_of self.old.state.accepted request.now) gpa place size mem.old.ram (is_writable guard.now)).move }
+        ensures device { device_of self.new ≡
+            (to_memory (device_of self.old) (request_of self.old.state.accepted request.now) gpa place size mem.old.ram (is_writable guard.now)).device }
+        ensures told { result ≡
+            beat_of (to_memory (device_of self.old) (request_of self.old.state.accepted request.now) gpa place size mem.old.ram (is_writable guard.now)).move }
+        ensures memory { mem.new ≡
+            after_move mem.old (to_memory (device_of self.old) (request_of self.old.state.accepted request.now) gpa place size mem.old.ram
+            (is_writable guard.now)).move }
     {
         let from = place as usize;
         match guard.write(mem, gpa, &self.bytes[from..from + size as usize]) {
@@ -175,9 +180,15 @@ impl Virtio {
         requires one_page { gpa % page_size + length bytes.now ≤ page_size }
         requires placed { IsPlaced request.now }
         requires on_disk { IsOnDisk (length self.old.bytes) request.now }
-        ensures device { device_of self.new ≡ (put_last (device_of self.old) (with_request (device_of self.old) (request_of self.old.state.accepted request.now)) gpa bytes.now mem.old.ram (is_writable guard.now)).device }
-        ensures told { result ≡ beat_of (put_last (device_of self.old) (with_request (device_of self.old) (request_of self.old.state.accepted request.now)) gpa bytes.now mem.old.ram (is_writable guard.now)).move }
-        ensures memory { mem.new ≡ after_move mem.old (put_last (device_of self.old) (with_request (device_of self.old) (request_of self.old.state.accepted request.now)) gpa bytes.now mem.old.ram (is_writable guard.now)).move }
+        ensures device { device_of self.new ≡
+            (put_last (device_of self.old) (with_request (device_of self.old) (request_of self.old.state.accepted request.now)) gpa bytes.now
+            mem.old.ram (is_writable guard.now)).device }
+        ensures told { result ≡
+            beat_of (put_last (device_of self.old) (with_request (device_of self.old) (request_of self.old.state.accepted request.now)) gpa bytes.now
+            mem.old.ram (is_writable guard.now)).move }
+        ensures memory { mem.new ≡
+            after_move mem.old (put_last (device_of self.old) (with_request (device_of self.old) (request_of self.old.state.accepted request.now))
+            gpa bytes.now mem.old.ram (is_writable guard.now)).move }
     {
         match guard.write(mem, gpa, bytes) {
             Ok(()) => {
@@ -208,9 +219,12 @@ impl Virtio {
         mem: &mut HostMem,
     ) -> DmaStep
         requires one_page { gpa % page_size + ring_index_size ≤ page_size }
-        ensures device { device_of self.new ≡ (put_last (device_of self.old) (finish_request (device_of self.old)) gpa bytes.now mem.old.ram (is_writable guard.now)).device }
-        ensures told { result ≡ beat_of (put_last (device_of self.old) (finish_request (device_of self.old)) gpa bytes.now mem.old.ram (is_writable guard.now)).move }
-        ensures memory { mem.new ≡ after_move mem.old (put_last (device_of self.old) (finish_request (device_of self.old)) gpa bytes.now mem.old.ram (is_writable guard.now)).move }
+        ensures device { device_of self.new ≡
+            (put_last (device_of self.old) (finish_request (device_of self.old)) gpa bytes.now mem.old.ram (is_writable guard.now)).device }
+        ensures told { result ≡
+            beat_of (put_last (device_of self.old) (finish_request (device_of self.old)) gpa bytes.now mem.old.ram (is_writable guard.now)).move }
+        ensures memory { mem.new ≡
+            after_move mem.old (put_last (device_of self.old) (finish_request (device_of self.old)) gpa bytes.now mem.old.ram (is_writable guard.now)).move }
     {
         match guard.write(mem, gpa, bytes) {
             Ok(()) => {
@@ -253,9 +267,11 @@ impl Virtio {
         requires inside { place + size ≤ length self.old.bytes }
         requires placed { IsPlaced request.now }
         requires on_disk { IsOnDisk (length self.old.bytes) request.now }
-        ensures device { device_of self.new ≡ (to_disk (device_of self.old) (request_of self.old.state.accepted request.now) gpa place size mem.now.ram).device }
+        ensures device { device_of self.new ≡
+            (to_disk (device_of self.old) (request_of self.old.state.accepted request.now) gpa place size mem.now.ram).device }
         ensures told { result ≡ beat_of (to_disk (device_of self.old) (request_of self.old.state.accepted request.now) gpa place size mem.now.ram).move }
-        ensures memory { after_move mem.now (to_disk (device_of self.old) (request_of self.old.state.accepted request.now) gpa place size mem.now.ram).move ≡ mem.now }
+        ensures memory { after_move mem.now (to_disk (device_of self.old) (request_of self.old.state.accepted request.now) gpa place size
+            mem.now.ram).move ≡ mem.now }
     {
         let ram = mem.ram();
         if !lies_in_ram(ram, gpa, size) {
@@ -281,9 +297,12 @@ impl Virtio {
         requires on_disk { IsOnDisk (length self.old.bytes) request.now }
         requires made { CanBeMade (length self.old.bytes) next }
         requires data_first { is_last next ≡ false → request.now.tail ≡ 0 }
-        ensures device { device_of self.new ≡ (make (device_of self.old) (request_of self.old.state.accepted request.now) next mem.old.ram (is_writable guard.now)).device }
-        ensures told { result ≡ beat_of (make (device_of self.old) (request_of self.old.state.accepted request.now) next mem.old.ram (is_writable guard.now)).move }
-        ensures memory { mem.new ≡ after_move mem.old (make (device_of self.old) (request_of self.old.state.accepted request.now) next mem.old.ram (is_writable guard.now)).move }
+        ensures device { device_of self.new ≡
+            (make (device_of self.old) (request_of self.old.state.accepted request.now) next mem.old.ram (is_writable guard.now)).device }
+        ensures told { result ≡
+            beat_of (make (device_of self.old) (request_of self.old.state.accepted request.now) next mem.old.ram (is_writable guard.now)).move }
+        ensures memory { mem.new ≡
+            after_move mem.old (make (device_of self.old) (request_of self.old.state.accepted request.now) next mem.old.ram (is_writable guard.now)).move }
     {
         match next {
             VirtioMove::ToMemory { gpa, place, size } => {
@@ -313,9 +332,15 @@ impl Virtio {
         requires on_disk { IsOnDisk (length self.old.bytes) request }
         requires fits { IsOnDisk (2 ^ 63) request }
         requires under_way { self.old.state.request ≡ Some request }
-        ensures device { device_of self.new ≡ (make_first (device_of self.old) (request_of self.old.state.accepted request) (moves_left self.old.state.accepted request) mem.old.ram (is_writable guard.now)).device }
-        ensures told { result ≡ beat_of (make_first (device_of self.old) (request_of self.old.state.accepted request) (moves_left self.old.state.accepted request) mem.old.ram (is_writable guard.now)).move }
-        ensures memory { mem.new ≡ after_move mem.old (make_first (device_of self.old) (request_of self.old.state.accepted request) (moves_left self.old.state.accepted request) mem.old.ram (is_writable guard.now)).move }
+        ensures device { device_of self.new ≡
+            (make_first (device_of self.old) (request_of self.old.state.accepted request) (moves_left self.old.state.accepted request) mem.old.ram
+            (is_writable guard.now)).device }
+        ensures told { result ≡
+            beat_of (make_first (device_of self.old) (request_of self.old.state.accepted request) (moves_left self.old.state.accepted request)
+            mem.old.ram (is_writable guard.now)).move }
+        ensures memory { mem.new ≡
+            after_move mem.old (make_first (device_of self.old) (request_of self.old.state.accepted request)
+            (moves_left self.old.state.accepted request) mem.old.ram (is_writable guard.now)).move }
     {
         let Some(next) = take_move(&mut request, self.state.accepted) else {
             return DmaStep::Idle;

@@ -4,7 +4,8 @@ ghost use Rattle.std.specs.Prelude.{◌≡◌, ◌+◌, ◌-◌, ◌*◌, ◌/�
 ghost use Rattle.spec_reference.specs.BlockDisk.{sector_size};
 ghost use Rattle.spec_reference.specs.VirtioDevice.{is_broken, is_selected};
 ghost use Rattle.spec_reference.specs.VirtioRegisters.{register_value};
-ghost use Rattle.spec_reference.specs.VirtioStores.{reset, with_features, kept_status, with_status, can_set, can_be_used, with_ready, with_size, with_descriptors, with_available, with_used, with_low, with_high, put};
+ghost use Rattle.spec_reference.specs.VirtioStores.{reset, with_features, kept_status, with_status, can_set, can_be_used, with_ready};
+ghost use Rattle.spec_reference.specs.VirtioStores.{with_size, with_descriptors, with_available, with_used, with_low, with_high, put};
 ghost use Rattle.virtio_blk.specs.Held.{device_of, state_at_reset};
 
 use crate::Virtio;

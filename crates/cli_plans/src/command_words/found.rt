@@ -1,8 +1,12 @@
 // What `clap` found under the names of a command's words.
 ghost use Rattle.std.specs.Prelude.{◌≡◌, IfOk, IsTrue, is_some, map};
 ghost use Rattle.clap.specs.Words.{found_of, first_of, rows_of};
-ghost use Rattle.cli_plans.specs.Parsing.{HasWords, word_of, flat_wants, gen_wants, run_wants, survey_wants, live_wants, snap_wants, sweep_wants, resume_wants, show_wants, measure_wants, convert_wants, flat_found, gen_found, run_found, survey_found, live_found, snap_found, sweep_found, resume_found, show_found, measure_found, modules_found, convert_found};
-ghost use Rattle.cli_plans.specs.Values.{flat_split_of, run_split_of, survey_split_of, live_split_of, snap_split_of, sweep_split_of, resume_split_of, measure_split_of, convert_split_of};
+ghost use Rattle.cli_plans.specs.Parsing.{HasWords, word_of, flat_wants, gen_wants, run_wants, survey_wants, live_wants, snap_wants};
+ghost use Rattle.cli_plans.specs.Parsing.{sweep_wants, resume_wants, show_wants, measure_wants, convert_wants, flat_found, gen_found};
+ghost use Rattle.cli_plans.specs.Parsing.{run_found, survey_found, live_found, snap_found, sweep_found, resume_found, show_found};
+ghost use Rattle.cli_plans.specs.Parsing.{measure_found, modules_found, convert_found};
+ghost use Rattle.cli_plans.specs.Values.{flat_split_of, run_split_of, survey_split_of, live_split_of, snap_split_of, sweep_split_of};
+ghost use Rattle.cli_plans.specs.Values.{resume_split_of, measure_split_of, convert_split_of};
 
 use crate::command_words::command::{
     ConvertWords, DiskKind, FlatWords, LiveWords, MeasureWords, ResumeWords, RunWords, SnapWords,

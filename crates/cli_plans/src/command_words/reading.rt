@@ -4,9 +4,11 @@ ghost use Rattle.std.specs.Prelude.{◌≡◌, IfOk, IsTrue, Some, false, map, s
 ghost use Rattle.std.specs.List.{list_any};
 ghost use Rattle.std.specs.Option.{is_some};
 ghost use Rattle.clap.specs.Words.{found_of, rows_of};
-ghost use Rattle.cli_plans.specs.Commands.{has_dash, flat_split, gen_split, run_split, survey_split, live_split, snap_split, sweep_split, resume_split, show_split, measure_split, convert_split};
+ghost use Rattle.cli_plans.specs.Commands.{has_dash, flat_split, gen_split, run_split, survey_split, live_split, snap_split, sweep_split};
+ghost use Rattle.cli_plans.specs.Commands.{resume_split, show_split, measure_split, convert_split};
 ghost use Rattle.cli_plans.specs.Parsing.{Finds, HasWords, IsKnown, wants_of};
-ghost use Rattle.cli_plans.specs.Values.{flat_split_of, run_split_of, survey_split_of, live_split_of, snap_split_of, sweep_split_of, resume_split_of, measure_split_of, convert_split_of};
+ghost use Rattle.cli_plans.specs.Values.{flat_split_of, run_split_of, survey_split_of, live_split_of, snap_split_of, sweep_split_of};
+ghost use Rattle.cli_plans.specs.Values.{resume_split_of, measure_split_of, convert_split_of};
 
 use crate::command_words::command::{
     ConvertWords, DiskKind, FlatWords, LiveWords, MeasureWords, ResumeWords, RunWords, SnapWords,

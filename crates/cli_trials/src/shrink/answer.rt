@@ -46,11 +46,13 @@ pub fn secvisor_shrink<R: Threads + Sync, F: Files, O: Sink>(
     // For every file and all words: where the reference machine's run stops, the script that is saved reads, and the reference
     // machine's run over its events stops by the same rule, at the same addresses; else nothing is saved; and the line and the
     // status are those of what was made, or of the first refusal.
-    ensures headline { ShrinkHeadline (shrink_judged (map string_bytes words.now)) (F.state files.old) (F.state files.new) (O.state out.old) (O.state out.new) result }
+    ensures headline { ShrinkHeadline (shrink_judged (map string_bytes words.now)) (F.state files.old) (F.state files.new) (O.state out.old)
+        (O.state out.new) result }
 
     // A read fault is answered only where the files tell that a name of the words isn't held, or the count of reads rose.
     ensures read_fault { result ≡ Status.ReadFault →
-        (IsTrue (F.state files.old).tells × ((name : List ℕ) × IsNamed (snap_plan (shrink_judged (map string_bytes words.now))) name × ((F.state files.old).held name ≡ None)))
+        (IsTrue (F.state files.old).tells ×
+        ((name : List ℕ) × IsNamed (snap_plan (shrink_judged (map string_bytes words.now))) name × ((F.state files.old).held name ≡ None)))
         ⊎ ((F.state files.old).read_faults < (F.state files.new).read_faults) }
 
     // The counts of faults never fall, and words that are refused read no file.
@@ -60,7 +62,8 @@ pub fn secvisor_shrink<R: Threads + Sync, F: Files, O: Sink>(
     ensures unread { is_ok (shrink_judged (map string_bytes words.now)) ≡ false → F.state files.new ≡ F.state files.old }
 
     // No name changes but the one that the script is saved under.
-    ensures held { (name : List ℕ) → name ≢ out_of (shrink_judged (map string_bytes words.now)) → (F.state files.new).held name ≡ (F.state files.old).held name }
+    ensures held { (name : List ℕ) → name ≢ out_of (shrink_judged (map string_bytes words.now)) → (F.state files.new).held name ≡
+        (F.state files.old).held name }
 {
     status_of_end(answer(rt, alloc, words, files, out))
 }
@@ -126,7 +129,8 @@ fn shrink_parts<R: Threads + Sync, F: Files, O: Sink>(
     requires saves { CanCount (F.state files.old).save_faults }
     ensures { (rules : Rules) → rules_of_text parts.now.policy.items ≡ Ok rules →
         Wants (F.state files.old) (F.state files.new) (O.state out.old) (O.state out.new) result
-        ⊎ AnswersRun (boot_start rules parts.now.image.items parts.now.disk.items) (first_events asked.now.run.events (order_schedule rules.harts parts.now.order))
+        ⊎ AnswersRun (boot_start rules parts.now.image.items parts.now.disk.items)
+        (first_events asked.now.run.events (order_schedule rules.harts parts.now.order))
         asked.now.run.events asked.now.out.now (F.state files.old) (F.state files.new) (O.state out.old) (O.state out.new) result }
 {
     let order = parts.order.order();

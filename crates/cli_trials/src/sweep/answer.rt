@@ -44,11 +44,13 @@ pub fn secvisor_sweep<R: Threads + Sync, F: Files, O: Sink, P: Progress + Sync>(
 
     // For every file and all words, what is written and the status are those of the reference machine's runs, one for each number,
     // whatever the threads; or those of the first refusal.
-    ensures headline { SweepHeadline (sweep_judged (map string_bytes words.now)) (F.state files.old) (F.state files.new) (O.state out.old) (O.state out.new) result }
+    ensures headline { SweepHeadline (sweep_judged (map string_bytes words.now)) (F.state files.old) (F.state files.new) (O.state out.old)
+        (O.state out.new) result }
 
     // A read fault is answered only where the files tell that a name of the words isn't held, or the count of reads rose.
     ensures read_fault { result ≡ Status.ReadFault →
-        (IsTrue (F.state files.old).tells × ((name : List ℕ) × IsNamed (sweep_plan (sweep_judged (map string_bytes words.now))) name × ((F.state files.old).held name ≡ None)))
+        (IsTrue (F.state files.old).tells ×
+        ((name : List ℕ) × IsNamed (sweep_plan (sweep_judged (map string_bytes words.now))) name × ((F.state files.old).held name ≡ None)))
         ⊎ ((F.state files.old).read_faults < (F.state files.new).read_faults) }
 
     // No file changes, nothing is saved, words that are refused read no file, and the counts of faults never fall.

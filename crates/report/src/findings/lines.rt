@@ -230,7 +230,9 @@ fn push_denied_lines(
 
 /// The lines of a survey's findings. First those of the writes that it passed over, in the order of their first turns: of each pc how
 /// often it wrote, the first hart and turn, the lowest and highest address, and the names of the pc and of the lowest address, or a
-/// dash, and then how many writes there were in all, where there were any. Then by the notes those of the pages at which kernel mode was left, with the first hart, turn and pc, of the modules whose loads were refused for their text, and of the pages that
+/// dash, and then how many writes there were in all, where there were any. Then by the notes those of the pages at
+/// which kernel mode was left, with the first hart, turn and pc, of the modules whose loads were refused for their
+/// text, and of the pages that
 /// devices were kept from. Fails where memory runs out.
 #[tactic(auto, unfolding(crate::specs::Lines::survey_lines))]
 pub fn survey_lines(

@@ -19,4 +19,11 @@ returns-in-111 c = row_opcode c.args.word table.jal c.jal.result 111 c.jal.ensur
 
 pub returns-in_default : goal.returns-in_default
 unfolding rows
-returns-in_default c = sym (missing c.args.word 0 (0) 0 7 (0x37 ∷ 0x17 ∷ 0x6f ∷ 0x67 ∷ 0x63 ∷ 3 ∷ 0x23 ∷ 0x13 ∷ 0x1b ∷ 0x33 ∷ 0x3b ∷ 0xf ∷ 0x2f ∷ 0x73 ∷ []) (mask_none c.args.word) (omega arith, (omega arith, (omega arith, (omega arith, (omega arith, (omega arith, (omega arith, (omega arith, (omega arith, (omega arith, (omega arith, (omega arith, (omega arith, (omega arith, tt)))))))))))))) refl)
+returns-in_default c = sym (missing c.args.word 0 (0) 0 7 (0x37 ∷ 0x17 ∷ 0x6f ∷ 0x67 ∷ 0x63 ∷ 3 ∷ 0x23 ∷ 0x13 ∷ 0x1b ∷ 0x33 ∷ 0x3b ∷ 0xf ∷ 0x2f ∷ 0x73 ∷ [])
+    (mask_none c.args.word) (
+      omega arith,
+      (
+        omega arith,
+        (omega arith, (omega arith, (omega arith, (omega arith, (omega arith, (omega arith, (omega arith, (omega arith, (omega arith, (omega arith, (omega arith, (omega arith, tt)))))))))))),
+      ),
+    ) refl)

@@ -35,7 +35,8 @@ fn whole_range(segment: &Segment, pages: usize) -> PageRange
 fn claim_page(owners: &mut [usize], page: usize, number: usize)
     requires inside { page < length owners.old }
     ensures size { length owners.new ≡ length owners.old }
-    ensures owners { (other : ℕ) → slice_index owners.new other ≡ (if other == page && slice_index owners.old page == 0 then number else slice_index owners.old other) }
+    ensures owners { (other : ℕ) → slice_index owners.new other ≡
+        (if other == page && slice_index owners.old page == 0 then number else slice_index owners.old other) }
 {
     if owners[page] == 0 {
         owners[page] = number;
@@ -50,7 +51,8 @@ fn claim_pages(owners: &mut [usize], skips: &mut [usize], segment: &Segment, num
     requires skips { length skips.old ≡ length owners.old }
     requires owned { SkipsOwned owners.old skips.old }
     ensures size { length owners.new ≡ length owners.old }
-    ensures owners { (page : ℕ) → page < length owners.old → slice_index owners.new page ≡ (if slice_index owners.old page == 0 && covers page (segment_of segment.now) then number else slice_index owners.old page) }
+    ensures owners { (page : ℕ) → page < length owners.old → slice_index owners.new page ≡
+        (if slice_index owners.old page == 0 && covers page (segment_of segment.now) then number else slice_index owners.old page) }
     ensures skips { length skips.new ≡ length skips.old }
     ensures owned { SkipsOwned owners.new skips.new }
 {
@@ -71,7 +73,8 @@ fn claim_all(owners: &mut [usize], skips: &mut [usize], segments: &[Segment])
     requires skips { length skips.old ≡ length owners.old }
     requires owned { SkipsOwned owners.old skips.old }
     ensures size { length owners.new ≡ length owners.old }
-    ensures owners { (page : ℕ) → page < length owners.old → IsLastWhole (map segment_of segments.now) (length segments.now) page (slice_index owners.new page) }
+    ensures owners { (page : ℕ) → page < length owners.old →
+        IsLastWhole (map segment_of segments.now) (length segments.now) page (slice_index owners.new page) }
 {
     'segments: for i in (0..segments.len()).rev() {
         claim_pages(owners, skips, &segments[i], i + 1);
@@ -93,7 +96,8 @@ pub fn last_owners(
 ) -> Result<Vec<usize>, AllocError>
     requires { pages ≤ max_ram_pages }
     ensures pages { IfOk result (λ owners. length owners.items ≡ pages) }
-    ensures owners { IfOk result (λ owners. (page : ℕ) → page < pages → IsLastWhole (map segment_of segments.now) (length segments.now) page (slice_index owners.items page)) }
+    ensures owners { IfOk result (λ owners. (page : ℕ) → page < pages →
+        IsLastWhole (map segment_of segments.now) (length segments.now) page (slice_index owners.items page)) }
 {
     let mut owners = zeros(alloc, pages)?;
     let mut skips = zeros(alloc, pages)?;

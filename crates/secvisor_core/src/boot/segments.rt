@@ -2,7 +2,8 @@
 // from the later ones that begin or end in it, so that segments over one another aren't each written.
 
 ghost use Rattle.std.specs.List.{All};
-ghost use Rattle.std.specs.Prelude.{◌≡◌, ℕ, ◌+◌, ◌-◌, ◌*◌, ◌/◌, ◌<◌, ◌≤◌, ◌==◌, ◌&&◌, false, nat_le, nat_lt, map, length, replicate, slice_index, slice_index_or, if◌then◌else◌, OnErr, OnOk};
+ghost use Rattle.std.specs.Prelude.{◌≡◌, ℕ, ◌+◌, ◌-◌, ◌*◌, ◌/◌, ◌<◌, ◌≤◌, ◌==◌, ◌&&◌, false, nat_le, nat_lt, map, length, replicate};
+ghost use Rattle.std.specs.Prelude.{slice_index, slice_index_or, if◌then◌else◌, OnErr, OnOk};
 ghost use Rattle.spec_processor.specs.Bytes.{page_size, overwrite, with_padding, part, ram_offset};
 ghost use Rattle.sv_types.specs.Kernel.{segments_ram};
 ghost use Rattle.spec_processor.specs.Regions.{max_ram_pages};
@@ -44,7 +45,8 @@ fn put_piece(mem: &mut HostMem, segment: &Segment, page: usize, zeros: &Zeros)
     requires placed { IsPlaced (length mem.old.ram) (segment_of segment.now) }
     requires page { page_size * page + page_size ≤ length mem.old.ram }
     requires few { length mem.old.ram ≤ page_size * max_ram_pages }
-    ensures bytes { (at : ℕ) → slice_index_or mem.new.ram at 0 ≡ (if at / page_size == page && has_byte (segment_of segment.now) at then byte_of (segment_of segment.now) at else slice_index_or mem.old.ram at 0) }
+    ensures bytes { (at : ℕ) → slice_index_or mem.new.ram at 0 ≡
+        (if at / page_size == page && has_byte (segment_of segment.now) at then byte_of (segment_of segment.now) at else slice_index_or mem.old.ram at 0) }
     ensures shape { KeepsShape mem.old mem.new }
 {
     let place = ram_offset(segment.gpa) as usize;
@@ -90,7 +92,9 @@ fn put_owner(mem: &mut HostMem, segments: &[Segment], owner: usize, page: usize,
     requires owner { owner ≤ length segments.now }
     requires page { page_size * page + page_size ≤ length mem.old.ram }
     requires few { length mem.old.ram ≤ page_size * max_ram_pages }
-    ensures bytes { (at : ℕ) → slice_index_or mem.new.ram at 0 ≡ (if nat_lt 0 owner && (at / page_size == page && has_byte (segment_at (map segment_of segments.now) (owner - 1)) at) then byte_of (segment_at (map segment_of segments.now) (owner - 1)) at else slice_index_or mem.old.ram at 0) }
+    ensures bytes { (at : ℕ) → slice_index_or mem.new.ram at 0 ≡
+        (if nat_lt 0 owner && (at / page_size == page && has_byte (segment_at (map segment_of segments.now) (owner - 1)) at) then
+        byte_of (segment_at (map segment_of segments.now) (owner - 1)) at else slice_index_or mem.old.ram at 0) }
     ensures shape { KeepsShape mem.old mem.new }
 {
     if owner > 0 {
@@ -104,8 +108,10 @@ fn put_owned(mem: &mut HostMem, segments: &[Segment], owners: &[usize], zeros: &
     requires placed { All (IsPlaced (length mem.old.ram)) (map segment_of segments.now) }
     requires few { length owners.now ≤ max_ram_pages }
     requires blank { (at : ℕ) → slice_index_or mem.old.ram at 0 ≡ 0 }
-    requires owners { (page : ℕ) → page < length owners.now → IsLastWhole (map segment_of segments.now) (length segments.now) page (slice_index owners.now page) }
-    ensures bytes { (at : ℕ) → at < length mem.old.ram → slice_index_or mem.new.ram at 0 ≡ loaded_byte (length mem.old.ram) (map segment_of segments.now) (slice_index owners.now (at / page_size)) at }
+    requires owners { (page : ℕ) → page < length owners.now →
+        IsLastWhole (map segment_of segments.now) (length segments.now) page (slice_index owners.now page) }
+    ensures bytes { (at : ℕ) → at < length mem.old.ram → slice_index_or mem.new.ram at 0 ≡
+        loaded_byte (length mem.old.ram) (map segment_of segments.now) (slice_index owners.now (at / page_size)) at }
     ensures shape { KeepsShape mem.old mem.new }
 {
     'pages: for page in 0..owners.len() {
@@ -118,7 +124,9 @@ fn put_due(is_due: bool, mem: &mut HostMem, segment: &Segment, page: usize, zero
     requires placed { IsPlaced (length mem.old.ram) (segment_of segment.now) }
     requires page { page_size * page + page_size ≤ length mem.old.ram }
     requires few { length mem.old.ram ≤ page_size * max_ram_pages }
-    ensures bytes { (at : ℕ) → slice_index_or mem.new.ram at 0 ≡ (if is_due && (at / page_size == page && has_byte (segment_of segment.now) at) then byte_of (segment_of segment.now) at else slice_index_or mem.old.ram at 0) }
+    ensures bytes { (at : ℕ) → slice_index_or mem.new.ram at 0 ≡
+        (if is_due && (at / page_size == page && has_byte (segment_of segment.now) at) then byte_of (segment_of segment.now) at else
+        slice_index_or mem.old.ram at 0) }
     ensures shape { KeepsShape mem.old mem.new }
 {
     if is_due {
@@ -132,7 +140,9 @@ fn put_edge(mem: &mut HostMem, segment: &Segment, number: usize, owners: &[usize
     requires placed { IsPlaced (length mem.old.ram) (segment_of segment.now) }
     requires few { length owners.now ≤ max_ram_pages }
     requires whole { (page : ℕ) → page < length owners.now → slice_index owners.now page ≤ number → covers page (segment_of segment.now) ≡ false }
-    ensures bytes { (at : ℕ) → slice_index_or mem.new.ram at 0 ≡ (if nat_le (slice_index owners.now (at / page_size)) number && has_byte (segment_of segment.now) at then byte_of (segment_of segment.now) at else slice_index_or mem.old.ram at 0) }
+    ensures bytes { (at : ℕ) → slice_index_or mem.new.ram at 0 ≡
+        (if nat_le (slice_index owners.now (at / page_size)) number && has_byte (segment_of segment.now) at then
+        byte_of (segment_of segment.now) at else slice_index_or mem.old.ram at 0) }
     ensures shape { KeepsShape mem.old mem.new }
 {
     if segment.memory == 0 {
@@ -150,9 +160,12 @@ fn put_edges(mem: &mut HostMem, segments: &[Segment], owners: &[usize], zeros: &
     requires ram { length mem.old.ram ≡ page_size * length owners.now }
     requires placed { All (IsPlaced (length mem.old.ram)) (map segment_of segments.now) }
     requires few { length owners.now ≤ max_ram_pages }
-    requires owners { (page : ℕ) → page < length owners.now → IsLastWhole (map segment_of segments.now) (length segments.now) page (slice_index owners.now page) }
-    requires bytes { (at : ℕ) → at < length mem.old.ram → slice_index_or mem.old.ram at 0 ≡ loaded_byte (length mem.old.ram) (map segment_of segments.now) (slice_index owners.now (at / page_size)) at }
-    ensures bytes { (at : ℕ) → at < length mem.old.ram → slice_index_or mem.new.ram at 0 ≡ loaded_byte (length mem.old.ram) (map segment_of segments.now) (length segments.now) at }
+    requires owners { (page : ℕ) → page < length owners.now →
+        IsLastWhole (map segment_of segments.now) (length segments.now) page (slice_index owners.now page) }
+    requires bytes { (at : ℕ) → at < length mem.old.ram → slice_index_or mem.old.ram at 0 ≡
+        loaded_byte (length mem.old.ram) (map segment_of segments.now) (slice_index owners.now (at / page_size)) at }
+    ensures bytes { (at : ℕ) → at < length mem.old.ram → slice_index_or mem.new.ram at 0 ≡
+        loaded_byte (length mem.old.ram) (map segment_of segments.now) (length segments.now) at }
     ensures shape { KeepsShape mem.old mem.new }
 {
     'segments: for i in 0..segments.len() {

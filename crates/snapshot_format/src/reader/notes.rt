@@ -2,7 +2,8 @@
 
 ghost use Rattle.std.specs.Prelude.{◌≡◌, [], Some, None, if◌then◌else◌};
 ghost use Rattle.snapshot_format.specs.Forms.{list_form};
-ghost use Rattle.snapshot_format.specs.JournalForms.{answer, code, codes_known, demote_form, denied_note, found_among, is_among, load_note, note_form, note_after, notes, retire, unload};
+ghost use Rattle.snapshot_format.specs.JournalForms.{answer, code, codes_known, demote_form, denied_note, found_among, is_among, load_note};
+ghost use Rattle.snapshot_format.specs.JournalForms.{note_form, note_after, notes, retire, unload};
 ghost use Rattle.snapshot_format.specs.Reading.{Gives, Reads};
 
 use crate::SnapRefusal;

@@ -46,7 +46,8 @@ fn are_good<R: Threads + Sync>(
     requires within { IsTrue (rules_within (rules_of policy.now)) }
     requires fitting { list_all (fits (rules_of policy.now)) modules.now ≡ true }
     requires ram { length ram.now ≡ page_size * policy.now.ram_pages }
-    ensures { IfOk result (λ good. good ≡ list_all (λ m. is_good_load (rules_of policy.now) ram.now m (slice_get (rules_of policy.now).modules m.id)) modules.now) }
+    ensures { IfOk result (λ good. good ≡
+        list_all (λ m. is_good_load (rules_of policy.now) ram.now m (slice_get (rules_of policy.now).modules m.id)) modules.now) }
 {
     'modules: for about in modules {
         if !is_good_load(rt, alloc, policy, ram, about)? {

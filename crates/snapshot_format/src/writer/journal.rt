@@ -13,7 +13,8 @@ use std::alloc::AllocError;
 
 #[tactic(auto, unfolding(crate::specs::JournalForms::journal))]
 pub(crate) fn write_journal(out: &mut Vec<u8>, machine: &Saved) -> Result<(), AllocError>
-    ensures encoded { (events harts : ℕ) → OnOk result (out.new.items ≡ out.old.items ++ (journal events harts).encode (machine.now.counts, (machine.now.notes.items, machine.now.verdict))) }
+    ensures encoded { (events harts : ℕ) →
+        OnOk result (out.new.items ≡ out.old.items ++ (journal events harts).encode (machine.now.counts, (machine.now.notes.items, machine.now.verdict))) }
     ensures notes { OnOk result (list_all is_typed_note machine.now.notes.items ≡ true) }
     ensures verdict { OnOk result (are_words (verdict_numbers machine.now.verdict) ≡ true) }
 {

@@ -13,7 +13,8 @@ use sv_types::ModulePlacement;
 
 #[tactic(auto, unfolding(crate::specs::PageForms::gate))]
 pub(crate) fn write_gate(out: &mut Vec<u8>, machine: &Saved) -> Result<(), AllocError>
-    ensures encoded { (harts : List SavedHart) → OnOk result (out.new.items ≡ out.old.items ++ (gate harts).encode (machine.now.modules.items, (machine.now.retired, machine.now.loading))) }
+    ensures encoded { (harts : List SavedHart) →
+        OnOk result (out.new.items ≡ out.old.items ++ (gate harts).encode (machine.now.modules.items, (machine.now.retired, machine.now.loading))) }
     ensures modules { OnOk result (list_all is_typed_module machine.now.modules.items ≡ true) }
     ensures loading { OnOk result (are_words (load_numbers machine.now.loading) ≡ true) }
 {

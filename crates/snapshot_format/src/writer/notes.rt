@@ -53,7 +53,8 @@ fn write_note(out: &mut Vec<u8>, n: Note) -> Result<(), AllocError>
 }
 
 fn write_demote(out: &mut Vec<u8>, hart: u8, turn: u64, pc: u64, gpa: u64) -> Result<(), AllocError>
-    ensures { OnOk result (out.new.items ≡ out.old.items ++ (encode_number demote_kind ++ (encode_number hart ++ (encode_number turn ++ (encode_number pc ++ encode_number gpa))))) }
+    ensures { OnOk result (out.new.items ≡
+        out.old.items ++ (encode_number demote_kind ++ (encode_number hart ++ (encode_number turn ++ (encode_number pc ++ encode_number gpa))))) }
 {
     write_number(out, DEMOTE)?;
     write_number(out, u64::from(hart))?;
@@ -78,7 +79,8 @@ fn write_answer(
     id: u64,
     code: SbiCode,
 ) -> Result<(), AllocError>
-    ensures { OnOk result (out.new.items ≡ out.old.items ++ (encode_number kind ++ (encode_number hart ++ (encode_number turn ++ (encode_number id ++ encode_number (code_word code)))))) }
+    ensures { OnOk result (out.new.items ≡
+        out.old.items ++ (encode_number kind ++ (encode_number hart ++ (encode_number turn ++ (encode_number id ++ encode_number (code_word code)))))) }
 {
     write_number(out, kind)?;
     write_number(out, u64::from(hart))?;
@@ -88,7 +90,8 @@ fn write_answer(
 }
 
 fn write_retire(out: &mut Vec<u8>, hart: u8, turn: u64, code: SbiCode) -> Result<(), AllocError>
-    ensures { OnOk result (out.new.items ≡ out.old.items ++ (encode_number retire_kind ++ (encode_number hart ++ (encode_number turn ++ encode_number (code_word code))))) }
+    ensures { OnOk result (out.new.items ≡
+        out.old.items ++ (encode_number retire_kind ++ (encode_number hart ++ (encode_number turn ++ encode_number (code_word code))))) }
 {
     write_number(out, RETIRE)?;
     write_number(out, u64::from(hart))?;

@@ -37,7 +37,8 @@ fn write_stopped_entry(
     hart: u8,
     turn: u64,
 ) -> Result<(), AllocError>
-    ensures { OnOk result (out.new.items ≡ out.old.items ++ (encode_number entry_kind ++ (encode_number target ++ (encode_number hart ++ encode_number turn)))) }
+    ensures { OnOk result (out.new.items ≡
+        out.old.items ++ (encode_number entry_kind ++ (encode_number target ++ (encode_number hart ++ encode_number turn)))) }
 {
     write_number(out, STOPPED_ENTRY)?;
     write_number(out, target)?;
@@ -52,7 +53,8 @@ fn write_stopped_write(
     hart: u8,
     turn: u64,
 ) -> Result<(), AllocError>
-    ensures { OnOk result (out.new.items ≡ out.old.items ++ (encode_number write_kind ++ (encode_number pc ++ (encode_number gpa ++ (encode_number hart ++ encode_number turn))))) }
+    ensures { OnOk result (out.new.items ≡
+        out.old.items ++ (encode_number write_kind ++ (encode_number pc ++ (encode_number gpa ++ (encode_number hart ++ encode_number turn))))) }
 {
     write_number(out, STOPPED_WRITE)?;
     write_number(out, pc)?;

@@ -18,7 +18,8 @@ carry_out-requires-clause-saves g c =
 
 pub carry_out-requires-clause-permitted : goal.carry_out-requires-clause-permitted
 carry_out-requires-clause-permitted g c = λ κs lives.
-    may_under _ c.in-Ok.ready.out.now (g.F.Files.state c.args.files.now) (g.F.Files.state c.prepare_live.new.files) (follows_permits _ _ _ _ c.in-Ok.ensures.prepares.follows) c.in-Ok.ensures.name c.requires.script
+    may_under _ c.in-Ok.ready.out.now (g.F.Files.state c.args.files.now) (g.F.Files.state c.prepare_live.new.files) (follows_permits _ _ _ _ c.in-Ok.ensures.prepares.follows)
+    c.in-Ok.ensures.name c.requires.script
 
 pub returns-in-Ok : goal.returns-in-Ok
 returns-in-Ok g c = ready_performs _ _ _ _ _ _ _ _ _ _ c.in-Ok.ready _ c.in-Ok.ensures.prepares c.in-Ok.ensures.name c.carry_out.ensures

@@ -14,7 +14,8 @@ returns g c = λ start new.
       c.in_ok-try_place.ensures.0,
       subst (λ (f : FilesState). RunsLive start (first_events c.args.ready.live.events c.args.ready.live.script) c.args.ready.out.now
           (live_outside f (g.O.Sink.state c.args.out.now) (g.K.Keys.state c.args.keys.now) c.args.bench.now.machine)
-          (live_outside (g.F.Files.state c.report-result.new.files) (g.O.Sink.state c.report-result.new.out) (g.K.Keys.state c.run-end.new.keys) (Some c.run-end.new.self.machine)) c.report-result.result)
+          (live_outside (g.F.Files.state c.report-result.new.files) (g.O.Sink.state c.report-result.new.out) (g.K.Keys.state c.run-end.new.keys) (Some c.run-end.new.self.machine))
+          c.report-result.result)
           c.in_ok-try_place.ensures.1
           (runs_live c.args.ready c.run-end.new.self c.run-end.result start _ _ _ _ _ _ _ _ _ c.requires.fresh new (record { on = c.run-end.ensures.on; broke = c.run-end.ensures.broke })
           c.run-end.ensures.keys c.run-end.ensures.others c.run-end.ensures.autos c.run-end.ensures.end c.run-end.ensures.harts c.report-result.ensures),

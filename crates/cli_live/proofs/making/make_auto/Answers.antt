@@ -16,7 +16,8 @@ pub returns-clause-drives : goal.returns-clause-drives
 returns-clause-drives g c =
     let way = c.requires.on.way in
     let drawn = drawn_is _ c.args.live.now.script c.in-Some.event way.drawn (sym c.in-Some.is ∙ c.next.ensures.event) in
-    let all = auto_made c.args.live.now.script c.next.new.self c.args.live.now.journal c.add_auto.new.self c.in-Some.event drawn c.next.ensures.rest (c.add_auto.ensures.events (harts_of c.args.live.now.script)) in
+    let all = auto_made c.args.live.now.script c.next.new.self c.args.live.now.journal c.add_auto.new.self c.in-Some.event drawn c.next.ensures.rest
+    (c.add_auto.ensures.events (harts_of c.args.live.now.script)) in
     record {
       on = ok_both c.make.result _ _ _ (λ on room. record { went = on_to (on (events_made c.args.live.now)) all; room = room }) c.make.ensures.on c.make.ensures.room;
       broke = err_map c.make.result _ _ (λ off. breaks_due (breaks_to (off (events_made c.args.live.now)) all)) c.make.ensures.broke;

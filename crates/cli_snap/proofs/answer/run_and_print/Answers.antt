@@ -31,7 +31,8 @@ pub returns-in_err-write_all-clause-stands : goal.returns-in_err-write_all-claus
 returns-in_err-write_all-clause-stands g c = λ start new.
     err_by _ Write (λ r. StandsAfter start (first_events c.args.events c.args.script) c.run.new.machine (g.O.Sink.state c.args.out.now) (g.O.Sink.state c.write_all.new.out) r)
     c.from_residual-in_err-write_all.ensures.1
-    (last_broke_stands c.args.machine.now start _ c.run.new.machine _ (g.O.Sink.state c.run.new.out) _ new (c.in_ok-run.ensures.all.ran start new) c.in_ok-run.ensures.all.room c.in_ok-run.ensures.all.rest
+    (last_broke_stands c.args.machine.now start _ c.run.new.machine _ (g.O.Sink.state c.run.new.out) _ new (c.in_ok-run.ensures.all.ran start new) c.in_ok-run.ensures.all.room
+    c.in_ok-run.ensures.all.rest
     (subst (λ (bytes : List ℕ). BreaksOff (g.O.Sink.state c.run.new.out) (g.O.Sink.state c.write_all.new.out) bytes) c.printed.ensures c.in_err-write_all.ensures.failed))
 
 pub returns-clause-writes : goal.returns-clause-writes

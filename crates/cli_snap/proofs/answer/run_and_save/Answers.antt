@@ -8,13 +8,15 @@ use Rattle.cli_snap.proofs.answer.run_and_save.Goals as goal
 
 pub returns-in_err-text : goal.returns-in_err-text
 returns-in_err-text g c = λ start new.
-    err_by _ Memory (λ r. SnapsTo start (first_events c.args.events c.args.script) c.args.name.now c.args.machine.now (g.F.Files.state c.args.files.now) (g.F.Files.state c.args.files.now) (g.O.Sink.state c.args.out.now) (g.O.Sink.state c.args.out.now) r)
+    err_by _ Memory (λ r. SnapsTo start (first_events c.args.events c.args.script) c.args.name.now c.args.machine.now (g.F.Files.state c.args.files.now)
+    (g.F.Files.state c.args.files.now) (g.O.Sink.state c.args.out.now) (g.O.Sink.state c.args.out.now) r)
     c.from_residual.ensures.1 (snaps_none start _ c.args.name.now c.args.machine.now _ _ new)
 
 pub returns-in_err-status : goal.returns-in_err-status
 returns-in_err-status g c = λ start new.
     err_by _ c.in_err-status.field-0.0
-    (λ r. SnapsTo start (first_events c.args.events c.args.script) c.args.name.now c.run_and_print.new.machine (g.F.Files.state c.args.files.now) (g.F.Files.state c.args.files.now) (g.O.Sink.state c.args.out.now) (g.O.Sink.state c.run_and_print.new.out) r)
+    (λ r. SnapsTo start (first_events c.args.events c.args.script) c.args.name.now c.run_and_print.new.machine (g.F.Files.state c.args.files.now)
+    (g.F.Files.state c.args.files.now) (g.O.Sink.state c.args.out.now) (g.O.Sink.state c.run_and_print.new.out) r)
     c.from_residual-in_err-status.ensures.1
     (snaps_broke start _ c.args.name.now c.run_and_print.new.machine _ _ _ c.in_err-status.field-0.0 (c.in_err-status.ensures.writes start new) (c.in_err-status.ensures.stands start new))
 
@@ -37,7 +39,8 @@ save_snapshot-requires-clause-few g c =
 pub returns-in_err-save_snapshot : goal.returns-in_err-save_snapshot
 returns-in_err-save_snapshot g c = λ start new.
     err_by _ c.in_err-save_snapshot.field-0.0
-    (λ r. SnapsTo start (first_events c.args.events c.args.script) c.args.name.now c.run_and_print.new.machine (g.F.Files.state c.args.files.now) (g.F.Files.state c.save_snapshot.new.files) (g.O.Sink.state c.args.out.now) (g.O.Sink.state c.run_and_print.new.out) r)
+    (λ r. SnapsTo start (first_events c.args.events c.args.script) c.args.name.now c.run_and_print.new.machine (g.F.Files.state c.args.files.now)
+    (g.F.Files.state c.save_snapshot.new.files) (g.O.Sink.state c.args.out.now) (g.O.Sink.state c.run_and_print.new.out) r)
     c.from_residual-in_err-save_snapshot.ensures.1
     (snaps_err c.args.machine.now c.run_and_print.new.machine start _ c.args.name.now c.in_ok-text.text.items _ _ _ _ c.in_ok-status.status c.in_err-save_snapshot.field-0.0
     (record {

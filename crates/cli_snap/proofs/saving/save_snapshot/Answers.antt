@@ -12,6 +12,7 @@ returns g c =
     inr (
       made.it,
       made.snapshot_is,
-      subst (λ (bytes : List ℕ). AfterSave (Some (record { name = c.args.name.now; content = Exactly bytes })) (g.F.Files.state c.args.files.now) (g.F.Files.state c.save_bytes.new.files) c.save_bytes.result)
+      subst (λ (bytes : List ℕ). AfterSave (Some (record { name = c.args.name.now; content = Exactly bytes })) (g.F.Files.state c.args.files.now)
+          (g.F.Files.state c.save_bytes.new.files) c.save_bytes.result)
           (c.deref.ensures.value ∙ made.bytes_are) c.save_bytes.ensures,
     )

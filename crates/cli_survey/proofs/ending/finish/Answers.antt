@@ -18,7 +18,8 @@ returns-in_err-write_all-2-clause-writes g c =
     let text : c.deref-2.result.now ≡ lines ++ report c.args.machine.now.journal =
     c.deref-2.ensures.value ∙ c.in_ok-text.ensures ∙ ap (λ (l : List ℕ). l ++ report c.args.machine.now.journal) found in
     err_by _ Write
-    (λ r. WritesAll (survey_status lines c.args.machine.now.journal.verdict) (c.args.machine.now.journal.printed ++ (lines ++ report c.args.machine.now.journal)) (g.O.Sink.state c.args.out.now) (g.O.Sink.state c.write_all-2.new.out) r)
+    (λ r. WritesAll (survey_status lines c.args.machine.now.journal.verdict) (c.args.machine.now.journal.printed ++ (lines ++ report c.args.machine.now.journal))
+    (g.O.Sink.state c.args.out.now) (g.O.Sink.state c.write_all-2.new.out) r)
     c.from_residual-in_err-write_all-2.ensures.1
     (two_broken _ _ _ _ _ _ _ _ c.printed.ensures text c.in_ok-write_all.ensures.whole c.in_err-write_all-2.ensures.failed)
 

@@ -41,7 +41,8 @@ boot_file-requires-clause-permitted g c κs within =
     (λ (b : List ℕ). MayFollow (kernel_part (rules_of c.in_ok-policy.policy) b (boot_plan (run_value c.args.asked.now) (rules_of c.in_ok-policy.policy) b)) (g.F.Files.state c.read_part.new.files))
     (sym c.deref.ensures.value)
     (read_may Part.Image c.args.asked.now.image.now max_image_bytes
-    (λ (b : List ℕ). kernel_part (rules_of c.in_ok-policy.policy) b (boot_plan (run_value c.args.asked.now) (rules_of c.in_ok-policy.policy) b)) (g.F.Files.state c.read_policy.new.files) (g.F.Files.state c.read_part.new.files) c.in_ok-bytes.bytes.items c.in_ok-bytes.ensures
+    (λ (b : List ℕ). kernel_part (rules_of c.in_ok-policy.policy) b (boot_plan (run_value c.args.asked.now) (rules_of c.in_ok-policy.policy) b))
+    (g.F.Files.state c.read_policy.new.files) (g.F.Files.state c.read_part.new.files) c.in_ok-bytes.bytes.items c.in_ok-bytes.ensures
     (c.in_ok-policy.ensures.stage.may (image_plan (run_value c.args.asked.now)) c.requires.permitted))
 
 pub returns-in_err-booted : goal.returns-in_err-booted
@@ -51,9 +52,11 @@ returns-in_err-booted g c =
     c.from_residual-in_err-booted.ensures.1
     (pass_ready (policy_part c.args.asked.now.policy.now) (rules_of c.in_ok-policy.policy) (image_plan (run_value c.args.asked.now)) _ _ _ (Err c.in_err-booted.field-0.0) c.in_ok-policy.ensures.stage
     (read_ready Part.Image c.args.asked.now.image.now max_image_bytes
-    (λ (b : List ℕ). kernel_part (rules_of c.in_ok-policy.policy) b (boot_plan (run_value c.args.asked.now) (rules_of c.in_ok-policy.policy) b)) _ _ _ c.in_ok-bytes.bytes.items (Err c.in_err-booted.field-0.0) c.in_ok-bytes.ensures
+    (λ (b : List ℕ). kernel_part (rules_of c.in_ok-policy.policy) b (boot_plan (run_value c.args.asked.now) (rules_of c.in_ok-policy.policy) b)) _ _ _ c.in_ok-bytes.bytes.items
+    (Err c.in_err-booted.field-0.0) c.in_ok-bytes.ensures
     (subst
-    (λ (b : List ℕ). Prepares (kernel_part (rules_of c.in_ok-policy.policy) b (boot_plan (run_value c.args.asked.now) (rules_of c.in_ok-policy.policy) b)) (g.F.Files.state c.read_part.new.files) (g.F.Files.state c.boot_file.new.files) (Err c.in_err-booted.field-0.0))
+    (λ (b : List ℕ). Prepares (kernel_part (rules_of c.in_ok-policy.policy) b (boot_plan (run_value c.args.asked.now) (rules_of c.in_ok-policy.policy) b))
+    (g.F.Files.state c.read_part.new.files) (g.F.Files.state c.boot_file.new.files) (Err c.in_err-booted.field-0.0))
     c.deref.ensures.value c.in_err-booted.ensures.prepares)))
 
 pub returns : goal.returns
@@ -62,5 +65,6 @@ returns g c =
     (record { booted = c.in_ok-booted.booted; kernel = record { bytes = c.in_ok-bytes.bytes; ram_pages = c.in_ok-policy.policy.ram_pages } })
     c.requires.run.0 c.in_ok-policy.ensures.stage c.in_ok-bytes.ensures
     (subst
-    (λ (b : List ℕ). Prepares (kernel_part (rules_of c.in_ok-policy.policy) b (boot_plan (run_value c.args.asked.now) (rules_of c.in_ok-policy.policy) b)) (g.F.Files.state c.read_part.new.files) (g.F.Files.state c.boot_file.new.files) (Ok (Run c.in_ok-booted.booted)))
+    (λ (b : List ℕ). Prepares (kernel_part (rules_of c.in_ok-policy.policy) b (boot_plan (run_value c.args.asked.now) (rules_of c.in_ok-policy.policy) b))
+    (g.F.Files.state c.read_part.new.files) (g.F.Files.state c.boot_file.new.files) (Ok (Run c.in_ok-booted.booted)))
     c.deref.ensures.value c.in_ok-booted.ensures.prepares) refl

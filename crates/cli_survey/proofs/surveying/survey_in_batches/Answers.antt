@@ -8,7 +8,8 @@ use Rattle.machine.proofs.Repeated.{counts_within}
 use Rattle.machine.specs.Drawing.{count_left, events_left, IsAtHand}
 use Rattle.secvisor_cli.proofs.ReadyLemmas.{err_by}
 use Rattle.cli_survey.specs.Surveys.{Surveyed}
-use Rattle.cli_survey.proofs.SurveyLemmas.{counts_passed, not_running, room_passed, running_is, state_flushed, state_passed, surveys_all, surveys_break, surveys_ended, surveys_flush, surveys_more, surveys_none, surveys_want}
+use Rattle.cli_survey.proofs.SurveyLemmas.{counts_passed, not_running, room_passed, running_is, state_flushed, state_passed, surveys_all}
+use Rattle.cli_survey.proofs.SurveyLemmas.{surveys_break, surveys_ended, surveys_flush, surveys_more, surveys_none, surveys_want}
 use Rattle.cli_survey.proofs.surveying.survey_in_batches.Goals as goal
 
 pub events-init : goal.events-init
@@ -30,25 +31,32 @@ returns-in_err-on g c = λ start new is_start.
     let parts : events_left g.S.EventSource.schedule c.events.drawing ≡ replicate c.repeat-made.result c.in-Some.batch.event ++ events_left g.S.EventSource.schedule c.count_down.new.self =
     sym hand.left ∙ c.count_down.ensures.left ∙ ap (λ (r : EventRun). replicate c.repeat-made.result r.event ++ events_left g.S.EventSource.schedule c.count_down.new.self) (sym hand.row_is) in
     err_by _ Memory
-    (λ r. Surveyed start (first_events c.args.events (g.S.EventSource.schedule c.args.source)) c.goes_on.new.machine c.goes_on.new.writes (g.O.Sink.state c.args.out.now) (g.O.Sink.state c.events.out) r)
+    (λ r. Surveyed start (first_events c.args.events (g.S.EventSource.schedule c.args.source)) c.goes_on.new.machine c.goes_on.new.writes (g.O.Sink.state c.args.out.now)
+    (g.O.Sink.state c.events.out) r)
     c.from_residual.ensures.1
-    (surveys_want c.repeat-made.result start _ (events_left g.S.EventSource.schedule c.events.drawing) (events_left g.S.EventSource.schedule c.count_down.new.self) c.events.machine c.repeat-made.new.self c.goes_on.new.machine
-    c.events.writes c.in-Some.batch.event _ _ c.repeat-made.ensures.some c.events.invariant.running (c.events.invariant.on start new is_start) parts c.repeat-made.ensures.chain c.in_err-on.ensures.passed)
+    (surveys_want c.repeat-made.result start _ (events_left g.S.EventSource.schedule c.events.drawing) (events_left g.S.EventSource.schedule c.count_down.new.self)
+    c.events.machine c.repeat-made.new.self c.goes_on.new.machine
+    c.events.writes c.in-Some.batch.event _ _ c.repeat-made.ensures.some c.events.invariant.running (c.events.invariant.on start new is_start) parts c.repeat-made.ensures.chain
+    c.in_err-on.ensures.passed)
 
 pub flush_due-requires-clause-room : goal.flush_due-requires-clause-room
 flush_due-requires-clause-room g c =
-    room_passed c.repeat-made.result c.events.machine c.repeat-made.new.self c.goes_on.new.machine c.in-Some.batch.event c.events.invariant.has c.repeat-made.ensures.chain c.in_ok-on.ensures.passed c.events.invariant.room
+    room_passed c.repeat-made.result c.events.machine c.repeat-made.new.self c.goes_on.new.machine c.in-Some.batch.event c.events.invariant.has c.repeat-made.ensures.chain
+    c.in_ok-on.ensures.passed c.events.invariant.room
 
 pub returns-in_err-flush_due : goal.returns-in_err-flush_due
 returns-in_err-flush_due g c = λ start new is_start.
     let hand : IsAtHand g.S.EventSource.schedule c.events.drawing c.draw.new.self c.in-Some.batch = c.in-Some.ensures.batch in
     let parts : events_left g.S.EventSource.schedule c.events.drawing ≡ replicate c.repeat-made.result c.in-Some.batch.event ++ events_left g.S.EventSource.schedule c.count_down.new.self =
     sym hand.left ∙ c.count_down.ensures.left ∙ ap (λ (r : EventRun). replicate c.repeat-made.result r.event ++ events_left g.S.EventSource.schedule c.count_down.new.self) (sym hand.row_is) in
-    let on = surveys_more c.repeat-made.result start _ (events_left g.S.EventSource.schedule c.events.drawing) (events_left g.S.EventSource.schedule c.count_down.new.self) c.events.machine c.repeat-made.new.self c.goes_on.new.machine
-    c.events.writes c.goes_on.new.writes c.in-Some.batch.event _ _ is_start c.repeat-made.ensures.some c.events.invariant.running (c.events.invariant.on start new is_start) parts c.repeat-made.ensures.chain
+    let on = surveys_more c.repeat-made.result start _ (events_left g.S.EventSource.schedule c.events.drawing) (events_left g.S.EventSource.schedule c.count_down.new.self)
+    c.events.machine c.repeat-made.new.self c.goes_on.new.machine
+    c.events.writes c.goes_on.new.writes c.in-Some.batch.event _ _ is_start c.repeat-made.ensures.some c.events.invariant.running (c.events.invariant.on start new is_start) parts
+    c.repeat-made.ensures.chain
     c.in_ok-on.ensures.passed c.in_ok-on.ensures.kept in
     err_by _ Write
-    (λ r. Surveyed start (first_events c.args.events (g.S.EventSource.schedule c.args.source)) c.flush_due.new.machine c.goes_on.new.writes (g.O.Sink.state c.args.out.now) (g.O.Sink.state c.flush_due.new.out) r)
+    (λ r. Surveyed start (first_events c.args.events (g.S.EventSource.schedule c.args.source)) c.flush_due.new.machine c.goes_on.new.writes (g.O.Sink.state c.args.out.now)
+    (g.O.Sink.state c.flush_due.new.out) r)
     c.from_residual-in_err-flush_due.ensures.1
     (surveys_break start _ _ c.goes_on.new.machine c.flush_due.new.machine c.goes_on.new.writes _ _ _ on c.in_err-flush_due.ensures.machine c.in_err-flush_due.ensures.failed)
 
@@ -57,8 +65,10 @@ returns-then-not-on g c = λ start new is_start.
     let hand : IsAtHand g.S.EventSource.schedule c.events.drawing c.draw.new.self c.in-Some.batch = c.in-Some.ensures.batch in
     let parts : events_left g.S.EventSource.schedule c.events.drawing ≡ replicate c.repeat-made.result c.in-Some.batch.event ++ events_left g.S.EventSource.schedule c.count_down.new.self =
     sym hand.left ∙ c.count_down.ensures.left ∙ ap (λ (r : EventRun). replicate c.repeat-made.result r.event ++ events_left g.S.EventSource.schedule c.count_down.new.self) (sym hand.row_is) in
-    let on = surveys_more c.repeat-made.result start _ (events_left g.S.EventSource.schedule c.events.drawing) (events_left g.S.EventSource.schedule c.count_down.new.self) c.events.machine c.repeat-made.new.self c.goes_on.new.machine
-    c.events.writes c.goes_on.new.writes c.in-Some.batch.event _ _ is_start c.repeat-made.ensures.some c.events.invariant.running (c.events.invariant.on start new is_start) parts c.repeat-made.ensures.chain
+    let on = surveys_more c.repeat-made.result start _ (events_left g.S.EventSource.schedule c.events.drawing) (events_left g.S.EventSource.schedule c.count_down.new.self)
+    c.events.machine c.repeat-made.new.self c.goes_on.new.machine
+    c.events.writes c.goes_on.new.writes c.in-Some.batch.event _ _ is_start c.repeat-made.ensures.some c.events.invariant.running (c.events.invariant.on start new is_start) parts
+    c.repeat-made.ensures.chain
     c.in_ok-on.ensures.passed c.in_ok-on.ensures.kept in
     let flushed = c.in_ok-flush_due.ensures.flushed in
     let same = ap (λ x. x.journal.verdict) flushed.away.cleared.same in
@@ -70,7 +80,8 @@ events-preserved g c =
     let hand : IsAtHand g.S.EventSource.schedule c.events.drawing c.draw.new.self c.in-Some.batch = c.in-Some.ensures.batch in
     let parts : events_left g.S.EventSource.schedule c.events.drawing ≡ replicate c.repeat-made.result c.in-Some.batch.event ++ events_left g.S.EventSource.schedule c.count_down.new.self =
     sym hand.left ∙ c.count_down.ensures.left ∙ ap (λ (r : EventRun). replicate c.repeat-made.result r.event ++ events_left g.S.EventSource.schedule c.count_down.new.self) (sym hand.row_is) in
-    let fewer : c.count_down.new.self.batch.count + c.count_down.new.self.undrawn + c.repeat-made.result ≡ c.events.drawing.batch.count + c.events.drawing.undrawn = c.count_down.ensures.count ∙ hand.count in
+    let fewer : c.count_down.new.self.batch.count + c.count_down.new.self.undrawn + c.repeat-made.result ≡
+    c.events.drawing.batch.count + c.events.drawing.undrawn = c.count_down.ensures.count ∙ hand.count in
     let before : c.events.drawing.batch.count + c.events.drawing.undrawn ≤ c.args.events = c.events.invariant.few in
     let flushed = c.in_ok-flush_due.ensures.flushed in
     let same = ap (λ x. x.journal.verdict) flushed.away.cleared.same in
@@ -78,11 +89,14 @@ events-preserved g c =
     record {
       on = λ start new is_start.
           surveys_flush start _ _ c.goes_on.new.machine c.flush_due.new.machine c.goes_on.new.writes _ _ _
-          (surveys_more c.repeat-made.result start _ (events_left g.S.EventSource.schedule c.events.drawing) (events_left g.S.EventSource.schedule c.count_down.new.self) c.events.machine c.repeat-made.new.self c.goes_on.new.machine
-          c.events.writes c.goes_on.new.writes c.in-Some.batch.event _ _ is_start c.repeat-made.ensures.some c.events.invariant.running (c.events.invariant.on start new is_start) parts c.repeat-made.ensures.chain
+          (surveys_more c.repeat-made.result start _ (events_left g.S.EventSource.schedule c.events.drawing) (events_left g.S.EventSource.schedule c.count_down.new.self)
+          c.events.machine c.repeat-made.new.self c.goes_on.new.machine
+          c.events.writes c.goes_on.new.writes c.in-Some.batch.event _ _ is_start c.repeat-made.ensures.some c.events.invariant.running (c.events.invariant.on start new is_start)
+          parts c.repeat-made.ensures.chain
           passed c.in_ok-on.ensures.kept) flushed;
       running = same ∙ running_is c.goes_on.new.machine.journal.verdict (sym c.in_ok-on.ensures.running ∙ c.if-not-on.false);
-      has = state_flushed c.goes_on.new.machine c.flush_due.new.machine _ _ (state_passed c.repeat-made.result c.events.machine c.repeat-made.new.self c.goes_on.new.machine c.in-Some.batch.event c.events.invariant.has c.repeat-made.ensures.chain passed) flushed;
+      has = state_flushed c.goes_on.new.machine c.flush_due.new.machine _ _ (state_passed c.repeat-made.result c.events.machine c.repeat-made.new.self c.goes_on.new.machine
+          c.in-Some.batch.event c.events.invariant.has c.repeat-made.ensures.chain passed) flushed;
       taken = taken_more _ c.goes_on.new.machine c.flush_due.new.machine _ _ c.events.invariant.taken flushed;
       few = omega (arith, fewer, before);
       counts = counts_passed (max_events + (c.args.events - count_left c.events.drawing) + c.repeat-made.result) (max_events + (c.args.events - count_left c.count_down.new.self))

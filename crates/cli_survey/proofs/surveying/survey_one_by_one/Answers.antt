@@ -8,7 +8,8 @@ use Rattle.machine.proofs.DrawnBatches.{none_left, one_drawn}
 use Rattle.machine.proofs.Repeated.{counts_within}
 use Rattle.secvisor_cli.proofs.ReadyLemmas.{err_by}
 use Rattle.cli_survey.specs.Surveys.{Surveyed}
-use Rattle.cli_survey.proofs.SurveyLemmas.{counts_passed, not_running, room_passed, running_is, state_flushed, state_passed, surveys_all, surveys_break, surveys_ended, surveys_flush, surveys_more, surveys_none, surveys_want}
+use Rattle.cli_survey.proofs.SurveyLemmas.{counts_passed, not_running, room_passed, running_is, state_flushed, state_passed, surveys_all}
+use Rattle.cli_survey.proofs.SurveyLemmas.{surveys_break, surveys_ended, surveys_flush, surveys_more, surveys_none, surveys_want}
 use Rattle.cli_survey.proofs.surveying.survey_one_by_one.Goals as goal
 
 pub events-init : goal.events-init
@@ -36,14 +37,16 @@ returns-in_err-on g c = λ start new is_start.
     let parts : first_events c.events.left before ≡ replicate c.repeat.result c.in-Some.one.event ++ first_events (c.events.left - 1) behind =
     one_drawn c.events.left c.repeat.result c.in-Some.one before behind some one once c.in-Some.ensures.first in
     err_by _ Memory
-    (λ r. Surveyed start (first_events c.args.events (g.S.EventSource.schedule c.args.source)) c.goes_on.new.machine c.goes_on.new.writes (g.O.Sink.state c.args.out.now) (g.O.Sink.state c.events.out) r)
+    (λ r. Surveyed start (first_events c.args.events (g.S.EventSource.schedule c.args.source)) c.goes_on.new.machine c.goes_on.new.writes (g.O.Sink.state c.args.out.now)
+    (g.O.Sink.state c.events.out) r)
     c.from_residual.ensures.1
     (surveys_want c.repeat.result start _ (first_events c.events.left before) (first_events (c.events.left - 1) behind) c.events.machine c.repeat.new.self c.goes_on.new.machine
     c.events.writes c.in-Some.one.event _ _ c.repeat.ensures.some c.events.invariant.running (c.events.invariant.on start new is_start) parts c.repeat.ensures.chain c.in_err-on.ensures.passed)
 
 pub flush_due-requires-clause-room : goal.flush_due-requires-clause-room
 flush_due-requires-clause-room g c =
-    room_passed c.repeat.result c.events.machine c.repeat.new.self c.goes_on.new.machine c.in-Some.one.event c.events.invariant.has c.repeat.ensures.chain c.in_ok-on.ensures.passed c.events.invariant.room
+    room_passed c.repeat.result c.events.machine c.repeat.new.self c.goes_on.new.machine c.in-Some.one.event c.events.invariant.has c.repeat.ensures.chain
+    c.in_ok-on.ensures.passed c.events.invariant.room
 
 pub returns-in_err-flush_due : goal.returns-in_err-flush_due
 returns-in_err-flush_due g c = λ start new is_start.
@@ -58,7 +61,8 @@ returns-in_err-flush_due g c = λ start new is_start.
     c.events.writes c.goes_on.new.writes c.in-Some.one.event _ _ is_start c.repeat.ensures.some c.events.invariant.running (c.events.invariant.on start new is_start) parts c.repeat.ensures.chain
     c.in_ok-on.ensures.passed c.in_ok-on.ensures.kept in
     err_by _ Write
-    (λ r. Surveyed start (first_events c.args.events (g.S.EventSource.schedule c.args.source)) c.flush_due.new.machine c.goes_on.new.writes (g.O.Sink.state c.args.out.now) (g.O.Sink.state c.flush_due.new.out) r)
+    (λ r. Surveyed start (first_events c.args.events (g.S.EventSource.schedule c.args.source)) c.flush_due.new.machine c.goes_on.new.writes (g.O.Sink.state c.args.out.now)
+    (g.O.Sink.state c.flush_due.new.out) r)
     c.from_residual-in_err-flush_due.ensures.1
     (surveys_break start _ _ c.goes_on.new.machine c.flush_due.new.machine c.goes_on.new.writes _ _ _ on c.in_err-flush_due.ensures.machine c.in_err-flush_due.ensures.failed)
 
@@ -99,7 +103,8 @@ events-preserved g c =
           c.events.writes c.goes_on.new.writes c.in-Some.one.event _ _ is_start c.repeat.ensures.some c.events.invariant.running (c.events.invariant.on start new is_start) parts c.repeat.ensures.chain
           passed c.in_ok-on.ensures.kept) flushed;
       running = same ∙ running_is c.goes_on.new.machine.journal.verdict (sym c.in_ok-on.ensures.running ∙ c.if-not-on.false);
-      has = state_flushed c.goes_on.new.machine c.flush_due.new.machine _ _ (state_passed c.repeat.result c.events.machine c.repeat.new.self c.goes_on.new.machine c.in-Some.one.event c.events.invariant.has c.repeat.ensures.chain passed) flushed;
+      has = state_flushed c.goes_on.new.machine c.flush_due.new.machine _ _ (state_passed c.repeat.result c.events.machine c.repeat.new.self c.goes_on.new.machine
+          c.in-Some.one.event c.events.invariant.has c.repeat.ensures.chain passed) flushed;
       taken = taken_more _ c.goes_on.new.machine c.flush_due.new.machine _ _ c.events.invariant.taken flushed;
       few = omega (arith, few);
       counts = counts_passed (max_events + (c.args.events - c.events.left) + c.repeat.result) (max_events + (c.args.events - (c.events.left - 1)))

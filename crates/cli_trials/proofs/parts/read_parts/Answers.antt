@@ -70,5 +70,6 @@ returns g c =
       follows = c.in_ok-read.ensures.stage.follows (image_plan words) (g.F.Files.state c.boot_parts.new.files) (Some due)
           (read_follows Part.Image c.args.asked.now.image.now max_image_bytes (λ (b : List ℕ). kernel_part rules b (boot_plan words rules b)) (g.F.Files.state c.read_policy_text.new.files)
           (g.F.Files.state c.read_part.new.files) (g.F.Files.state c.boot_parts.new.files) c.in_ok-image.image.items (Some due) c.in_ok-image.ensures
-          (subst (λ (b : List ℕ). BootsFrom words rules b (g.F.Files.state c.read_part.new.files) (g.F.Files.state c.boot_parts.new.files) (Ok c.in_ok-rest.rest)) c.deref.ensures.value c.in_ok-rest.ensures.boots));
+          (subst (λ (b : List ℕ). BootsFrom words rules b (g.F.Files.state c.read_part.new.files) (g.F.Files.state c.boot_parts.new.files) (Ok c.in_ok-rest.rest))
+          c.deref.ensures.value c.in_ok-rest.ensures.boots));
     }

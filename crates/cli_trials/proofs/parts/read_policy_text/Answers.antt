@@ -19,7 +19,8 @@ returns-in_err-text-clause-stage g c =
 
 pub returns-in_err-policy-clause-stage : goal.returns-in_err-policy-clause-stage
 returns-in_err-policy-clause-stage g c =
-    err_by _ c.in_err-policy.field-0.0 (λ r. Staged {T = PolicyText} (policy_part c.args.name.now) (λ p. rules_of p.policy) (g.F.Files.state c.args.files.now) (g.F.Files.state c.read_part.new.files) r)
+    err_by _ c.in_err-policy.field-0.0 (λ r. Staged {T = PolicyText} (policy_part c.args.name.now) (λ p. rules_of p.policy) (g.F.Files.state c.args.files.now)
+    (g.F.Files.state c.read_part.new.files) r)
     c.from_residual-in_err-policy.ensures.1
     (policy_staged c.args.name.now c.in_ok-text.text.items _ _ (Err c.in_err-policy.field-0.0) c.in_ok-text.ensures
     (subst (λ (b : List ℕ). IsPolicy (rules_of_text b) (Err c.in_err-policy.field-0.0)) c.deref.ensures.value c.in_err-policy.ensures.policy))

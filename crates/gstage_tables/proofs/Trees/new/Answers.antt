@@ -39,8 +39,10 @@ returns-clause-drawn c =
             ∙ ap (λ (list : List ℕ). table_size pages (length list)) (sym c.of_pages-trees.ensures.bound);
         most = omega (arith, c.of_pages-trees.ensures.pages, c.ram_pages.ensures.value, c.ram_pages.ensures.region.most);
         few = subst (λ (list : List ℕ). length list ≤ max_bound) (sym c.of_pages-trees.ensures.bound) c.requires.few;
-        roots = roots_filled pages (leaf_tables pages) (table_pages pages (length bound)) (tree_count (length bound)) (sight_in bound) a b d c.fill_leaves.new.mem.tables roots c.fill_middles.ensures.words c.fill_leaves.ensures.below;
-        middles = middles_filled pages (leaf_tables pages) (table_pages pages (length bound)) (tree_count (length bound)) (sight_in bound) a b d c.fill_leaves.new.mem.tables roots c.fill_middles.ensures.words c.fill_leaves.ensures.below;
+        roots = roots_filled pages (leaf_tables pages) (table_pages pages (length bound)) (tree_count (length bound)) (sight_in bound) a b d c.fill_leaves.new.mem.tables roots
+            c.fill_middles.ensures.words c.fill_leaves.ensures.below;
+        middles = middles_filled pages (leaf_tables pages) (table_pages pages (length bound)) (tree_count (length bound)) (sight_in bound) a b d c.fill_leaves.new.mem.tables roots
+            c.fill_middles.ensures.words c.fill_leaves.ensures.below;
         leaves = c.fill_leaves.ensures.leaves;
       };
       counts = subst (λ (counts : List ℕ). CountsTaken counts c.of_pages-trees.result.ram_pages all_free) (sym c.of_pages-trees.ensures.counts) (counts_first c.of_pages-trees.result.ram_pages 512);

@@ -49,7 +49,8 @@ returns-clause-protects g c =
     let seen : c.self.inside.counts ≡ counts = ap (λ (trees : Shape). trees.counts) c.self.view_is in
     let reach : page / 512 < length counts = subst (λ (b : ℕ). b < length counts) block c.block_of-block.ensures.counted in
     let count = count_is c.count_after-count.result c.block_of-block.result page (is_free (old page)) (is_free c.args.protection) c.is_free-was_free.result c.is_free.result counts
-    (c.count_after-count.ensures ∙ ap (λ (list : List ℕ). count_after (slice_index_or list c.block_of-block.result 0) c.is_free-was_free.result c.is_free.result) seen) block (c.is_free-was_free.ensures old h) c.is_free.ensures in
+    (c.count_after-count.ensures ∙ ap (λ (list : List ℕ). count_after (slice_index_or list c.block_of-block.result 0) c.is_free-was_free.result c.is_free.result) seen) block
+    (c.is_free-was_free.ensures old h) c.is_free.ensures in
     let holds : HoldsTrees c.set_block.new.mem.tables pages bound (protect old page c.args.protection) =
     holds_pages_set c.args.mem.now.tables c.set_leaves.new.mem.tables c.set_block.new.mem.tables pages bound old page c.args.protection
     c.is_whole-before.result c.is_whole_with-after.result h c.requires.may.inside c.set_leaves.ensures.words
@@ -58,12 +59,14 @@ returns-clause-protects g c =
     ∙ ap (λ (n : ℕ). lies_in_ram pages (page / 512) && n == 0) count ∙ whole_after counts pages old page c.args.protection k reach)
     (λ e. ap (λ (r : Region). r.tables) (c.set_block.ensures.same e))
     (λ ne. subst (λ (b : ℕ). Wrote c.set_leaves.new.mem.tables c.set_block.new.mem.tables (tree_count (length bound)) (λ tree. 512 * (4 * tree_count (length bound) + tree) + b)
-    (λ tree. middle_word (tree_count (length bound)) (leaf_tables pages) (table_pages pages (length bound)) (sight_in bound tree) tree b c.is_whole_with-after.result)) block (c.set_block.ensures.words ne)) in
+    (λ tree. middle_word (tree_count (length bound)) (leaf_tables pages) (table_pages pages (length bound)) (sight_in bound tree) tree b c.is_whole_with-after.result)) block
+    (c.set_block.ensures.words ne)) in
     let counted : CountsTaken (slice_set counts c.block_of-block.result c.count_after-count.result) pages (protect old page c.args.protection) =
     subst (λ (b : ℕ). CountsTaken (slice_set counts b c.count_after-count.result) pages (protect old page c.args.protection)) (sym block)
     (subst (λ (n : ℕ). CountsTaken (slice_set counts (page / 512) n) pages (protect old page c.args.protection)) (sym count)
     (counts_set counts pages old page c.args.protection k reach)) in
     record {
       holds = subst (λ (trees : Shape). HoldsTrees c.set_block.new.mem.tables trees.ram_pages trees.bound (protect old page c.args.protection)) (sym c.self.view_is) holds;
-      counts = subst (λ (trees : Shape). CountsTaken (slice_set trees.counts c.block_of-block.result c.count_after-count.result) trees.ram_pages (protect old page c.args.protection)) (sym c.self.view_is) counted;
+      counts = subst (λ (trees : Shape). CountsTaken (slice_set trees.counts c.block_of-block.result c.count_after-count.result) trees.ram_pages
+          (protect old page c.args.protection)) (sym c.self.view_is) counted;
     })

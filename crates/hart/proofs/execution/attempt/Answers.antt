@@ -13,4 +13,5 @@ returns-in-Some-clause-written g c =
 pub returns-in-None-clause-written : goal.returns-in-None-clause-written
 returns-in-None-clause-written g c =
     rw (ap (λ (a : Attempted). a.region) c.fetch.ensures.attempted, ap (λ (a : Attempted). a.outcome) c.fetch.ensures.attempted)
-    (fetch_writes c.args.mem.now (core_of c.args.core.now c.args.regs.now) (g.W.InterruptLines.seen c.args.interrupt_lines.now) (translation_result c.args.mem.now (core_of c.args.core.now c.args.regs.now) Fetch c.args.core.now.pc 0))
+    (fetch_writes c.args.mem.now (core_of c.args.core.now c.args.regs.now) (g.W.InterruptLines.seen c.args.interrupt_lines.now)
+    (translation_result c.args.mem.now (core_of c.args.core.now c.args.regs.now) Fetch c.args.core.now.pc 0))

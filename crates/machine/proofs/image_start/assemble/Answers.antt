@@ -13,7 +13,8 @@ returns-clause-made c =
     IfOk-weaker c.at_boot.result
     (λ p. p ≡ machine_at_boot (rules_of c.args.policy) c.in_ok-mem.field-0.mem c.args.image.now.entry c.in_ok-mem.field-0.guard.pages (port_disk c.args.port))
     (λ p. p ≡ image_machine p.region.tables (rules_of c.args.policy) c.args.image.now.entry (segments_of c.args.image.now) (port_disk c.args.port))
-    (λ p made. image_made p (rules_of c.args.policy) c.args.image.now.entry (segments_of c.args.image.now) c.in_ok-mem.field-0.mem c.in_ok-mem.field-0.guard.pages (port_disk c.args.port) made c.in_ok-mem.ensures.ram c.in_ok-mem.ensures.guard)
+    (λ p made. image_made p (rules_of c.args.policy) c.args.image.now.entry (segments_of c.args.image.now) c.in_ok-mem.field-0.mem c.in_ok-mem.field-0.guard.pages
+    (port_disk c.args.port) made c.in_ok-mem.ensures.ram c.in_ok-mem.ensures.guard)
     c.at_boot.ensures
 
 pub at_boot-requires-clause-along : goal.at_boot-requires-clause-along

@@ -28,4 +28,5 @@ invariant_of-result c =
 
 pub returns-clause-made : goal.returns-clause-made
 returns-clause-made c =
-    parts_resumed (rules_of c.args.policy) (contents c.args.snapshot) c.in_ok-mem.field-0 (c.in_ok-caches.field-0.words + c.in_ok-caches.field-0.cpu) c.in_ok-mem.ensures c.in_ok-caches.ensures.attempts
+    parts_resumed (rules_of c.args.policy) (contents c.args.snapshot) c.in_ok-mem.field-0 (c.in_ok-caches.field-0.words + c.in_ok-caches.field-0.cpu) c.in_ok-mem.ensures
+    c.in_ok-caches.ensures.attempts

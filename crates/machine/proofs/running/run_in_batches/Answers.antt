@@ -66,8 +66,10 @@ returns-in_err-flush_and_note-clause-some g c =
     let parts : events_left g.S.EventSource.schedule c.events.drawing ≡ replicate c.repeat-made.result c.in-Some.batch.event ++ events_left g.S.EventSource.schedule c.count_down.new.self =
     sym hand.left ∙ c.count_down.ensures.left ∙ ap (λ (r : EventRun). replicate c.repeat-made.result r.event ++ events_left g.S.EventSource.schedule c.count_down.new.self) (sym hand.row_is) in
     let room = room_again c.repeat-made.result c.events.machine c.repeat-made.new.self c.in-Some.batch.event c.events.invariant.has c.repeat-made.ensures.chain c.events.invariant.room in
-    let broke : RunBrokeFromStart c.args.machine.now (first_events c.args.events (g.S.EventSource.schedule c.args.source)) c.flush_and_note.new.machine (g.O.Sink.state c.args.out.now) (g.O.Sink.state c.flush_and_note.new.out) =
-    λ start new. runs_broke c.repeat-made.result _ start _ (events_left g.S.EventSource.schedule c.events.drawing) (events_left g.S.EventSource.schedule c.count_down.new.self) c.events.machine c.repeat-made.new.self c.flush_and_note.new.machine
+    let broke : RunBrokeFromStart c.args.machine.now (first_events c.args.events (g.S.EventSource.schedule c.args.source)) c.flush_and_note.new.machine
+    (g.O.Sink.state c.args.out.now) (g.O.Sink.state c.flush_and_note.new.out) =
+    λ start new. runs_broke c.repeat-made.result _ start _ (events_left g.S.EventSource.schedule c.events.drawing) (events_left g.S.EventSource.schedule c.count_down.new.self)
+    c.events.machine c.repeat-made.new.self c.flush_and_note.new.machine
     c.in-Some.batch.event _ _ _ c.repeat-made.ensures.some c.events.invariant.rest (c.events.invariant.on start new) parts c.repeat-made.ensures.chain
     c.in_err-flush_and_note.ensures.machine room c.in_err-flush_and_note.ensures.due c.in_err-flush_and_note.ensures.failed in
     on_err _ _ broke
@@ -77,17 +79,20 @@ events-preserved g c =
     let hand : IsAtHand g.S.EventSource.schedule c.events.drawing c.draw.new.self c.in-Some.batch = c.in-Some.ensures.batch in
     let parts : events_left g.S.EventSource.schedule c.events.drawing ≡ replicate c.repeat-made.result c.in-Some.batch.event ++ events_left g.S.EventSource.schedule c.count_down.new.self =
     sym hand.left ∙ c.count_down.ensures.left ∙ ap (λ (r : EventRun). replicate c.repeat-made.result r.event ++ events_left g.S.EventSource.schedule c.count_down.new.self) (sym hand.row_is) in
-    let fewer : c.count_down.new.self.batch.count + c.count_down.new.self.undrawn + c.repeat-made.result ≡ c.events.drawing.batch.count + c.events.drawing.undrawn = c.count_down.ensures.count ∙ hand.count in
+    let fewer : c.count_down.new.self.batch.count + c.count_down.new.self.undrawn + c.repeat-made.result ≡
+    c.events.drawing.batch.count + c.events.drawing.undrawn = c.count_down.ensures.count ∙ hand.count in
     let before : c.events.drawing.batch.count + c.events.drawing.undrawn ≤ c.args.events = c.events.invariant.few in
     let flushed = c.in_ok-flush_and_note.ensures.flushed in
     record {
-      on = λ start new. runs_more c.repeat-made.result _ start _ (events_left g.S.EventSource.schedule c.events.drawing) (events_left g.S.EventSource.schedule c.count_down.new.self) c.events.machine c.repeat-made.new.self c.flush_and_note.new.machine
+      on = λ start new. runs_more c.repeat-made.result _ start _ (events_left g.S.EventSource.schedule c.events.drawing)
+          (events_left g.S.EventSource.schedule c.count_down.new.self) c.events.machine c.repeat-made.new.self c.flush_and_note.new.machine
           c.in-Some.batch.event _ _ _ c.repeat-made.ensures.some (c.events.invariant.on start new) parts c.repeat-made.ensures.chain flushed;
       has = state_after c.repeat-made.result c.events.machine c.repeat-made.new.self c.flush_and_note.new.machine c.in-Some.batch.event _ _ c.events.invariant.has c.repeat-made.ensures.chain flushed;
       taken = taken_more _ c.repeat-made.new.self c.flush_and_note.new.machine _ _ c.events.invariant.taken flushed;
       few = omega (arith, fewer, before);
       counts = flushed_counts (max_events + (c.args.events - count_left c.count_down.new.self)) c.repeat-made.new.self c.flush_and_note.new.machine _ _
-          (counts_within (max_events + (c.args.events - count_left c.events.drawing) + c.repeat-made.result) (max_events + (c.args.events - count_left c.count_down.new.self)) c.repeat-made.new.self.journal.counts
+          (counts_within (max_events + (c.args.events - count_left c.events.drawing) + c.repeat-made.result) (max_events + (c.args.events - count_left c.count_down.new.self))
+          c.repeat-made.new.self.journal.counts
           (omega (arith, fewer, before)) (c.repeat-made.ensures.counts (max_events + (c.args.events - count_left c.events.drawing)) c.events.invariant.counts)) flushed;
       room = c.in_ok-flush_and_note.ensures.room;
       rest = c.in_ok-flush_and_note.ensures.rest;

@@ -13,7 +13,8 @@ use Rattle.machine.proofs.running.run_in_batches.Given as goal
 abbrev pub invariant-events : goal.invariant-events
 invariant-events g l = record {
   on : (start : State) → IsNew l.initial.machine start →
-      RunsOn l.initial.machine start (first_events l.events (g.S.EventSource.schedule l.fn.source)) (events_left g.S.EventSource.schedule l.drawing) l.machine (g.O.Sink.state l.initial.out) (g.O.Sink.state l.out);
+      RunsOn l.initial.machine start (first_events l.events (g.S.EventSource.schedule l.fn.source)) (events_left g.S.EventSource.schedule l.drawing) l.machine
+      (g.O.Sink.state l.initial.out) (g.O.Sink.state l.out);
   has : HasState l.machine;
   taken : HasTaken (g.O.Sink.state l.initial.out) (g.O.Sink.state l.out);
   few : count_left l.drawing ≤ l.events;

@@ -55,7 +55,8 @@ returns-in_err-flush_and_note-clause-some g c =
     let parts : first_events c.events.left before ≡ replicate c.repeat.result c.in-Some.one.event ++ first_events (c.events.left - 1) behind =
     one_drawn c.events.left c.repeat.result c.in-Some.one before behind some one once c.in-Some.ensures.first in
     let room = room_again c.repeat.result c.events.machine c.repeat.new.self c.in-Some.one.event c.events.invariant.has c.repeat.ensures.chain c.events.invariant.room in
-    let broke : RunBrokeFromStart c.args.machine.now (first_events c.args.events (g.S.EventSource.schedule c.args.source)) c.flush_and_note.new.machine (g.O.Sink.state c.args.out.now) (g.O.Sink.state c.flush_and_note.new.out) =
+    let broke : RunBrokeFromStart c.args.machine.now (first_events c.args.events (g.S.EventSource.schedule c.args.source)) c.flush_and_note.new.machine
+    (g.O.Sink.state c.args.out.now) (g.O.Sink.state c.flush_and_note.new.out) =
     λ start new. runs_broke c.repeat.result _ start _ (first_events c.events.left before) (first_events (c.events.left - 1) behind) c.events.machine c.repeat.new.self c.flush_and_note.new.machine
     c.in-Some.one.event _ _ _ c.repeat.ensures.some c.events.invariant.rest (c.events.invariant.on start new) parts c.repeat.ensures.chain
     c.in_err-flush_and_note.ensures.machine room c.in_err-flush_and_note.ensures.due c.in_err-flush_and_note.ensures.failed in
@@ -73,7 +74,8 @@ events-preserved g c =
     let few = c.events.invariant.few in
     let flushed = c.in_ok-flush_and_note.ensures.flushed in
     record {
-      on = λ start new. runs_more c.repeat.result _ start _ (first_events c.events.left before) (first_events (c.events.left - 1) behind) c.events.machine c.repeat.new.self c.flush_and_note.new.machine
+      on = λ start new. runs_more c.repeat.result _ start _ (first_events c.events.left before) (first_events (c.events.left - 1) behind) c.events.machine c.repeat.new.self
+          c.flush_and_note.new.machine
           c.in-Some.one.event _ _ _ c.repeat.ensures.some (c.events.invariant.on start new) parts c.repeat.ensures.chain flushed;
       has = state_after c.repeat.result c.events.machine c.repeat.new.self c.flush_and_note.new.machine c.in-Some.one.event _ _ c.events.invariant.has c.repeat.ensures.chain flushed;
       taken = taken_more _ c.repeat.new.self c.flush_and_note.new.machine _ _ c.events.invariant.taken flushed;

@@ -24,7 +24,8 @@ loop-item-preserved c =
     let i = c.loop-item.item-index in
     let x = c.item-item.result in
     record {
-      printed = rw c.in_ok-push.ensures.items (printed_more print c.loop-item.values.items c.in_ok-value.value xs i x c.loop-item-test.true c.item-item.is c.in_ok-value.ensures.printed c.loop-item.invariant.printed);
+      printed = rw c.in_ok-push.ensures.items (printed_more print c.loop-item.values.items c.in_ok-value.value xs i x c.loop-item-test.true c.item-item.is
+          c.in_ok-value.ensures.printed c.loop-item.invariant.printed);
       typed = All-more HasModuleRule xs i x c.loop-item-test.true c.loop-item.invariant.typed (subst HasModuleRule c.item-item.is c.in_ok-value.ensures.typed);
     }
 

@@ -9,5 +9,6 @@ abbrev pub invariant-loop-key : goal.invariant-loop-key
 invariant-loop-key l = record {
   can_next : (goal.iterator-loop-key).can_next l.key-iterator;
   is_finite : (goal.iterator-loop-key).is_finite l.key-iterator;
-  rest : list_any (λ k. not (list_any (bytes_eq (string_bytes k)) (map (λ k. k.now) l.keys))) l.key-iterator ≡ list_any (λ k. not (list_any (bytes_eq (string_bytes k)) (map (λ k. k.now) l.keys))) (keys_of l.table.entries);
+  rest : list_any (λ k. not (list_any (bytes_eq (string_bytes k)) (map (λ k. k.now) l.keys))) l.key-iterator ≡
+      list_any (λ k. not (list_any (bytes_eq (string_bytes k)) (map (λ k. k.now) l.keys))) (keys_of l.table.entries);
 }

@@ -11,5 +11,7 @@ returns-clause-within g c =
     c.in_ok-exports.ensures.exports
     (subst (λ (exports : List Export). modules_made exports (map file_of c.args.objects.now) ≡ Ok (map module_rule c.in_ok-modules.modules.items)) c.deref.ensures.value c.in_ok-modules.ensures.made)
     c.if_few_sites.result
-    (subst (λ (bound : List ℕ). IfOk c.if_few_sites.result (λ made. if_few_sites (record (rules_with (terms_of c.args.settings) c.args.digest c.in_ok-exports.exports.items (map module_rule c.in_ok-modules.modules.items)) { bound = bound }) ≡ Ok (rules_of made)))
+    (subst (λ (bound : List ℕ). IfOk c.if_few_sites.result
+    (λ made. if_few_sites (record (rules_with (terms_of c.args.settings) c.args.digest c.in_ok-exports.exports.items (map module_rule c.in_ok-modules.modules.items))
+    { bound = bound }) ≡ Ok (rules_of made)))
     c.new.ensures.items c.if_few_sites.ensures.policy)

@@ -17,4 +17,5 @@ returns-in-5 c = row_funct7 c.args.word table.op_op Op.Sra Op.Sra c.op-in-5.resu
 
 pub returns-in_default : goal.returns-in_default
 unfolding rows
-returns-in_default c = sym (missing c.args.word 0xFE00007F (0x33 + 2 ^ 25 * 0x20) 12 15 (0 ∷ 5 ∷ []) (mask_opcode_funct7 c.args.word 0x33 0x20 c.requires.opcode c.requires.funct7) (omega arith, (omega arith, tt)) refl)
+returns-in_default c = sym (missing c.args.word 0xFE00007F (0x33 + 2 ^ 25 * 0x20) 12 15 (0 ∷ 5 ∷ []) (mask_opcode_funct7 c.args.word 0x33 0x20 c.requires.opcode c.requires.funct7)
+    (omega arith, (omega arith, tt)) refl)

@@ -9,16 +9,20 @@ use Rattle.rv64_decode.proofs.integer.base_op_32.Goals as goal
 
 pub returns-in-0 : goal.returns-in-0
 unfolding rows
-returns-in-0 c = row_funct7 c.args.word table.op_32 Op32.Addw Op32.Addw c.op_32.result c.op_32.ensures refl 0x3B 0 0x00 c.requires.opcode (sym c.funct3.ensures.value ∙ c.in-0.is) c.requires.funct7 refl
+returns-in-0 c = row_funct7 c.args.word table.op_32 Op32.Addw Op32.Addw c.op_32.result c.op_32.ensures refl 0x3B 0 0x00 c.requires.opcode (sym c.funct3.ensures.value ∙
+    c.in-0.is) c.requires.funct7 refl
 
 pub returns-in-1 : goal.returns-in-1
 unfolding rows
-returns-in-1 c = row_funct7 c.args.word table.op_32 Op32.Sllw Op32.Sllw c.op_32-in-1.result c.op_32-in-1.ensures refl 0x3B 1 0x00 c.requires.opcode (sym c.funct3.ensures.value ∙ c.in-1.is) c.requires.funct7 refl
+returns-in-1 c = row_funct7 c.args.word table.op_32 Op32.Sllw Op32.Sllw c.op_32-in-1.result c.op_32-in-1.ensures refl 0x3B 1 0x00 c.requires.opcode (sym c.funct3.ensures.value ∙
+    c.in-1.is) c.requires.funct7 refl
 
 pub returns-in-5 : goal.returns-in-5
 unfolding rows
-returns-in-5 c = row_funct7 c.args.word table.op_32 Op32.Srlw Op32.Srlw c.op_32-in-5.result c.op_32-in-5.ensures refl 0x3B 5 0x00 c.requires.opcode (sym c.funct3.ensures.value ∙ c.in-5.is) c.requires.funct7 refl
+returns-in-5 c = row_funct7 c.args.word table.op_32 Op32.Srlw Op32.Srlw c.op_32-in-5.result c.op_32-in-5.ensures refl 0x3B 5 0x00 c.requires.opcode (sym c.funct3.ensures.value ∙
+    c.in-5.is) c.requires.funct7 refl
 
 pub returns-in_default : goal.returns-in_default
 unfolding rows
-returns-in_default c = sym (missing c.args.word 0xFE00007F (0x3B + 2 ^ 25 * 0x00) 12 15 (0 ∷ 1 ∷ 5 ∷ []) (mask_opcode_funct7 c.args.word 0x3B 0x00 c.requires.opcode c.requires.funct7) (omega arith, (omega arith, (omega arith, tt))) refl)
+returns-in_default c = sym (missing c.args.word 0xFE00007F (0x3B +
+    2 ^ 25 * 0x00) 12 15 (0 ∷ 1 ∷ 5 ∷ []) (mask_opcode_funct7 c.args.word 0x3B 0x00 c.requires.opcode c.requires.funct7) (omega arith, (omega arith, (omega arith, tt))) refl)

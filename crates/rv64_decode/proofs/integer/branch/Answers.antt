@@ -9,7 +9,10 @@ use Rattle.rv64_decode.proofs.integer.branch.Goals.{in-0, in-1, in-4, in-5, in-6
 
 pub returns-in_default : goal.returns-in_default
 unfolding rows
-returns-in_default c = sym (missing c.args.word 0x7F 0x63 12 15 (0 ∷ 1 ∷ 4 ∷ 5 ∷ 6 ∷ 7 ∷ []) (mask_opcode c.args.word 0x63 c.requires) (omega arith, (omega arith, (omega arith, (omega arith, (omega arith, (omega arith, tt)))))) refl)
+returns-in_default c = sym (missing c.args.word 0x7F 0x63 12 15 (0 ∷ 1 ∷ 4 ∷ 5 ∷ 6 ∷ 7 ∷ []) (mask_opcode c.args.word 0x63 c.requires) (
+  omega arith,
+  (omega arith, (omega arith, (omega arith, (omega arith, (omega arith, tt))))),
+) refl)
 
 pub returns : goal.returns
 unfolding rows

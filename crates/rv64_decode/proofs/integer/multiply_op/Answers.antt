@@ -11,8 +11,10 @@ unfolding rows
 returns c = elim c.match-funct3.branch [
   | in-0 w ↦ row_funct7 c.args.word table.op_op Op.Mul c.match-funct3.op c.op.result c.op.ensures w.op-is 0x33 0 0x01 c.requires.opcode (sym c.funct3.ensures.value ∙ w.in-0.is) c.requires.funct7 refl
   | in-1 w ↦ row_funct7 c.args.word table.op_op Op.Mulh c.match-funct3.op c.op.result c.op.ensures w.op-is 0x33 1 0x01 c.requires.opcode (sym c.funct3.ensures.value ∙ w.in-1.is) c.requires.funct7 refl
-  | in-2 w ↦ row_funct7 c.args.word table.op_op Op.Mulhsu c.match-funct3.op c.op.result c.op.ensures w.op-is 0x33 2 0x01 c.requires.opcode (sym c.funct3.ensures.value ∙ w.in-2.is) c.requires.funct7 refl
-  | in-3 w ↦ row_funct7 c.args.word table.op_op Op.Mulhu c.match-funct3.op c.op.result c.op.ensures w.op-is 0x33 3 0x01 c.requires.opcode (sym c.funct3.ensures.value ∙ w.in-3.is) c.requires.funct7 refl
+  | in-2 w ↦ row_funct7 c.args.word table.op_op Op.Mulhsu c.match-funct3.op c.op.result c.op.ensures w.op-is 0x33 2 0x01 c.requires.opcode (sym c.funct3.ensures.value ∙
+      w.in-2.is) c.requires.funct7 refl
+  | in-3 w ↦ row_funct7 c.args.word table.op_op Op.Mulhu c.match-funct3.op c.op.result c.op.ensures w.op-is 0x33 3 0x01 c.requires.opcode (sym c.funct3.ensures.value ∙
+      w.in-3.is) c.requires.funct7 refl
   | in-4 w ↦ row_funct7 c.args.word table.op_op Op.Div c.match-funct3.op c.op.result c.op.ensures w.op-is 0x33 4 0x01 c.requires.opcode (sym c.funct3.ensures.value ∙ w.in-4.is) c.requires.funct7 refl
   | in-5 w ↦ row_funct7 c.args.word table.op_op Op.Divu c.match-funct3.op c.op.result c.op.ensures w.op-is 0x33 5 0x01 c.requires.opcode (sym c.funct3.ensures.value ∙ w.in-5.is) c.requires.funct7 refl
   | in-6 w ↦ row_funct7 c.args.word table.op_op Op.Rem c.match-funct3.op c.op.result c.op.ensures w.op-is 0x33 6 0x01 c.requires.opcode (sym c.funct3.ensures.value ∙ w.in-6.is) c.requires.funct7 refl

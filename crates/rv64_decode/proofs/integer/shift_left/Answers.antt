@@ -9,7 +9,8 @@ use Rattle.rv64_decode.proofs.integer.shift_left.Goals as goal
 
 pub returns-then-bits-eq0 : goal.returns-then-bits-eq0
 unfolding rows
-returns-then-bits-eq0 c = row_funct6 c.args.word table.shift OpImm.Slli OpImm.Slli c.shift.result c.shift.ensures refl 0x13 1 0 c.requires.opcode c.requires.funct3 (sym c.bits.ensures.value ∙ c.if-bits-eq0.true) refl
+returns-then-bits-eq0 c = row_funct6 c.args.word table.shift OpImm.Slli OpImm.Slli c.shift.result c.shift.ensures refl 0x13 1 0 c.requires.opcode c.requires.funct3
+    (sym c.bits.ensures.value ∙ c.if-bits-eq0.true) refl
 
 pub returns-else-bits-eq0 : goal.returns-else-bits-eq0
 unfolding rows

@@ -9,7 +9,8 @@ use Rattle.rv64_decode.proofs.integer.shift_left_32.Goals as goal
 
 pub returns-then-funct7-eq0 : goal.returns-then-funct7-eq0
 unfolding rows
-returns-then-funct7-eq0 c = row_funct7 c.args.word table.shift_32 OpImm32.Slliw OpImm32.Slliw c.shift_32.result c.shift_32.ensures refl 0x1B 1 0 c.requires.opcode c.requires.funct3 (sym c.funct7.ensures ∙ c.if-funct7-eq0.true) refl
+returns-then-funct7-eq0 c = row_funct7 c.args.word table.shift_32 OpImm32.Slliw OpImm32.Slliw c.shift_32.result c.shift_32.ensures refl 0x1B 1 0 c.requires.opcode
+    c.requires.funct3 (sym c.funct7.ensures ∙ c.if-funct7-eq0.true) refl
 
 pub returns-else-funct7-eq0 : goal.returns-else-funct7-eq0
 unfolding rows

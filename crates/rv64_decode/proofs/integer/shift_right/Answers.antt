@@ -13,8 +13,12 @@ returns-in-0 c = row_funct6 c.args.word table.shift OpImm.Srli OpImm.Srli c.shif
 
 pub returns-in-16 : goal.returns-in-16
 unfolding rows
-returns-in-16 c = row_funct6 c.args.word table.shift OpImm.Srai OpImm.Srai c.shift-in-16.result c.shift-in-16.ensures refl 0x13 5 0x10 c.requires.opcode c.requires.funct3 (sym c.bits.ensures.value ∙ c.in-16.is) refl
+returns-in-16 c = row_funct6 c.args.word table.shift OpImm.Srai OpImm.Srai c.shift-in-16.result c.shift-in-16.ensures refl 0x13 5 0x10 c.requires.opcode c.requires.funct3
+    (sym c.bits.ensures.value ∙ c.in-16.is) refl
 
 pub returns-in_default : goal.returns-in_default
 unfolding rows
-returns-in_default c = sym (missing c.args.word 0x707F (0x13 + 2 ^ 12 * 5) 26 32 (0 ∷ 0x10 ∷ []) (mask_funct3 c.args.word 0x13 5 c.requires.opcode c.requires.funct3) (omega arith, (omega arith, tt)) refl)
+returns-in_default c = sym (missing c.args.word 0x707F (0x13 + 2 ^ 12 * 5) 26 32 (0 ∷ 0x10 ∷ []) (mask_funct3 c.args.word 0x13 5 c.requires.opcode c.requires.funct3) (
+  omega arith,
+  (omega arith, tt),
+) refl)

@@ -9,7 +9,10 @@ use Rattle.rv64_decode.proofs.memory.load.Goals.{in-0, in-1, in-2, in-3, in-4, i
 
 pub returns-in_default : goal.returns-in_default
 unfolding rows
-returns-in_default c = sym (missing c.args.word 0x7F 0x03 12 15 (0 ∷ 1 ∷ 2 ∷ 3 ∷ 4 ∷ 5 ∷ 6 ∷ []) (mask_opcode c.args.word 0x03 c.requires) (omega arith, (omega arith, (omega arith, (omega arith, (omega arith, (omega arith, (omega arith, tt))))))) refl)
+returns-in_default c = sym (missing c.args.word 0x7F 0x03 12 15 (0 ∷ 1 ∷ 2 ∷ 3 ∷ 4 ∷ 5 ∷ 6 ∷ []) (mask_opcode c.args.word 0x03 c.requires) (
+  omega arith,
+  (omega arith, (omega arith, (omega arith, (omega arith, (omega arith, (omega arith, tt)))))),
+) refl)
 
 pub returns : goal.returns
 unfolding rows

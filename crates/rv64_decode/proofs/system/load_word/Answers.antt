@@ -10,12 +10,16 @@ use Rattle.rv64_decode.proofs.system.load_word.Goals.{in-0, in-1, in-3}
 
 pub returns-in_default : goal.returns-in_default
 unfolding rows
-returns-in_default c = sym (missing c.args.word 0xFE00707F (0x73 + 2 ^ 12 * 4 + 2 ^ 25 * 0x34) 20 25 (0 ∷ 1 ∷ 3 ∷ []) (mask_funct7 c.args.word 0x73 4 0x34 c.requires.opcode c.requires.funct3 c.requires.funct7) (omega arith, (omega arith, (omega arith, tt))) refl)
+returns-in_default c = sym (missing c.args.word 0xFE00707F (0x73 + 2 ^ 12 * 4 +
+    2 ^ 25 * 0x34) 20 25 (0 ∷ 1 ∷ 3 ∷ []) (mask_funct7 c.args.word 0x73 4 0x34 c.requires.opcode c.requires.funct3 c.requires.funct7) (omega arith, (omega arith, (omega arith, tt))) refl)
 
 pub returns : goal.returns
 unfolding rows
 returns c = elim c.match-rs2.branch [
-  | in-0 w ↦ row_funct7_rs2 c.args.word table.hyper_load Hyper.HlvW c.match-rs2.op c.hyper_load.result c.hyper_load.ensures w.op-is 0x73 4 0x34 0 c.requires.opcode c.requires.funct3 c.requires.funct7 (sym c.rs2.ensures ∙ w.in-0.is) refl
-  | in-1 w ↦ row_funct7_rs2 c.args.word table.hyper_load Hyper.HlvWu c.match-rs2.op c.hyper_load.result c.hyper_load.ensures w.op-is 0x73 4 0x34 1 c.requires.opcode c.requires.funct3 c.requires.funct7 (sym c.rs2.ensures ∙ w.in-1.is) refl
-  | in-3 w ↦ row_funct7_rs2 c.args.word table.hyper_load Hyper.HlvxWu c.match-rs2.op c.hyper_load.result c.hyper_load.ensures w.op-is 0x73 4 0x34 3 c.requires.opcode c.requires.funct3 c.requires.funct7 (sym c.rs2.ensures ∙ w.in-3.is) refl
+  | in-0 w ↦ row_funct7_rs2 c.args.word table.hyper_load Hyper.HlvW c.match-rs2.op c.hyper_load.result c.hyper_load.ensures w.op-is 0x73 4 0x34 0 c.requires.opcode
+      c.requires.funct3 c.requires.funct7 (sym c.rs2.ensures ∙ w.in-0.is) refl
+  | in-1 w ↦ row_funct7_rs2 c.args.word table.hyper_load Hyper.HlvWu c.match-rs2.op c.hyper_load.result c.hyper_load.ensures w.op-is 0x73 4 0x34 1 c.requires.opcode
+      c.requires.funct3 c.requires.funct7 (sym c.rs2.ensures ∙ w.in-1.is) refl
+  | in-3 w ↦ row_funct7_rs2 c.args.word table.hyper_load Hyper.HlvxWu c.match-rs2.op c.hyper_load.result c.hyper_load.ensures w.op-is 0x73 4 0x34 3 c.requires.opcode
+      c.requires.funct3 c.requires.funct7 (sym c.rs2.ensures ∙ w.in-3.is) refl
 ]

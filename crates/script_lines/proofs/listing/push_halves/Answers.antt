@@ -8,5 +8,6 @@ returns c =
     let line = c.args.line in
     let half = line.count / 2 in
     let all : half + (line.count - half) ≡ line.count = omega arith in
-    let items : c.push-3.new.self.items ≡ (c.args.halves.now.items ++ record { event = line.event; count = half } ∷ []) ++ record { event = line.event; count = line.count - half } ∷ [] = search rules in
+    let items : c.push-3.new.self.items ≡
+    (c.args.halves.now.items ++ record { event = line.event; count = half } ∷ []) ++ record { event = line.event; count = line.count - half } ∷ [] = search rules in
     ap events_of items ∙ pushed_two c.args.halves.now.items (record { event = line.event; count = half }) (record { event = line.event; count = line.count - half }) line refl refl all

@@ -9,7 +9,8 @@ use Rattle.secvisor_cli.proofs.answer.prepare.Goals as goal
 
 pub returns-in_err-command : goal.returns-in_err-command
 returns-in_err-command g c =
-    err_by _ (stop_of_unread c.in_err-command.field-0.0) (λ r. Prepares (plan_of (judgement_of_words (map string_bytes c.args.words.now))) (g.F.Files.state c.args.files.now) (g.F.Files.state c.args.files.now) r)
+    err_by _ (stop_of_unread c.in_err-command.field-0.0) (λ r. Prepares (plan_of (judgement_of_words (map string_bytes c.args.words.now))) (g.F.Files.state c.args.files.now)
+    (g.F.Files.state c.args.files.now) r)
     c.from_residual.ensures.1
     (words_unread _ c.in_err-command.field-0.0 _ c.in_err-command.ensures.asked)
 

@@ -35,4 +35,5 @@ returns-clause-disk g c = disk_ok c.finish.result _ (λ start new. stands_disk c
 
 pub returns-clause-machine : goal.returns-clause-machine
 returns-clause-machine g c = λ start new.
-    ran_reaches c.args.machine.now start _ c.run.new.machine _ _ _ _ new (c.in_ok-run.ensures.all.ran start new) c.in_ok-run.ensures.all.room c.in_ok-run.ensures.all.rest c.finish.ensures.writes.prefix c.finish.ensures.quiet
+    ran_reaches c.args.machine.now start _ c.run.new.machine _ _ _ _ new (c.in_ok-run.ensures.all.ran start new) c.in_ok-run.ensures.all.room c.in_ok-run.ensures.all.rest
+    c.finish.ensures.writes.prefix c.finish.ensures.quiet

@@ -16,14 +16,16 @@ save_disk-requires-clause-permitted g c =
 pub returns-in_err-status : goal.returns-in_err-status
 returns-in_err-status g c = λ start new.
     err_by _ c.in_err-status.field-0.0
-    (λ r. RunsAndSaves start (first_events c.args.events c.args.script) (option_copied c.args.save) c.run_and_report.new.machine (g.F.Files.state c.args.files.now) (g.F.Files.state c.args.files.now) (g.O.Sink.state c.args.out.now) (g.O.Sink.state c.run_and_report.new.out) r)
+    (λ r. RunsAndSaves start (first_events c.args.events c.args.script) (option_copied c.args.save) c.run_and_report.new.machine (g.F.Files.state c.args.files.now)
+    (g.F.Files.state c.args.files.now) (g.O.Sink.state c.args.out.now) (g.O.Sink.state c.run_and_report.new.out) r)
     c.from_residual.ensures.1
     (run_not_saved start _ (option_copied c.args.save) _ _ _ _ c.in_err-status.field-0.0 (c.in_err-status.ensures.writes start new) (c.in_err-status.ensures.machine start new))
 
 pub returns-in_err-save_disk : goal.returns-in_err-save_disk
 returns-in_err-save_disk g c = λ start new.
     err_by _ c.in_err-save_disk.field-0.0
-    (λ r. RunsAndSaves start (first_events c.args.events c.args.script) (option_copied c.args.save) c.run_and_report.new.machine (g.F.Files.state c.args.files.now) (g.F.Files.state c.save_disk.new.files) (g.O.Sink.state c.args.out.now) (g.O.Sink.state c.run_and_report.new.out) r)
+    (λ r. RunsAndSaves start (first_events c.args.events c.args.script) (option_copied c.args.save) c.run_and_report.new.machine (g.F.Files.state c.args.files.now)
+    (g.F.Files.state c.save_disk.new.files) (g.O.Sink.state c.args.out.now) (g.O.Sink.state c.run_and_report.new.out) r)
     c.from_residual-in_err-save_disk.ensures.1
     (run_broke start _ (option_copied c.args.save) _ _ _ _ _ c.in_ok-status.status c.in_err-save_disk.field-0.0 (c.in_ok-status.ensures.disk start new) (c.in_ok-status.ensures.writes start new)
     (c.in_ok-status.ensures.machine start new) c.in_err-save_disk.ensures)

@@ -20,7 +20,8 @@ pub returns-in_err-try_place : goal.returns-in_err-try_place
 returns-in_err-try_place g c = λ start new.
     err_by _ c.in_err-try_place.field-0.0
     (λ r. Answers (RunFrom start (first_events c.args.ready.events c.args.ready.script) (option_copied c.args.ready.save))
-    (outside (g.F.Files.state c.args.files.now) (g.O.Sink.state c.args.out.now) c.args.bench.now.machine) (outside (g.F.Files.state c.try_place.new.files) (g.O.Sink.state c.args.out.now) c.args.bench.now.machine) r)
+    (outside (g.F.Files.state c.args.files.now) (g.O.Sink.state c.args.out.now) c.args.bench.now.machine)
+    (outside (g.F.Files.state c.try_place.new.files) (g.O.Sink.state c.args.out.now) c.args.bench.now.machine) r)
     c.from_residual.ensures.1
     (vain_answers start _ (option_copied c.args.ready.save) _ _ _ _ c.in_err-try_place.field-0.0 c.in_err-try_place.ensures)
 

@@ -27,7 +27,8 @@ unfolding convert_plan binding_plan
 returns-in_err-file g c =
     err_by _ c.in_err-file.field-0.0 (λ r. Prepares (convert_plan (convert_split_of c.args.asked.now)) (g.F.Files.state c.args.files.now) (g.F.Files.state c.read_part.new.files) r)
     c.from_residual-in_err-file.ensures.1
-    (pass_ready (policy_part c.args.asked.now.given.now) (rules_of c.in_ok-policy.policy) (binding_plan (convert_split_of c.args.asked.now)) _ _ _ (Err c.in_err-file.field-0.0) c.in_ok-policy.ensures.stage
+    (pass_ready (policy_part c.args.asked.now.given.now) (rules_of c.in_ok-policy.policy) (binding_plan (convert_split_of c.args.asked.now)) _ _ _ (Err c.in_err-file.field-0.0)
+    c.in_ok-policy.ensures.stage
     (stopped_ready Part.Image c.args.asked.now.kernel.now max_image_bytes _ _ _ c.in_err-file.field-0.0 c.in_err-file.ensures))
 
 pub returns : goal.returns
@@ -35,7 +36,9 @@ unfolding convert_plan binding_plan
 returns g c =
     pass_ready (policy_part c.args.asked.now.given.now) (rules_of c.in_ok-policy.policy) (binding_plan (convert_split_of c.args.asked.now)) _ _ _ c.bind_file.result c.in_ok-policy.ensures.stage
     (read_ready Part.Image c.args.asked.now.kernel.now max_image_bytes
-    (λ (b : List ℕ). kernel_part (rules_of c.in_ok-policy.policy) b (bound_plan (convert_split_of c.args.asked.now) (rules_of c.in_ok-policy.policy) b)) _ _ _ c.in_ok-file.file.items c.bind_file.result c.in_ok-file.ensures
+    (λ (b : List ℕ). kernel_part (rules_of c.in_ok-policy.policy) b (bound_plan (convert_split_of c.args.asked.now) (rules_of c.in_ok-policy.policy) b)) _ _ _
+    c.in_ok-file.file.items c.bind_file.result c.in_ok-file.ensures
     (subst
-    (λ (b : List ℕ). Prepares (kernel_part (rules_of c.in_ok-policy.policy) b (bound_plan (convert_split_of c.args.asked.now) (rules_of c.in_ok-policy.policy) b)) (g.F.Files.state c.read_part.new.files) (g.F.Files.state c.read_part.new.files) c.bind_file.result)
+    (λ (b : List ℕ). Prepares (kernel_part (rules_of c.in_ok-policy.policy) b (bound_plan (convert_split_of c.args.asked.now) (rules_of c.in_ok-policy.policy) b))
+    (g.F.Files.state c.read_part.new.files) (g.F.Files.state c.read_part.new.files) c.bind_file.result)
     c.deref.ensures.value (c.bind_file.ensures (g.F.Files.state c.read_part.new.files))))

@@ -11,7 +11,8 @@ read_part-requires-clause-permitted g c = c.requires.permitted.0
 pub returns-in_err-bytes : goal.returns-in_err-bytes
 unfolding flat_plan
 returns-in_err-bytes g c =
-    err_by _ c.in_err-bytes.field-0.0 (λ r. Prepares (flat_plan c.args.flat.now.file.now c.args.flat.now.wanted c.args.flat.now.events) (g.F.Files.state c.args.files.now) (g.F.Files.state c.read_part.new.files) r)
+    err_by _ c.in_err-bytes.field-0.0 (λ r. Prepares (flat_plan c.args.flat.now.file.now c.args.flat.now.wanted c.args.flat.now.events) (g.F.Files.state c.args.files.now)
+    (g.F.Files.state c.read_part.new.files) r)
     c.from_residual.ensures.1 (stopped_ready _ _ _ _ _ _ c.in_err-bytes.field-0.0 c.in_err-bytes.ensures)
 
 pub returns-then-not-is_whole_pages : goal.returns-then-not-is_whole_pages

@@ -9,7 +9,8 @@ pub places-preserved : goal.places-preserved
 places-preserved c =
     let left : 1024 - c.places.place ≡ suc (1024 - (c.places.place + 1)) = omega arith in
     let before = ap (λ (n : ℕ). c.places.disk.items ++ bytes_from c.places.place n) (sym left) ∙ c.places.invariant in
-    ap (λ (items : List ℕ). items ++ bytes_from (c.places.place + 1) (1024 - (c.places.place + 1))) c.in_ok-push.ensures.items ∙ disk_more c.places.disk.items c.places.place (1024 - (c.places.place + 1)) before
+    ap (λ (items : List ℕ). items ++ bytes_from (c.places.place + 1) (1024 - (c.places.place + 1))) c.in_ok-push.ensures.items ∙
+    disk_more c.places.disk.items c.places.place (1024 - (c.places.place + 1)) before
 
 pub returns : goal.returns
 returns c =

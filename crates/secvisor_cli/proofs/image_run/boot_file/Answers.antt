@@ -50,13 +50,19 @@ returns-in_err-machine-clause-prepares g c =
     c.from_residual-in_err-machine.ensures.1
     (script_ready (run_value c.args.asked.now) (rules_of c.args.policy) c.args.file.now c.in_ok-disk.disk.items c.in_ok-script.script _ _ _ _ c.in_ok-image.ensures.accepted
     c.in_ok-disk.ensures.stage c.in_ok-script.ensures.stage
-    (boot_stopped c.args.asked.now.kind (rules_of c.args.policy) c.args.file.now c.in_ok-disk.disk.items _ _ c.in_ok-image.image c.in_err-machine.field-0.0 c.in_ok-image.ensures c.in_err-machine.ensures.refused))
+    (boot_stopped c.args.asked.now.kind (rules_of c.args.policy) c.args.file.now c.in_ok-disk.disk.items _ _ c.in_ok-image.image c.in_err-machine.field-0.0 c.in_ok-image.ensures
+    c.in_err-machine.ensures.refused))
 
 pub returns-clause-prepares : goal.returns-clause-prepares
 returns-clause-prepares g c =
     let new = c.in_ok-machine.ensures.new c.args.file.now c.in_ok-image.ensures in
     let fresh = fresh_with c.args.asked.now.kind (rules_of c.args.policy) c.args.file.now c.in_ok-disk.disk.items c.in_ok-machine.machine new in
-    let it : IsFresh (record { machine = c.in_ok-machine.machine; script = c.in_ok-script.script; events = c.args.asked.now.events; save = c.args.asked.now.save }) = record { events = c.requires.events; state = record { state = _; stands = new.stands }; counts = fresh.0; console = fresh.1 } in
+    let it : IsFresh (record {
+      machine = c.in_ok-machine.machine;
+      script = c.in_ok-script.script;
+      events = c.args.asked.now.events;
+      save = c.args.asked.now.save;
+    }) = record { events = c.requires.events; state = record { state = _; stands = new.stands }; counts = fresh.0; console = fresh.1 } in
     script_ready (run_value c.args.asked.now) (rules_of c.args.policy) c.args.file.now c.in_ok-disk.disk.items c.in_ok-script.script _ _ _ _ c.in_ok-image.ensures.accepted
     c.in_ok-disk.ensures.stage c.in_ok-script.ensures.stage
     (image_booted c.args.asked.now.kind (rules_of c.args.policy) c.args.file.now c.in_ok-disk.disk.items (first_events c.args.asked.now.events c.in_ok-script.script) _ c.in_ok-image.image

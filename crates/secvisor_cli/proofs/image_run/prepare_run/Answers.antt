@@ -38,7 +38,8 @@ boot_file-requires-clause-permitted g c κs within =
     (λ (b : List ℕ). MayFollow (kernel_part (rules_of c.in_ok-policy.policy) b (boot_plan (run_value c.args.asked.now) (rules_of c.in_ok-policy.policy) b)) (g.F.Files.state c.read_part.new.files))
     (sym c.deref.ensures.value)
     (read_may Part.Image c.args.asked.now.image.now max_image_bytes
-    (λ (b : List ℕ). kernel_part (rules_of c.in_ok-policy.policy) b (boot_plan (run_value c.args.asked.now) (rules_of c.in_ok-policy.policy) b)) (g.F.Files.state c.read_policy.new.files) (g.F.Files.state c.read_part.new.files) c.in_ok-file.file.items c.in_ok-file.ensures
+    (λ (b : List ℕ). kernel_part (rules_of c.in_ok-policy.policy) b (boot_plan (run_value c.args.asked.now) (rules_of c.in_ok-policy.policy) b))
+    (g.F.Files.state c.read_policy.new.files) (g.F.Files.state c.read_part.new.files) c.in_ok-file.file.items c.in_ok-file.ensures
     (c.in_ok-policy.ensures.stage.may (image_plan (run_value c.args.asked.now)) c.requires.permitted))
 
 pub returns-clause-prepares : goal.returns-clause-prepares
@@ -46,7 +47,9 @@ unfolding run_plan image_plan
 returns-clause-prepares g c =
     pass_ready (policy_part c.args.asked.now.policy.now) (rules_of c.in_ok-policy.policy) (image_plan (run_value c.args.asked.now)) _ _ _ (run_ready c.boot_file.result) c.in_ok-policy.ensures.stage
     (read_ready Part.Image c.args.asked.now.image.now max_image_bytes
-    (λ (b : List ℕ). kernel_part (rules_of c.in_ok-policy.policy) b (boot_plan (run_value c.args.asked.now) (rules_of c.in_ok-policy.policy) b)) _ _ _ c.in_ok-file.file.items (run_ready c.boot_file.result) c.in_ok-file.ensures
+    (λ (b : List ℕ). kernel_part (rules_of c.in_ok-policy.policy) b (boot_plan (run_value c.args.asked.now) (rules_of c.in_ok-policy.policy) b)) _ _ _ c.in_ok-file.file.items
+    (run_ready c.boot_file.result) c.in_ok-file.ensures
     (subst
-    (λ (b : List ℕ). Prepares (kernel_part (rules_of c.in_ok-policy.policy) b (boot_plan (run_value c.args.asked.now) (rules_of c.in_ok-policy.policy) b)) (g.F.Files.state c.read_part.new.files) (g.F.Files.state c.boot_file.new.files) (run_ready c.boot_file.result))
+    (λ (b : List ℕ). Prepares (kernel_part (rules_of c.in_ok-policy.policy) b (boot_plan (run_value c.args.asked.now) (rules_of c.in_ok-policy.policy) b))
+    (g.F.Files.state c.read_part.new.files) (g.F.Files.state c.boot_file.new.files) (run_ready c.boot_file.result))
     c.deref.ensures.value c.boot_file.ensures.prepares))

@@ -23,7 +23,8 @@ read_part-requires-clause-permitted g c =
 
 pub returns-in_err-disk-clause-stage : goal.returns-in_err-disk-clause-stage
 returns-in_err-disk-clause-stage g c =
-    subst (λ (n : Option (Bor (List ℕ))). Staged {T = Vec ℕ Global} (disk_part (option_copied n)) (λ (v : Vec ℕ Global). v.items) (g.F.Files.state c.args.files.now) (g.F.Files.state c.read_part.new.files) c.from_residual.result)
+    subst (λ (n : Option (Bor (List ℕ))). Staged {T = Vec ℕ Global} (disk_part (option_copied n)) (λ (v : Vec ℕ Global). v.items) (g.F.Files.state c.args.files.now)
+    (g.F.Files.state c.read_part.new.files) c.from_residual.result)
     (sym c.in-Some.is)
     (err_by _ c.in_err-disk.field-0.0
     (λ r. Staged {T = Vec ℕ Global} (disk_part (Some c.in-Some.name.now)) (λ (v : Vec ℕ Global). v.items) (g.F.Files.state c.args.files.now) (g.F.Files.state c.read_part.new.files) r)
@@ -32,7 +33,8 @@ returns-in_err-disk-clause-stage g c =
 pub returns-then-not-is_whole_sectors-clause-stage : goal.returns-then-not-is_whole_sectors-clause-stage
 returns-then-not-is_whole_sectors-clause-stage g c =
     let part : (length c.deref.result.now % 512 == 0) ≡ false = sym c.is_whole_sectors.ensures.value ∙ c.if-not-is_whole_sectors.true in λ next.
-    subst (λ (n : Option (Bor (List ℕ))). Prepares (disk_part (option_copied n) next) (g.F.Files.state c.args.files.now) (g.F.Files.state c.read_part.new.files) (Err (Refused (File FileFault.DiskSectors))))
+    subst (λ (n : Option (Bor (List ℕ))). Prepares (disk_part (option_copied n) next) (g.F.Files.state c.args.files.now) (g.F.Files.state c.read_part.new.files)
+    (Err (Refused (File FileFault.DiskSectors))))
     (sym c.in-Some.is)
     (disk_refused c.in-Some.name.now c.in_ok-disk.disk.items _ _ c.in_ok-disk.ensures (subst (λ (b : List ℕ). (length b % 512 == 0) ≡ false) c.deref.ensures.value part) next)
 

@@ -30,5 +30,6 @@ read_text-requires-clause-permitted g c =
 pub returns-in-Text-clause-stage : goal.returns-in-Text-clause-stage
 returns-in-Text-clause-stage g c =
     subst
-    (λ (s : Named). Staged {T = Schedule} (script_part c.args.harts (source_value s)) (λ (t : Schedule). t) (g.F.Files.state c.args.files.now) (g.F.Files.state c.read_text.new.files) c.read_text.result)
+    (λ (s : Named). Staged {T = Schedule} (script_part c.args.harts (source_value s)) (λ (t : Schedule). t) (g.F.Files.state c.args.files.now)
+    (g.F.Files.state c.read_text.new.files) c.read_text.result)
     (sym c.in-Text.is) (text_source c.args.harts c.in-Text.name.now _ _ c.read_text.result c.read_text.ensures)

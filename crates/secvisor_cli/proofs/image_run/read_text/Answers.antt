@@ -12,7 +12,8 @@ read_part-requires-clause-permitted g c = c.requires.permitted.may.0
 
 pub returns-in_err-text : goal.returns-in_err-text
 returns-in_err-text g c =
-    err_by _ c.in_err-text.field-0.0 (λ r. Staged {T = Schedule} (text_part c.args.harts c.args.name.now) (λ (s : Schedule). s) (g.F.Files.state c.args.files.now) (g.F.Files.state c.read_part.new.files) r)
+    err_by _ c.in_err-text.field-0.0 (λ r. Staged {T = Schedule} (text_part c.args.harts c.args.name.now) (λ (s : Schedule). s) (g.F.Files.state c.args.files.now)
+    (g.F.Files.state c.read_part.new.files) r)
     c.from_residual.ensures.1 (text_unread _ _ _ _ c.in_err-text.field-0.0 c.in_err-text.ensures)
 
 pub returns : goal.returns

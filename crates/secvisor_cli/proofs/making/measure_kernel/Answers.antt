@@ -13,7 +13,8 @@ read_part-requires-clause-permitted g c = kernel_asked c.args.name.now c.args.ra
 
 pub returns-in_err-file : goal.returns-in_err-file
 returns-in_err-file g c =
-    err_by _ c.in_err-file.field-0.0 (λ r. Staged {T = MeasuredKernel} (digest_part c.args.name.now c.args.ram_pages) kernel_value (g.F.Files.state c.args.files.now) (g.F.Files.state c.read_part.new.files) r)
+    err_by _ c.in_err-file.field-0.0 (λ r. Staged {T = MeasuredKernel} (digest_part c.args.name.now c.args.ram_pages) kernel_value (g.F.Files.state c.args.files.now)
+    (g.F.Files.state c.read_part.new.files) r)
     c.from_residual.ensures.1 (kernel_unread c.args.name.now c.args.ram_pages _ _ c.in_err-file.field-0.0 c.in_err-file.ensures)
 
 pub returns-in_err-digest : goal.returns-in_err-digest

@@ -30,7 +30,8 @@ read_modules-requires-clause-permitted g c =
     subst (λ (ws : List (Bor (List ℕ))). MayStage (modules_part (map (λ w. w.now) ws) no_modules) (g.F.Files.state c.measure_kernel.new.files)) (sym c.deref.ensures.value) (record {
       next = making_plan (policy_value c.args.asked.now) (kernel_value c.in_ok-kernel.kernel);
       may =
-          c.in_ok-kernel.ensures.may (λ (kernel : Kernel). modules_part (map (λ (w : Bor (List ℕ)). w.now) c.args.asked.now.modules.items) no_modules (making_plan (policy_value c.args.asked.now) kernel))
+          c.in_ok-kernel.ensures.may (λ (kernel : Kernel). modules_part (map (λ (w : Bor (List ℕ)). w.now) c.args.asked.now.modules.items) no_modules
+          (making_plan (policy_value c.args.asked.now) kernel))
           c.requires.permitted;
     })
 
@@ -50,7 +51,8 @@ returns-in_err-modules g c =
     err_by _ c.in_err-modules.field-0.0 (λ r. Prepares (measure_plan (policy_value c.args.asked.now)) (g.F.Files.state c.args.files.now) (g.F.Files.state c.read_modules.new.files) r)
     c.from_residual-in_err-modules.ensures.1
     (pass_ready (digest_part c.args.asked.now.kernel.now c.args.asked.now.terms.ram_pages) (kernel_value c.in_ok-kernel.kernel)
-    (λ (kernel : Kernel). modules_part (map (λ (w : Bor (List ℕ)). w.now) c.args.asked.now.modules.items) no_modules (making_plan (policy_value c.args.asked.now) kernel)) _ _ _ (Err c.in_err-modules.field-0.0)
+    (λ (kernel : Kernel). modules_part (map (λ (w : Bor (List ℕ)). w.now) c.args.asked.now.modules.items) no_modules (making_plan (policy_value c.args.asked.now) kernel)) _ _ _
+    (Err c.in_err-modules.field-0.0)
     c.in_ok-kernel.ensures
     (subst
     (λ (ws : List (Bor (List ℕ))). Prepares (modules_part (map (λ w. w.now) ws) no_modules (making_plan (policy_value c.args.asked.now) (kernel_value c.in_ok-kernel.kernel)))

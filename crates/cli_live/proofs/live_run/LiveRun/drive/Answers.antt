@@ -39,11 +39,15 @@ returns-clause-drives g c =
     let autos = c.in_ok-make_autos.ensures.drives in
     let keys = c.in_ok-make_keys.ensures.drives in
     let driven = driven_then autos.on keys.on in
-    let last = of_new _ _ _ _ (end_then _ _ _ _ _ _ c.in_ok-make_autos.ensures.end c.make_keys.ensures.autos (λ ended is. ended (sym c.make_keys.ensures.verdict ∙ is)) (cleared_verdict _ _ c.show_console.ensures.cleared))
+    let last = of_new _ _ _ _ (end_then _ _ _ _ _ _ c.in_ok-make_autos.ensures.end c.make_keys.ensures.autos (λ ended is. ended (sym c.make_keys.ensures.verdict ∙ is))
+    (cleared_verdict _ _ c.show_console.ensures.cleared))
     (keys.stays.events ∙ autos.stays.events) in
     record {
-      on = ok_both c.show_console.result _ _ _ (λ on none. record { went = on_then driven.went (on (events_made c.make_keys.new.live)); room = none_printed none }) c.show_console.ensures.on c.show_console.ensures.none;
-      broke = err_map c.show_console.result _ _ (λ off. on_breaks driven.went (breaks_shown (shown_last (record c.make_keys.new.live { machine = c.show_console.new.machine }) last) (off (events_made c.make_keys.new.live)))) c.show_console.ensures.broke;
+      on = ok_both c.show_console.result _ _ _ (λ on none. record { went = on_then driven.went (on (events_made c.make_keys.new.live)); room = none_printed none })
+          c.show_console.ensures.on c.show_console.ensures.none;
+      broke = err_map c.show_console.result _ _
+          (λ off. on_breaks driven.went (breaks_shown (shown_last (record c.make_keys.new.live { machine = c.show_console.new.machine }) last)
+          (off (events_made c.make_keys.new.live)))) c.show_console.ensures.broke;
       stays = stays_then (stays_then autos.stays keys.stays) (cleared_way c.make_keys.new.live c.show_console.new.machine keys.stays.way c.show_console.ensures.cleared);
     }
 

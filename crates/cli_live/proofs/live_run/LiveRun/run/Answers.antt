@@ -8,13 +8,15 @@ use Rattle.cli_live.proofs.live_run.LiveRun.run.Goals as goal
 
 pub returns-clause-on : goal.returns-clause-on
 returns-clause-on g c = λ done.
-    both_on c.feed_and_drive-fed.result.1 c.drive_again-ended.result _ _ _ (λ one two. on_then one.went two) c.drive_again-ended.ensures.first c.feed_and_drive-fed.ensures.drives.on c.drive_again-ended.ensures.on
+    both_on c.feed_and_drive-fed.result.1 c.drive_again-ended.result _ _ _ (λ one two. on_then one.went two) c.drive_again-ended.ensures.first
+    c.feed_and_drive-fed.ensures.drives.on c.drive_again-ended.ensures.on
     (sym c.is_err.ensures.value ∙ done)
 
 pub returns-clause-broke : goal.returns-clause-broke
 returns-clause-broke g c = λ broke.
     both_break c.feed_and_drive-fed.result.1 c.drive_again-ended.result c.args.self.now (record c.feed_and_drive-fed.new.self { taker = c.settle.new.taker }) c.drive_again-ended.new.self _ _ _
-    (sym c.is_err.ensures.value ∙ broke) (ok_map c.feed_and_drive-fed.result.1 _ _ (λ on. on.went) c.feed_and_drive-fed.ensures.drives.on) c.feed_and_drive-fed.ensures.drives.broke c.drive_again-ended.ensures.stays c.drive_again-ended.ensures.broke
+    (sym c.is_err.ensures.value ∙ broke) (ok_map c.feed_and_drive-fed.result.1 _ _ (λ on. on.went) c.feed_and_drive-fed.ensures.drives.on)
+    c.feed_and_drive-fed.ensures.drives.broke c.drive_again-ended.ensures.stays c.drive_again-ended.ensures.broke
 
 pub returns-clause-keys : goal.returns-clause-keys
 returns-clause-keys g c =

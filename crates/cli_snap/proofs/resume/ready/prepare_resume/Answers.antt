@@ -31,7 +31,8 @@ unfolding words_plan after_snapshot
 returns-in_err-policy g c =
     err_by _ c.in_err-policy.field-0.0 (λ r. Resumes (words_plan (resume_value c.args.asked.now)) (g.F.Files.state c.args.files.now) (g.F.Files.state c.read_policy.new.files) r)
     c.from_residual-in_err-policy.ensures.1
-    (pass (snapshot_part c.args.asked.now.saved.now) (contents c.in_ok-snapshot.snapshot) (after_snapshot (resume_value c.args.asked.now)) _ _ _ (Err c.in_err-policy.field-0.0) c.in_ok-snapshot.ensures.stage
+    (pass (snapshot_part c.args.asked.now.saved.now) (contents c.in_ok-snapshot.snapshot) (after_snapshot (resume_value c.args.asked.now)) _ _ _ (Err c.in_err-policy.field-0.0)
+    c.in_ok-snapshot.ensures.stage
     (stops _ _ _ _ (c.in_err-policy.ensures.stage (after_policy (resume_value c.args.asked.now) (contents c.in_ok-snapshot.snapshot)))))
 
 pub read_script-requires-clause-permitted : goal.read_script-requires-clause-permitted
@@ -47,15 +48,18 @@ unfolding words_plan after_snapshot after_policy
 returns-in_err-script g c =
     err_by _ c.in_err-script.field-0.0 (λ r. Resumes (words_plan (resume_value c.args.asked.now)) (g.F.Files.state c.args.files.now) (g.F.Files.state c.read_script.new.files) r)
     c.from_residual-in_err-script.ensures.1
-    (pass (snapshot_part c.args.asked.now.saved.now) (contents c.in_ok-snapshot.snapshot) (after_snapshot (resume_value c.args.asked.now)) _ _ _ (Err c.in_err-script.field-0.0) c.in_ok-snapshot.ensures.stage
-    (pass (policy_part c.args.asked.now.policy.now) (rules_of c.in_ok-policy.policy) (after_policy (resume_value c.args.asked.now) (contents c.in_ok-snapshot.snapshot)) _ _ _ (Err c.in_err-script.field-0.0) c.in_ok-policy.ensures.stage
+    (pass (snapshot_part c.args.asked.now.saved.now) (contents c.in_ok-snapshot.snapshot) (after_snapshot (resume_value c.args.asked.now)) _ _ _ (Err c.in_err-script.field-0.0)
+    c.in_ok-snapshot.ensures.stage
+    (pass (policy_part c.args.asked.now.policy.now) (rules_of c.in_ok-policy.policy) (after_policy (resume_value c.args.asked.now) (contents c.in_ok-snapshot.snapshot)) _ _ _
+    (Err c.in_err-script.field-0.0) c.in_ok-policy.ensures.stage
     (stops _ _ _ _ (c.in_err-script.ensures.stage (behind_script (resume_value c.args.asked.now) (contents c.in_ok-snapshot.snapshot) (rules_of c.in_ok-policy.policy))))))
 
 pub returns : goal.returns
 unfolding words_plan after_snapshot after_policy behind_script
 returns g c =
     pass (snapshot_part c.args.asked.now.saved.now) (contents c.in_ok-snapshot.snapshot) (after_snapshot (resume_value c.args.asked.now)) _ _ _ c.go_on.result c.in_ok-snapshot.ensures.stage
-    (pass (policy_part c.args.asked.now.policy.now) (rules_of c.in_ok-policy.policy) (after_policy (resume_value c.args.asked.now) (contents c.in_ok-snapshot.snapshot)) _ _ _ c.go_on.result c.in_ok-policy.ensures.stage
+    (pass (policy_part c.args.asked.now.policy.now) (rules_of c.in_ok-policy.policy) (after_policy (resume_value c.args.asked.now) (contents c.in_ok-snapshot.snapshot)) _ _ _
+    c.go_on.result c.in_ok-policy.ensures.stage
     (pass (script_part c.in_ok-policy.policy.harts (source_value c.args.asked.now.script)) c.in_ok-script.script
     (behind_script (resume_value c.args.asked.now) (contents c.in_ok-snapshot.snapshot) (rules_of c.in_ok-policy.policy)) _ _ _ c.go_on.result c.in_ok-script.ensures.stage
     (judge_end _ _ c.go_on.result c.go_on.ensures)))

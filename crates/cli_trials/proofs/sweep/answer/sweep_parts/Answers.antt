@@ -12,5 +12,6 @@ returns-in-Ok g c = λ rules reads.
     let parts = c.args.parts.now in
     let borrows : Borrows _ parts.policy.items parts.image.items parts.disk.items =
     record { text_is = c.files.ensures.policy; file_is = c.files.ensures.image; disk_is = c.files.ensures.disk } in
-    subst (λ (entries : List (Outcome × Tally)). WritesAll (lines.sweep_status entries) (lines.sweep_text entries) (g.O.Sink.state c.args.out.now) (g.O.Sink.state c.write_tallies.new.out) c.write_tallies.result)
+    subst (λ (entries : List (Outcome × Tally)). WritesAll (lines.sweep_status entries) (lines.sweep_text entries) (g.O.Sink.state c.args.out.now)
+    (g.O.Sink.state c.write_tallies.new.out) c.write_tallies.result)
     (entries_same _ (sweep_value c.args.asked.now) rules _ _ _ _ refl refl borrows reads c.in-Ok.ensures) c.write_tallies.ensures

@@ -87,7 +87,8 @@ as_mut_slice_spec 𝓤 𝓛 𝓜 𝓡 wired =
     (lends_Elements 𝓛 Owner u8 (with_items d) (named 0) κ q b o b' o' γ xs (roomy, fitting) (sem 𝓛 (Rest 𝓛 b o d us)) way (Owner.coded.code d) (Owner.coded.code d)) $ await ! tt $ pick ! (λ δ.
     returns ! (look_at ! 0 refl) $ free_all ! refl $ keep ! (0 ∷ []) $
     let r : MutBor (List ℕ) = record { ref_ptr = (b', o'); ghost_name = δ; now = xs } in
-    use1 𝓛 (‵ ((MutSlice (named 0) κ u8).own_val r (slice_val (b', o') (length xs) ∷ [])) ⊛ ‵ (flft κ q) ⊛ ‵ (follows Owner (Array u8 0) γ δ (with_items d))) (id⊢ 𝓤 _) $ split ! $ move ! (1 ∷ []) $ split ! $ move ! (2 ∷ 0 ∷ 1 ∷ []) $
+    use1 𝓛 (‵ ((MutSlice (named 0) κ u8).own_val r (slice_val (b', o') (length xs) ∷ [])) ⊛ ‵ (flft κ q) ⊛ ‵ (follows Owner (Array u8 0) γ δ (with_items d))) (id⊢ 𝓤 _) $ split ! $
+    move ! (1 ∷ []) $ split ! $ move ! (2 ∷ 0 ∷ 1 ∷ []) $
     rewrite ! 0 (λ (k : ℕ). ‵ ((MutSlice (named 0) κ u8).own_val r (slice_val (b', o') k ∷ []))) count refl $
     suffices ! _ (ends_at 𝓛 f.ended stayed c y (slice_val (b', o') n) r (tt, tt) (tt, tt)) $
     nothing ! $ nothing ! $ fjoin ! $ join ! $ nothing ! $ move ! (2 ∷ 0 ∷ []) $ join ! $ join ! $ frame ! $ says ! refl $ done !)))))))

@@ -43,9 +43,18 @@ free_spec 𝓤 𝓛 𝓜 𝓡 wired A L g d dd met md =
     let T = f.ended A g d dd in let c = f.clauses A g d dd 𝓛 𝓜.mem 𝓡.returns in let 𝓣 = tables 𝓤 𝓛.H 𝓜 𝓡 𝓡.env in let C = 𝓣.C in let Λ = 𝓣.Λ in
     let args : Args = bounded (a_type ∷ []) (A, tt) (dcons d (dcons dd dnil)) in let fn : Fn = inst_fn args code.function in
     let Handle : RattleType = param 0 A in let handle = RefOf (0 ∷ []) tt (plain (λ _. Handle)) (λ _. tt) in
-    let stayed : Stays T.signature.params T.kept = (stay_dropped (plain (λ _. Bytes.the_row)) T.kept.0, (stay_dropped (plain (λ _. Right.the_row Handle g)) T.kept.1.0, (stay_dropped handle yes, tt))) in
+    let stayed : Stays T.signature.params T.kept = (
+      stay_dropped (plain (λ _. Bytes.the_row)) T.kept.0,
+      (
+        stay_dropped (plain (λ _. Right.the_row Handle g)) T.kept.1.0,
+        (stay_dropped handle yes, tt),
+      ),
+    ) in
     let W = walk_of 𝓛 T stayed c in
-    proved_at 𝓛 T stayed c 𝓜 𝓡 (Goes-blank 𝓛 2 (plain (λ _. Bytes.the_row)) T.kept.0 (λ κs x w. tt), (Goes-blank 𝓛 2 (plain (λ _. Right.the_row Handle g)) T.kept.1.0 (λ κs x w. tt), (Goes-dropped 𝓛 2 handle yes (λ κs x w. refl), tt)))
+    proved_at 𝓛 T stayed c 𝓜 𝓡 (
+      Goes-blank 𝓛 2 (plain (λ _. Bytes.the_row)) T.kept.0 (λ κs x w. tt),
+      (Goes-blank 𝓛 2 (plain (λ _. Right.the_row Handle g)) T.kept.1.0 (λ κs x w. tt), (Goes-dropped 𝓛 2 handle yes (λ κs x w. refl), tt)),
+    )
     (f.Key.name args) fn (code.unfolded 𝓤 𝓛.H 𝓜 𝓡 wired (A, tt) d dd) (λ z are.
     let Z : Al = record { row = A; laws = L; g = g; d = d; drops = dd } in let κs = z.0.0 in let qs = z.0.1 in let a = z.0.3 in let vss = z.0.4 in
     let κ = κs.0 in let q = qs.0 in let x = a.0 in let n = x.size in let xs = x.items in let k = a.1.0 in let h = a.1.1.0.now in let hp = a.1.1.0.ref_ptr in let τ : Ty = bytes_type n in
@@ -59,7 +68,8 @@ free_spec 𝓤 𝓛 𝓜 𝓡 wired A L g d dd met md =
     -- [the room; the right; the `&` to the handle; the tokens]
     move ! (1 ∷ []) $ fsplit ! $ drop ! $
     rewrite ! 0 (λ (u : A.Denot × ℕ × Ptr). ‵ (g.dealloc_token u.0 (bytes_type u.1) u.2)) (λ i. (asked.0 i, asked.2 i, (asked.1 ∙ at) i)) refl $
-    move ! (2 ∷ []) $ fsplit ! $ fsplit ! $ drop ! $ move ! (1 ∷ []) $ drop ! $ use1 𝓛 (‵ (seen Z κ hp h)) (id⊢ 𝓤 _) $ move ! (3 ∷ []) $ use1 𝓛 (‵ (flft κ q) ⊛ ‵ (flft κs.1.0 qs.1.0) ⊛ ‵ ftrue) (id⊢ 𝓤 _) $ split ! $
+    move ! (2 ∷ []) $ fsplit ! $ fsplit ! $ drop ! $ move ! (1 ∷ []) $ drop ! $ use1 𝓛 (‵ (seen Z κ hp h)) (id⊢ 𝓤 _) $ move ! (3 ∷ []) $ use1 𝓛
+    (‵ (flft κ q) ⊛ ‵ (flft κs.1.0 qs.1.0) ⊛ ‵ ftrue) (id⊢ 𝓤 _) $ split ! $
     move ! (2 ∷ 0 ∷ []) $ join ! $ move ! (3 ∷ 2 ∷ []) $
     -- [the room; the right; the `&` with its token; the other token]
     let t = at_gives Z 𝓛 𝓜.mem 𝓡.returns κ q hp h b o n 1 τ in
@@ -69,7 +79,8 @@ free_spec 𝓤 𝓛 𝓜 𝓡 wired A L g d dd met md =
     sets ! (of_opd ! (get_in ! (fld ! refl (stop !)) (sub ! 0 refl (whole !)))) refl (tt, tt) $
     sets ! (of_opd ! (get_in ! (fld ! refl (stop !)) (sub ! 1 refl (whole !)))) refl (tt, record { fits = fits }) $
     first ! $ blocks ! $
-    use3 𝓛 (raw ((Gives Z 𝓛 𝓜.mem 𝓡.returns).pre t)) (Gives-goes Z 𝓛 𝓜.mem 𝓡.returns κ q hp h (⊑_trans κ κs.1.0 A.lives z.0.2.0 within) b o n 1 τ (capped_is (n * 1) (omega (arith, fits)) ∙ omega arith) refl fits (lit< tt)) $
+    use3 𝓛 (raw ((Gives Z 𝓛 𝓜.mem 𝓡.returns).pre t)) (Gives-goes Z 𝓛 𝓜.mem 𝓡.returns κ q hp h (⊑_trans κ κs.1.0 A.lives z.0.2.0 within) b o n 1 τ
+    (capped_is (n * 1) (omega (arith, fits)) ∙ omega arith) refl fits (lit< tt)) $
     calls_at_last ! (fm 𝓛 𝓜 𝓡) (Gives Z 𝓛 𝓜.mem 𝓡.returns) (met.deallocate dd) t (and_then ! (get ! refl) (and_then ! (get ! refl) (and_then ! (get ! refl) (and_then ! (lit ! tt) (no_more !))))) (λ v.
     use1 𝓛 (later (given (v ≡ vunit) (‵ (flft κ q)))) (Gives-Gives Z 𝓛 𝓜.mem 𝓡.returns κ q hp h b o n 1 τ v) $ await ! tt $ learn ! (λ e. join ! $
     regoal ! (λ (u : Val). settles En (place 6 []) u (leaves_block 𝓛 (goes_on 𝓛 C Λ En (after 3 fn.body) (at_ret En Post)))) e refl $ lands_last ! refl (tt, tt) $

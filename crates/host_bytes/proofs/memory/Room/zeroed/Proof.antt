@@ -100,7 +100,10 @@ module _ {M : Type 1} {𝓤 : Ura M} (𝓛 : Logic 𝓤) (at_mem : Memory → SP
           sets ! (bin ! (get ! refl) (get ! refl) tt) refl (tt, tt) $
           use1 𝓛 (‵ (froom (ty_int w8) b (i + o)) ⊛ ‵ (around b o n i)) (next_out b o n 𝓛 i inside) $ split ! $
           assigns_last ! (of_opd ! (lit ! tt)) (through ! refl (stop !)) (init ! 0 refl (tt, record { fits = lit< tt })) $
-          exec ! 𝓣.C 𝓣.Λ En (after 3 turn) (any_q (Turned t)) $ sets_last ! (is ! (bin ! (get ! refl) (lit ! tt) (record { fits = grows })) (ap (vint w64) next)) refl (tt, record { fits = subst (λ (k : ℕ). k < 2 ^ 64) next grows }) $
+          exec ! 𝓣.C 𝓣.Λ En (after 3 turn) (any_q (Turned t)) $ sets_last ! (is ! (bin ! (get ! refl) (lit ! tt) (record { fits = grows })) (ap (vint w64) next)) refl (
+            tt,
+            record { fits = subst (λ (k : ℕ). k < 2 ^ 64) next grows },
+          ) $
           use2 𝓛 (‵ (zeros b o n (suc i))) (next_in b o n 𝓛 i inside) $ forget_but ! En (1 ∷ 2 ∷ 3 ∷ 4 ∷ []) refl $
           again ! Nearer Now t (suc i, omega (arith, inside)) (omega (arith, inside)))
           (λ over. let past : n ≤ i = nltb→le i n over in let all : i ≡ n = omega (arith, past, le) in

@@ -29,5 +29,6 @@ invariant_of-self c =
       free = subst (λ (n : Machine). AreFreeWhere c.self.inside.none_reserved n.harts) (sym c.pass_over.ensures) (free_after c.self.inside.none_reserved m i.free);
       printed = subst (λ (n : Machine). n.cleared + length n.journal.printed ≤ n.journal.counts.turns) (sym c.pass_over.ensures)
           (subst (λ (k : ℕ). k + length (hw_passed_over m).journal.printed ≤ (hw_passed_over m).journal.counts.turns) (sym rest.cleared)
-          (subst (λ (xs : List ℕ). m.cleared + length xs ≤ (hw_passed_over m).journal.counts.turns) (sym rest.printed) (subst (λ (k : ℕ). m.cleared + length m.journal.printed ≤ k) (sym rest.turns) i.printed)));
+          (subst (λ (xs : List ℕ). m.cleared + length xs ≤ (hw_passed_over m).journal.counts.turns) (sym rest.printed) (subst (λ (k : ℕ). m.cleared +
+          length m.journal.printed ≤ k) (sym rest.turns) i.printed)));
     }

@@ -16,23 +16,28 @@ round-made-requires c = record {
 pub returns-then-printed-clause-stands : goal.returns-then-printed-clause-stands
 returns-then-printed-clause-stands c =
     repeats_stand (c.events.made + c.round-made.result) c.args.self.now c.round-made.new.self c.args.event
-    (repeats_on c.events.made c.round-made.result c.args.self.now c.events.self c.round-made.new.self c.args.event c.events.invariant.chain (record { quiet = c.events.invariant.quiet; running = c.events.invariant.running }) c.round-made.ensures.chain)
+    (repeats_on c.events.made c.round-made.result c.args.self.now c.events.self c.round-made.new.self c.args.event c.events.invariant.chain
+    (record { quiet = c.events.invariant.quiet; running = c.events.invariant.running }) c.round-made.ensures.chain)
 
 pub returns-then-printed-clause-made : goal.returns-then-printed-clause-made
 returns-then-printed-clause-made c = record {
-  chain = repeats_on c.events.made c.round-made.result c.args.self.now c.events.self c.round-made.new.self c.args.event c.events.invariant.chain (record { quiet = c.events.invariant.quiet; running = c.events.invariant.running }) c.round-made.ensures.chain;
-  counts = counts_on c.events.made c.round-made.result c.args.self.now.journal.counts c.events.self.journal.counts c.round-made.new.self.journal.counts c.events.invariant.counts c.round-made.ensures.counts;
+  chain = repeats_on c.events.made c.round-made.result c.args.self.now c.events.self c.round-made.new.self c.args.event c.events.invariant.chain
+      (record { quiet = c.events.invariant.quiet; running = c.events.invariant.running }) c.round-made.ensures.chain;
+  counts = counts_on c.events.made c.round-made.result c.args.self.now.journal.counts c.events.self.journal.counts c.round-made.new.self.journal.counts c.events.invariant.counts
+      c.round-made.ensures.counts;
   some = omega (arith, c.round-made.ensures.some);
   most = omega (arith, c.events-test.true, c.round-made.ensures.most);
 }
 
 pub events-preserved : goal.events-preserved
 events-preserved c = record {
-  chain = repeats_on c.events.made c.round-made.result c.args.self.now c.events.self c.round-made.new.self c.args.event c.events.invariant.chain (record { quiet = c.events.invariant.quiet; running = c.events.invariant.running }) c.round-made.ensures.chain;
+  chain = repeats_on c.events.made c.round-made.result c.args.self.now c.events.self c.round-made.new.self c.args.event c.events.invariant.chain
+      (record { quiet = c.events.invariant.quiet; running = c.events.invariant.running }) c.round-made.ensures.chain;
   quiet = search rules;
   running = λ is. search rules;
   few = omega (arith, c.events-test.true, c.round-made.ensures.most);
-  counts = counts_on c.events.made c.round-made.result c.args.self.now.journal.counts c.events.self.journal.counts c.round-made.new.self.journal.counts c.events.invariant.counts c.round-made.ensures.counts;
+  counts = counts_on c.events.made c.round-made.result c.args.self.now.journal.counts c.events.self.journal.counts c.round-made.new.self.journal.counts c.events.invariant.counts
+      c.round-made.ensures.counts;
 }
 
 pub returns-clause-stands : goal.returns-clause-stands

@@ -13,5 +13,6 @@ reserved_place-requires c =
 
 pub returns : goal.returns
 returns c =
-    slot_is c.args.tables c.args.saved.now c.from_values.result c.csrs_of.result c.reserved_place.result c.privilege_of-privilege.result c.from_values.ensures c.csrs_of.ensures c.reserved_place.ensures
+    slot_is c.args.tables c.args.saved.now c.from_values.result c.csrs_of.result c.reserved_place.result c.privilege_of-privilege.result c.from_values.ensures c.csrs_of.ensures
+    c.reserved_place.ensures
     c.privilege_of-privilege.ensures (hart_ranges c.requires.ram_pages c.args.saved.now c.requires.form).user

@@ -5,18 +5,23 @@ use Rattle.report.proofs.Places.{joined_there, place_below, begun, full}
 use Rattle.report.proofs.findings.findings.add.Goals as goal
 
 pub join-requires : goal.join-requires
-join-requires c = place_below c.args.findings.now.items c.args.occurrence.now c.in-Some.place (ap (λ (fs : List Finding). place_of fs c.args.occurrence.now) (sym c.deref.ensures.value) ∙ sym c.place_of.ensures ∙ c.in-Some.is)
+join-requires c = place_below c.args.findings.now.items c.args.occurrence.now c.in-Some.place (ap (λ (fs : List Finding). place_of fs c.args.occurrence.now)
+    (sym c.deref.ensures.value) ∙ sym c.place_of.ensures ∙ c.in-Some.is)
 
 pub returns-in-Some : goal.returns-in-Some
 returns-in-Some c =
-    c.join.ensures ∙ joined_there c.args.findings.now.items c.args.occurrence.now c.in-Some.place (ap (λ (fs : List Finding). place_of fs c.args.occurrence.now) (sym c.deref.ensures.value) ∙ sym c.place_of.ensures ∙ c.in-Some.is)
+    c.join.ensures ∙
+    joined_there c.args.findings.now.items c.args.occurrence.now c.in-Some.place (ap (λ (fs : List Finding). place_of fs c.args.occurrence.now) (sym c.deref.ensures.value) ∙
+    sym c.place_of.ensures ∙ c.in-Some.is)
 
 pub returns-in_ok-push : goal.returns-in_ok-push
 returns-in_ok-push c =
     c.in_ok-push.ensures.items
     ∙ ap (λ (f : Finding). c.args.findings.now.items ++ f ∷ []) c.first_finding.ensures
-    ∙ begun c.args.findings.now.items c.args.occurrence.now (ap (λ (fs : List Finding). place_of fs c.args.occurrence.now) (sym c.deref.ensures.value) ∙ sym c.place_of.ensures ∙ c.in_default.is) (let same = c.len.ensures in let below = c.if-len-lt-MAX_FINDINGS.true in omega (arith, same, below))
+    ∙ begun c.args.findings.now.items c.args.occurrence.now (ap (λ (fs : List Finding). place_of fs c.args.occurrence.now) (sym c.deref.ensures.value) ∙ sym c.place_of.ensures ∙
+    c.in_default.is) (let same = c.len.ensures in let below = c.if-len-lt-MAX_FINDINGS.true in omega (arith, same, below))
 
 pub returns-else-len-lt-MAX_FINDINGS : goal.returns-else-len-lt-MAX_FINDINGS
 returns-else-len-lt-MAX_FINDINGS c =
-    full c.args.findings.now.items c.args.occurrence.now (ap (λ (fs : List Finding). place_of fs c.args.occurrence.now) (sym c.deref.ensures.value) ∙ sym c.place_of.ensures ∙ c.in_default.is) (let same = c.len.ensures in let above = c.if-len-lt-MAX_FINDINGS.false in omega (arith, same, above))
+    full c.args.findings.now.items c.args.occurrence.now (ap (λ (fs : List Finding). place_of fs c.args.occurrence.now) (sym c.deref.ensures.value) ∙ sym c.place_of.ensures ∙
+    c.in_default.is) (let same = c.len.ensures in let above = c.if-len-lt-MAX_FINDINGS.false in omega (arith, same, above))

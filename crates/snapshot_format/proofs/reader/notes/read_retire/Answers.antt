@@ -5,7 +5,10 @@ use Rattle.snapshot_format.proofs.ReadRows.{retire_by_row, row_within, is_below}
 use Rattle.snapshot_format.proofs.reader.notes.read_retire.Goals as goal
 
 pub overflow_cast-result : goal.overflow_cast-result
-overflow_cast-result c = omega (arith, is_below _ _ (row_within (retire_ranges c.args.harts) c.args.bytes.now c.in_ok-hart.field-0-0 c.in_ok-hart.rest.now (rw c.from.ensures at c.in_ok-hart.ensures) 0 (omega arith)))
+overflow_cast-result c = omega (
+  arith,
+  is_below _ _ (row_within (retire_ranges c.args.harts) c.args.bytes.now c.in_ok-hart.field-0-0 c.in_ok-hart.rest.now (rw c.from.ensures at c.in_ok-hart.ensures) 0 (omega arith)),
+)
 
 pub returns-in_err-hart : goal.returns-in_err-hart
 returns-in_err-hart c =

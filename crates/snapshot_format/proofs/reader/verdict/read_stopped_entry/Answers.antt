@@ -5,7 +5,10 @@ use Rattle.snapshot_format.proofs.ReadRows.{entry_by_row, row_within, is_below}
 use Rattle.snapshot_format.proofs.reader.verdict.read_stopped_entry.Goals as goal
 
 pub overflow_cast-stopped : goal.overflow_cast-stopped
-overflow_cast-stopped c = omega (arith, is_below _ _ (row_within (entry_ranges c.args.harts) c.args.bytes.now c.in_ok-target.field-0-0 c.in_ok-target.rest.now (rw c.from.ensures at c.in_ok-target.ensures) 1 (omega arith)))
+overflow_cast-stopped c = omega (
+  arith,
+  is_below _ _ (row_within (entry_ranges c.args.harts) c.args.bytes.now c.in_ok-target.field-0-0 c.in_ok-target.rest.now (rw c.from.ensures at c.in_ok-target.ensures) 1 (omega arith)),
+)
 
 pub returns-in_err-target : goal.returns-in_err-target
 returns-in_err-target c =

@@ -5,7 +5,10 @@ use Rattle.snapshot_format.proofs.ReadRows.{write_by_row, row_within, is_below}
 use Rattle.snapshot_format.proofs.reader.verdict.read_stopped_write.Goals as goal
 
 pub overflow_cast-stopped : goal.overflow_cast-stopped
-overflow_cast-stopped c = omega (arith, is_below _ _ (row_within (write_ranges c.args.harts) c.args.bytes.now c.in_ok-pc.field-0-0 c.in_ok-pc.rest.now (rw c.from.ensures at c.in_ok-pc.ensures) 2 (omega arith)))
+overflow_cast-stopped c = omega (
+  arith,
+  is_below _ _ (row_within (write_ranges c.args.harts) c.args.bytes.now c.in_ok-pc.field-0-0 c.in_ok-pc.rest.now (rw c.from.ensures at c.in_ok-pc.ensures) 2 (omega arith)),
+)
 
 pub returns-in_err-pc : goal.returns-in_err-pc
 returns-in_err-pc c =

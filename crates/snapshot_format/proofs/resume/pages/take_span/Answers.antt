@@ -9,12 +9,14 @@ pages-init c = ap (take_pages c.args.protection c.args.guard.now) (span_begins c
 
 pub pages-preserved : goal.pages-preserved
 pages-preserved c =
-    span_goes_on c.args.protection _ c.pages.guard c.take_page.new.guard c.args.first c.args.count c.pages.i c.take_page.result c.pages-test.true c.if-not-take_page.false (subst (λ (n : ℕ). Takes c.args.protection c.pages.guard c.take_page.new.guard ((c.args.first + n) ∷ []) c.take_page.result) c.from.ensures c.take_page.ensures)
+    span_goes_on c.args.protection _ c.pages.guard c.take_page.new.guard c.args.first c.args.count c.pages.i c.take_page.result c.pages-test.true c.if-not-take_page.false
+    (subst (λ (n : ℕ). Takes c.args.protection c.pages.guard c.take_page.new.guard ((c.args.first + n) ∷ []) c.take_page.result) c.from.ensures c.take_page.ensures)
     c.pages.invariant
 
 pub returns-then-not-take_page : goal.returns-then-not-take_page
 returns-then-not-take_page c =
-    span_breaks c.args.protection _ c.pages.guard c.take_page.new.guard c.args.first c.args.count c.pages.i c.take_page.result c.pages-test.true c.if-not-take_page.true (subst (λ (n : ℕ). Takes c.args.protection c.pages.guard c.take_page.new.guard ((c.args.first + n) ∷ []) c.take_page.result) c.from.ensures c.take_page.ensures)
+    span_breaks c.args.protection _ c.pages.guard c.take_page.new.guard c.args.first c.args.count c.pages.i c.take_page.result c.pages-test.true c.if-not-take_page.true
+    (subst (λ (n : ℕ). Takes c.args.protection c.pages.guard c.take_page.new.guard ((c.args.first + n) ∷ []) c.take_page.result) c.from.ensures c.take_page.ensures)
     c.pages.invariant
 
 pub returns : goal.returns

@@ -16,7 +16,8 @@ harts-preserved c = (
 
 pub returns-clause-encoded : goal.returns-clause-encoded
 unfolding harts
-returns-clause-encoded c ram_pages count = all_written (λ before. hart ram_pages) c.args.saved.now c.harts.h-index c.args.out.now.items c.harts.out.items c.harts-test.false (c.harts.invariant.0 ram_pages)
+returns-clause-encoded c ram_pages count = all_written (λ before. hart ram_pages) c.args.saved.now c.harts.h-index c.args.out.now.items c.harts.out.items c.harts-test.false
+    (c.harts.invariant.0 ram_pages)
 
 pub returns-clause-typed : goal.returns-clause-typed
 returns-clause-typed c = all_typed is_typed_hart c.args.saved.now c.harts.h-index c.harts-test.false c.harts.invariant.1

@@ -17,7 +17,8 @@ modules-preserved c = (
 
 pub returns-clause-encoded : goal.returns-clause-encoded
 unfolding modules
-returns-clause-encoded c = all_counted next_module c.args.loaded.now c.modules.m-index c.args.out.now.items (encode_number (length c.args.loaded.now)) c.modules.out.items c.modules-test.false c.modules.invariant.0
+returns-clause-encoded c = all_counted next_module c.args.loaded.now c.modules.m-index c.args.out.now.items (encode_number (length c.args.loaded.now)) c.modules.out.items
+    c.modules-test.false c.modules.invariant.0
 
 pub returns-clause-typed : goal.returns-clause-typed
 returns-clause-typed c = all_typed is_typed_module c.args.loaded.now c.modules.m-index c.modules-test.false c.modules.invariant.1

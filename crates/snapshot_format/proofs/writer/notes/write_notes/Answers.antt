@@ -17,7 +17,8 @@ notes-preserved c = (
 
 pub returns-clause-encoded : goal.returns-clause-encoded
 unfolding notes
-returns-clause-encoded c harts all = all_counted (λ before. note_form harts) c.args.kept.now c.notes.n-index c.args.out.now.items (encode_number (length c.args.kept.now)) c.notes.out.items c.notes-test.false (c.notes.invariant.0 harts)
+returns-clause-encoded c harts all = all_counted (λ before. note_form harts) c.args.kept.now c.notes.n-index c.args.out.now.items (encode_number (length c.args.kept.now))
+    c.notes.out.items c.notes-test.false (c.notes.invariant.0 harts)
 
 pub returns-clause-typed : goal.returns-clause-typed
 returns-clause-typed c = all_typed is_typed_note c.args.kept.now c.notes.n-index c.notes-test.false c.notes.invariant.1

@@ -12,7 +12,8 @@ pub pages-init : goal.pages-init
 pages-init c = nothing_yet (λ before. protection_form) c.args.out.now.items
 
 pub pages-preserved : goal.pages-preserved
-pages-preserved c = one_more _ (λ before. protection_form) c.args.protection.now c.pages.page-index c.args.out.now.items c.pages.out.items _ c.pages-test.true c.pages.invariant (protection_written _ _ _ _ c.protection_byte.ensures c.in_ok-push.ensures.items)
+pages-preserved c = one_more _ (λ before. protection_form) c.args.protection.now c.pages.page-index c.args.out.now.items c.pages.out.items _ c.pages-test.true c.pages.invariant
+    (protection_written _ _ _ _ c.protection_byte.ensures c.in_ok-push.ensures.items)
 
 pub returns : goal.returns
 unfolding protections

@@ -17,7 +17,8 @@ pages-preserved c = (
 
 pub returns-clause-encoded : goal.returns-clause-encoded
 unfolding text
-returns-clause-encoded c ram_pages = all_counted (text_page ram_pages) c.args.text_pages.now c.pages.page-index c.args.out.now.items (encode_number (length c.args.text_pages.now)) c.pages.out.items c.pages-test.false (c.pages.invariant.0 ram_pages)
+returns-clause-encoded c ram_pages = all_counted (text_page ram_pages) c.args.text_pages.now c.pages.page-index c.args.out.now.items (encode_number (length c.args.text_pages.now))
+    c.pages.out.items c.pages-test.false (c.pages.invariant.0 ram_pages)
 
 pub returns-clause-typed : goal.returns-clause-typed
 returns-clause-typed c = all_typed is_typed_page c.args.text_pages.now c.pages.page-index c.pages-test.false c.pages.invariant.1
