@@ -15,3 +15,4 @@ pub mod ReadLists
 pub mod ReadRegisters
 pub mod ReadRows
 pub mod WholeRead
+pub mod JournalForms

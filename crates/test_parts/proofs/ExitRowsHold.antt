@@ -6,8 +6,16 @@ use Rattle.spec_hardware.specs.Served.{fetch_answer, load_answer, write_answer, 
 use Rattle.test_parts.specs.ExitRows.{ExitRows}
 use Rattle.test_parts.proofs.Computing.{computing}
 
+unfoldable exits : Unit {0}
+unfolding registers_at_boot registers_at_exit serve_exit exit_answered exit_answer answer_in plain_answer entry_answer exit_ram_gpa
+exits = tt
+
+unfoldable exit_answers : Unit {0}
+unfolding fetch_answer load_answer write_answer store_answer virtual_answer transformed_effect is_sret
+exit_answers = tt
+
 pub exit_rows : ExitRows
-unfolding computing registers_at_boot registers_at_exit serve_exit exit_answered exit_answer answer_in plain_answer entry_answer exit_ram_gpa fetch_answer load_answer write_answer store_answer virtual_answer transformed_effect is_sret
+unfolding computing exits exit_answers
 exit_rows = record {
   shown_fetch = refl;
   shown_software = refl;

@@ -122,7 +122,7 @@ impl Virtio {
 
     // Bytes of the disk go into memory. Seven parameters: the move's three parts are numbers of one variant, and the guard and
     // the memory belong to the bus.
-    #[tactic(auto, unfolding(spec_reference::specs::VirtioBeats::to_memory, dma_guard::specs::Transfers::write_answer, dma_guard::specs::Transfers::after_write))]
+    #[tactic(auto, unfolding(crate::proofs::MoveForms::data_written))]
     fn to_memory(
         &mut self,
         request: &VirtioRequest,
@@ -167,7 +167,7 @@ impl Virtio {
     }
 
     // One of the last moves writes its bytes, and the request goes on; or it breaks the device.
-    #[tactic(auto, unfolding(spec_reference::specs::VirtioBeats::put_last, dma_guard::specs::Transfers::write_answer, dma_guard::specs::Transfers::after_write))]
+    #[tactic(auto, unfolding(crate::proofs::MoveForms::last_written))]
     fn put_last(
         &mut self,
         request: &VirtioRequest,
@@ -210,7 +210,7 @@ impl Virtio {
     }
 
     // The used ring's index is the last move: the request is done, or the device is broken.
-    #[tactic(auto, unfolding(spec_reference::specs::VirtioBeats::put_last, dma_guard::specs::Transfers::write_answer, dma_guard::specs::Transfers::after_write))]
+    #[tactic(auto, unfolding(crate::proofs::MoveForms::last_written))]
     fn put_index(
         &mut self,
         gpa: u64,
