@@ -20,7 +20,8 @@ use Rattle.laws_resume.specs.Keepable.{AscendFrom}
 use Rattle.laws_resume.specs.Resumed.{KeepsDigests}
 use Rattle.laws_resume.proofs.KeepableStarts.{text_pages_ascend}
 use Rattle.laws_resume.proofs.ResumedPages.{approved_is}
-use Rattle.laws_resume.proofs.TakenPages.{AllBelow, or_true}
+use Rattle.laws_resume.proofs.TakenPages.{AllBelow}
+use Rattle.laws_resume.proofs.WholePages.{AreWhole, digest_at, digests_after, joined_after, whole_in}
 use Rattle.laws_simulation.proofs.StateLawsHold.{reached_sound}
 use Rattle.laws_simulation.proofs.Lookups.{same_number, length_pages}
 use Rattle.laws_resume.specs.SnapLaws.{BootDigestsLaw, IsMeasuredBoot}
@@ -28,48 +29,6 @@ use Rattle.sv_types.specs.Protections.{is_approved}
 use Rattle.laws_resume.specs.TextPages.{approved_among, digest_in, digested_text, text_in}
 use Rattle.laws_resume.proofs.Ascending.{picked, picked_same}
 use Rattle.laws_simulation.proofs.ModulesMirrored.{approved_by}
-
--- ---- digests of pages
-
--- the pages are whole
-abbrev AreWhole : List ℕ → List ℕ → Type 0
-AreWhole ram pages = (page : ℕ) → has_number pages page ≡ true → length (page_bytes ram page) ≡ page_size
-
-first_whole : (ram : List ℕ) (page : ℕ) (pages : List ℕ) → AreWhole ram (page ∷ pages) → length (page_bytes ram page) ≡ page_size
-first_whole ram page pages whole = whole page (ap (λ (b : Bool). b || has_number pages page) (same_number page))
-
-rest_whole : (ram : List ℕ) (page : ℕ) (pages : List ℕ) → AreWhole ram (page ∷ pages) → AreWhole ram pages
-rest_whole ram page pages whole k there = whole k (ap (λ (b : Bool). (page == k) || b) there ∙ or_true (page == k))
-
-abbrev digest_at : List ℕ → ℕ → List ℕ
-digest_at ram page = page_digest (page_bytes ram page)
-
--- their digests where they lie one after the other
-digests_after : (ram pages : List ℕ) → AreWhole ram pages → page_digests (length pages) (flat_map (page_bytes ram) pages) ≡ map (digest_at ram) pages
-digests_after ram [] whole = refl
-digests_after ram (page ∷ pages) whole =
-    let size = first_whole ram page pages whole in
-    rw (take_at (page_bytes ram page) (flat_map (page_bytes ram) pages) page_size size, drop_at (page_bytes ram page) (flat_map (page_bytes ram) pages) page_size size)
-    (ap (◌∷◌ (digest_at ram page)) (digests_after ram pages (rest_whole ram page pages whole)))
-
-size_after : (ram pages : List ℕ) → AreWhole ram pages → length (flat_map (page_bytes ram) pages) ≡ page_size * length pages
-size_after ram [] whole = refl
-size_after ram (page ∷ pages) whole =
-    let one = first_whole ram page pages whole in
-    let rest = size_after ram pages (rest_whole ram page pages whole) in
-    length-append (page_bytes ram page) (flat_map (page_bytes ram) pages) ∙ sum (length (page_bytes ram page)) (length (flat_map (page_bytes ram) pages)) (length pages) one rest
-  where
-    sum : (a b n : ℕ) → a ≡ page_size → b ≡ page_size * n → a + b ≡ page_size * suc n
-    sum a b n s t = omega (arith, s, t)
-
-pages_in : (size n : ℕ) → size ≡ page_size * n → size / page_size ≡ n
-pages_in size n e = omega (arith, e)
-
-measured : (ram pages : List ℕ) → AreWhole ram pages → measure (flat_map (page_bytes ram) pages) ≡ joined_digests (map (digest_at ram) pages)
-unfolding measure
-measured ram pages whole =
-    ap (λ (n : ℕ). joined_digests (page_digests n (flat_map (page_bytes ram) pages))) (pages_in (length (flat_map (page_bytes ram) pages)) (length pages) (size_after ram pages whole))
-    ∙ ap joined_digests (digests_after ram pages whole)
 
 -- ---- the list of a machine's text
 
@@ -112,12 +71,6 @@ text_is rules ram text entry disk up inside =
     from_none : (page pages : ℕ) → page < pages → page < 0 + pages
     from_none page pages less = omega (arith, less)
 
-whole_in : (ram : List ℕ) (page pages : ℕ) → length ram ≡ page_size * pages → page < pages → length (page_bytes ram page) ≡ page_size
-whole_in ram page pages size below = length_part ram (page_size * page) page_size (rw size (room page pages below))
-  where
-    room : (page pages : ℕ) → page < pages → page_size * page + page_size ≤ page_size * pages
-    room page pages below = omega (arith, below)
-
 text_inside : (rules : Rules) (ram text : List ℕ) (entry : ℕ) (disk : Disk) → IsSound (start rules ram text entry disk) → AllBelow rules.ram_pages text
 unfolding start
 text_inside rules ram text entry disk sound page there = sound.pages.inside page (approved_is ram text page ∙ there)
@@ -139,7 +92,7 @@ start_digests rules ram text entry disk up kernel sound = record {
   pages = numbers_back ram text;
   each = λ i t at kept. digest_is ram text i t at;
   joined = ap joined_digests (digests_back ram text)
-      ∙ sym (measured ram text (λ page there. whole_in ram page rules.ram_pages (ram_size rules ram text entry disk sound) (text_inside rules ram text entry disk sound page there)))
+      ∙ sym (joined_after ram text (λ page there. whole_in ram page rules.ram_pages (ram_size rules ram text entry disk sound) (text_inside rules ram text entry disk sound page there)))
       ∙ kernel;
 }
 

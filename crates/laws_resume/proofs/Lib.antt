@@ -25,6 +25,7 @@ pub mod SavedResumes
 pub mod TakenAgain
 pub mod TakenPages
 pub mod Ascending
+pub mod WholePages
 pub mod BootDigests
 pub mod ResumedHw
 pub mod ResumedStands
