@@ -34,13 +34,13 @@ use Rattle.core.proofs.alloc.Shapes.{after, head, arm_body}
 use Rattle.core.proofs.atomic.Steps.{fm}
 use Rattle.core.proofs.option.Made.{Some-of, none_of}
 use Rattle.std_alloc.proofs.Pairs.{pair_of, pair_val}
-use Rattle.host_bytes.specs.Ownership.{bytes_type}
-use Rattle.host_bytes.proofs.Values.{run_val, run_own, run_made, mark_val, mark_own, mark_made, goes_on}
-use Rattle.host_bytes.specs.contracts.memory.Room as Room
-use Rattle.host_bytes.specs.contracts.memory.Right as Right
-use Rattle.host_bytes.specs.contracts.memory.Room.new as f
-use Rattle.host_bytes.proofs.memory.Room.new.Statement.{statement}
-use Rattle.host_bytes.proofs.memory.Room.new.Code as code
+use Rattle.host_mem.specs.Ownership.{bytes_type}
+use Rattle.host_mem.proofs.Values.{run_val, run_own, run_made, mark_val, mark_own, mark_made, goes_on}
+use Rattle.host_mem.specs.contracts.raw_bytes.memory.Room as Room
+use Rattle.host_mem.specs.contracts.raw_bytes.memory.Right as Right
+use Rattle.host_mem.specs.contracts.raw_bytes.memory.Room.new as f
+use Rattle.host_mem.proofs.raw_bytes.memory.Room.new.Statement.{statement}
+use Rattle.host_mem.proofs.raw_bytes.memory.Room.new.Code as code
 
 pub new_spec : {M : Type 1} → statement M
 new_spec 𝓤 𝓛 𝓜 𝓡 wired A L g d dd met md =

@@ -31,13 +31,13 @@ use denote.Slice.{MutSlice, slice_val}
 use denote.Steps.{nothing, opens, peeks}
 use denote.Triple.Walked.{says, Stays, stay_dropped, walk_of, ends_at, Goes-spent_ref}
 use Rattle.core.proofs.alloc.Shapes.{after}
-use Rattle.host_bytes.specs.Lends.{with_items}
-use Rattle.host_bytes.specs.Ownership.{bytes_at}
-use Rattle.host_bytes.proofs.Fields.{Owner, Words, words}
-use Rattle.host_bytes.proofs.memory.Bytes.TheLaws.{lowers}
-use Rattle.host_bytes.specs.contracts.memory.Bytes.as_mut_slice as f
-use Rattle.host_bytes.proofs.memory.Bytes.as_mut_slice.Statement.{statement}
-use Rattle.host_bytes.proofs.memory.Bytes.as_mut_slice.Code as code
+use Rattle.host_mem.specs.Lends.{with_items}
+use Rattle.host_mem.specs.Ownership.{bytes_at}
+use Rattle.host_mem.proofs.Fields.{Owner, Words, words}
+use Rattle.host_mem.proofs.raw_bytes.memory.Bytes.TheLaws.{lowers}
+use Rattle.host_mem.specs.contracts.raw_bytes.memory.Bytes.as_mut_slice as f
+use Rattle.host_mem.proofs.raw_bytes.memory.Bytes.as_mut_slice.Statement.{statement}
+use Rattle.host_mem.proofs.raw_bytes.memory.Bytes.as_mut_slice.Code as code
 
 abbrev stayed : Stays f.ended.signature.params f.ended.kept
 stayed = (stay_dropped (mut_ref_to (0 ∷ []) tt (plain (λ _. Owner))) no, tt)

@@ -5,7 +5,7 @@ use denote.Struct.Owning.{shape, fields, to}
 use denote.Struct.Struct.{exits_of}
 use Rattle.core.specs.declared.alloc.Allocator.{Ghosts}
 use Rattle.std_alloc.proofs.SendSync.{quiet}
-use Rattle.host_bytes.specs.contracts.memory.Right.{the_row, the_type}
+use Rattle.host_mem.specs.contracts.raw_bytes.memory.Right.{the_row, the_type}
 
 pub send : (A : RattleType) (g : Ghosts A.Denot) → IsSend A → Frees g g.dealloc_token → IsSend (the_row A g)
 send A g s f =

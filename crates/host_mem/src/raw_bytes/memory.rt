@@ -2,7 +2,7 @@
 ghost use Rattle.std.specs.Prelude.{◌≡◌, ℕ, ◌^◌, ◌<◌, List, replicate, IfSome};
 ghost use Rattle.std.specs.Borrow.{sem};
 ghost use denote.RawPtr.{Ptr};
-ghost use Rattle.host_bytes.specs.Ownership.{bytes_type, room_of, bytes_at, bytes_lent};
+ghost use Rattle.host_mem.specs.Ownership.{bytes_type, room_of, bytes_at, bytes_lent};
 
 use std::alloc::Allocator;
 use std::marker::{Model, PhantomData, Send};
@@ -80,7 +80,7 @@ impl Room {
 }
 
 impl Bytes {
-    ghost use Rattle.host_bytes.specs.Lends.{lends_bytes};
+    ghost use Rattle.host_mem.specs.Lends.{lends_bytes};
 
     pub(crate) fn as_slice(&self) -> &[u8]
         ensures { result.now ≡ self.now.items }

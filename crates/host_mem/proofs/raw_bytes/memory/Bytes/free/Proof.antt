@@ -30,13 +30,13 @@ use denote.Triple.Walked.{Stays, stay_dropped, walk_of, Goes-dropped}
 use Rattle.core.proofs.alloc.Calls.{Al, seen, Goes-blank, Gives, at_gives, Gives-goes, Gives-Gives}
 use Rattle.core.proofs.alloc.Shapes.{after}
 use Rattle.core.proofs.atomic.Steps.{fm}
-use Rattle.host_bytes.specs.Ownership.{bytes_type, bytes_at}
-use Rattle.host_bytes.proofs.Values.{run_val, run_told, mark_val, mark_told, goes_on, leaves_block}
-use Rattle.host_bytes.specs.contracts.memory.Bytes as Bytes
-use Rattle.host_bytes.specs.contracts.memory.Right as Right
-use Rattle.host_bytes.specs.contracts.memory.Bytes.free as f
-use Rattle.host_bytes.proofs.memory.Bytes.free.Statement.{statement}
-use Rattle.host_bytes.proofs.memory.Bytes.free.Code as code
+use Rattle.host_mem.specs.Ownership.{bytes_type, bytes_at}
+use Rattle.host_mem.proofs.Values.{run_val, run_told, mark_val, mark_told, goes_on, leaves_block}
+use Rattle.host_mem.specs.contracts.raw_bytes.memory.Bytes as Bytes
+use Rattle.host_mem.specs.contracts.raw_bytes.memory.Right as Right
+use Rattle.host_mem.specs.contracts.raw_bytes.memory.Bytes.free as f
+use Rattle.host_mem.proofs.raw_bytes.memory.Bytes.free.Statement.{statement}
+use Rattle.host_mem.proofs.raw_bytes.memory.Bytes.free.Code as code
 
 pub free_spec : {M : Type 1} → statement M
 free_spec 𝓤 𝓛 𝓜 𝓡 wired A L g d dd met md =

@@ -33,14 +33,14 @@ use denote.Triple.Walked.{Stays, stay_dropped, walk_of, ends_at}
 use Rattle.core.proofs.alloc.Calls.{Goes-blank}
 use Rattle.core.proofs.alloc.Shapes.{after, head}
 use Rattle.core.proofs.mem.Facts.{says_two}
-use Rattle.host_bytes.specs.Ownership.{bytes_type, room_of}
-use Rattle.host_bytes.proofs.Filling.{zeros, around, next_out, next_in}
-use Rattle.host_bytes.proofs.Values.{run_val, run_own, run_told, run_made}
-use Rattle.host_bytes.specs.contracts.memory.Bytes as Bytes
-use Rattle.host_bytes.specs.contracts.memory.Room as Room
-use Rattle.host_bytes.specs.contracts.memory.Room.zeroed as f
-use Rattle.host_bytes.proofs.memory.Room.zeroed.Statement.{statement}
-use Rattle.host_bytes.proofs.memory.Room.zeroed.Code as code
+use Rattle.host_mem.specs.Ownership.{bytes_type, room_of}
+use Rattle.host_mem.proofs.Filling.{zeros, around, next_out, next_in}
+use Rattle.host_mem.proofs.Values.{run_val, run_own, run_told, run_made}
+use Rattle.host_mem.specs.contracts.raw_bytes.memory.Bytes as Bytes
+use Rattle.host_mem.specs.contracts.raw_bytes.memory.Room as Room
+use Rattle.host_mem.specs.contracts.raw_bytes.memory.Room.zeroed as f
+use Rattle.host_mem.proofs.raw_bytes.memory.Room.zeroed.Statement.{statement}
+use Rattle.host_mem.proofs.raw_bytes.memory.Room.zeroed.Code as code
 
 abbrev fn : Fn
 fn = code.function

@@ -15,7 +15,7 @@ use denote.Plain.{uint_row_laws}
 use denote.RawPtr.{RawPtr, ptr_row_laws}
 use denote.Struct.Struct.{Struct, Struct-row_laws}
 use denote.Struct.Owning.{shape, to}
-use Rattle.host_bytes.specs.contracts.memory.Bytes as Bytes
+use Rattle.host_mem.specs.contracts.raw_bytes.memory.Bytes as Bytes
 
 abbrev pub Owner : RattleType
 Owner = Bytes.the_row

@@ -22,12 +22,12 @@ use denote.Struct.Lending.{in_block_says, lent_out}
 use denote.Triple.Walked.{says, Stays, stay_none_ref, walk_of, ends_at, Goes-none_ref}
 use Rattle.core.proofs.alloc.Shapes.{after}
 use Rattle.std_alloc.proofs.Words.{pointer_in, pointer_out, word_in, word_out}
-use Rattle.host_bytes.proofs.Fields.{Owner, words_shared, shows_at, shows_size}
-use Rattle.host_bytes.specs.contracts.memory.Bytes as Bytes
-use Rattle.host_bytes.proofs.memory.Bytes.TheLaws as laws
-use Rattle.host_bytes.specs.contracts.memory.Bytes.as_slice as f
-use Rattle.host_bytes.proofs.memory.Bytes.as_slice.Statement.{statement}
-use Rattle.host_bytes.proofs.memory.Bytes.as_slice.Code as code
+use Rattle.host_mem.proofs.Fields.{Owner, words_shared, shows_at, shows_size}
+use Rattle.host_mem.specs.contracts.raw_bytes.memory.Bytes as Bytes
+use Rattle.host_mem.proofs.raw_bytes.memory.Bytes.TheLaws as laws
+use Rattle.host_mem.specs.contracts.raw_bytes.memory.Bytes.as_slice as f
+use Rattle.host_mem.proofs.raw_bytes.memory.Bytes.as_slice.Statement.{statement}
+use Rattle.host_mem.proofs.raw_bytes.memory.Bytes.as_slice.Code as code
 
 abbrev stayed : Stays f.ended.signature.params f.ended.kept
 stayed = (stay_none_ref (0 ∷ []) tt (plain (λ _. Owner)) yes, tt)

@@ -7,9 +7,9 @@ use denote.Param.Shared.{copy_shared}
 use denote.Struct.Field.{RawPtr-field, usize-field}
 use denote.Struct.Laws.{RawPtr-copy, usize-copy}
 use denote.Struct.Lending.{lent_at_shr_laws, Lends-lies, of_Lends}
-use Rattle.host_bytes.proofs.ByteLaws.{byte_laws}
-use Rattle.host_bytes.specs.contracts.memory.Bytes as C
-use Rattle.host_bytes.proofs.memory.Bytes.TheLaw.Statement.{statement}
+use Rattle.host_mem.proofs.ByteLaws.{byte_laws}
+use Rattle.host_mem.specs.contracts.raw_bytes.memory.Bytes as C
+use Rattle.host_mem.proofs.raw_bytes.memory.Bytes.TheLaw.Statement.{statement}
 
 pub shares : statement
 shares = of_Lends C.struct C.the_codes C.the_heap C.the_lent

@@ -1,12 +1,11 @@
-//! One allocation of raw bytes: all zeros at first, lent as a slice, freed at its end.
-#![tactic(auto)]
+// One allocation of raw bytes: all zeros at first, lent as a slice, freed at its end.
 
 ghost use Rattle.std.specs.Prelude.{◌≡◌, ◌<◌, ◌^◌, IfOk, replicate};
 ghost use Rattle.std.specs.Borrow.{sem};
 
 mod memory;
 
-use crate::memory::Room;
+use crate::raw_bytes::memory::Room;
 use std::alloc::{AllocError, Global};
 use std::marker::Model;
 
@@ -37,7 +36,7 @@ impl Model for RawBytes {
 }
 
 impl RawBytes {
-    ghost use Rattle.host_bytes.specs.LendsAll.{lends_all};
+    ghost use Rattle.host_mem.specs.LendsAll.{lends_all};
 
     /// `size` zeros. Fails where memory runs out, and above `isize::MAX`.
     pub fn zeroed(alloc: Global, size: usize) -> Result<RawBytes, AllocError>

@@ -14,7 +14,7 @@ use denote.Memory.{part_at}
 use denote.Plain.{uint_in}
 use denote.RawPtr.Bytes.{bytes, bytes_glue}
 use denote.Steps.{nothing}
-use Rattle.host_bytes.specs.Ownership.{bytes_type}
+use Rattle.host_mem.specs.Ownership.{bytes_type}
 
 abbrev none : ℕ → List ℕ
 none i = replicate i 0

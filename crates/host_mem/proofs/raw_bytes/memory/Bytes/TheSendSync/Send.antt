@@ -5,7 +5,7 @@ use denote.Param.Send.{IsSend, AllSend, owning_send, struct_send, sendable}
 use denote.Struct.Owning.{shape, fields, to}
 use denote.Struct.Struct.{exits_of}
 use Rattle.std_alloc.proofs.SendSync.{quiet, lies}
-use Rattle.host_bytes.specs.contracts.memory.Bytes.{the_row, the_type}
+use Rattle.host_mem.specs.contracts.raw_bytes.memory.Bytes.{the_row, the_type}
 
 pub send : IsSend the_row
 send =
