@@ -4,3 +4,4 @@ pub mod DataMoves
 pub mod NewRequests
 pub mod Places
 pub mod Sums
+pub mod Whole
