@@ -19,13 +19,14 @@ pub mod Passes
 pub mod Looking
 pub mod EventsBatches
 pub mod BeatsFollow
-mod Seen
+mod EventsSeen
 pub mod Turns
 pub mod Passings
 pub mod Accepted
 pub mod Assembled
 pub mod Approved
 pub mod Counted
+pub mod PortForms
 pub mod DeviceParts
 pub mod Regions
 pub mod Seated
