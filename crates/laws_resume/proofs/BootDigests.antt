@@ -10,7 +10,7 @@ use Rattle.sv_types.specs.Measure.{joined_digests, measure, page_digest, page_di
 use Rattle.sv_types.specs.Policies.{Rules}
 use Rattle.spec_reference.specs.Protections.{protection_at}
 use Rattle.spec_reference.specs.Soundness.{IsSound}
-use Rattle.spec_reference.specs.Start.{IsStart, block_disk, boot_start, start}
+use Rattle.spec_reference.specs.Start.{IsStart, block_disk, boot_start, image_start, start, virtio_disk, virtio_start}
 use Rattle.spec_reference.specs.States.{State, Disk, has_number, is_approved_in, protection_in, protections_of}
 use Rattle.snapshot_format.specs.declared.whole.TextPage.{TextPage}
 use Rattle.laws_processor.proofs.ByteLemmas.{length_part}
@@ -24,7 +24,7 @@ use Rattle.laws_resume.proofs.TakenPages.{AllBelow}
 use Rattle.laws_resume.proofs.WholePages.{AreWhole, digest_at, digests_after, joined_after, whole_in}
 use Rattle.laws_simulation.proofs.StateLawsHold.{reached_sound}
 use Rattle.laws_simulation.proofs.Lookups.{same_number, length_pages}
-use Rattle.laws_resume.specs.SnapLaws.{BootDigestsLaw, IsMeasuredBoot}
+use Rattle.laws_resume.specs.SnapLaws.{Boot, BootDigestsLaw, IsMeasuredBoot}
 use Rattle.sv_types.specs.Protections.{is_approved}
 use Rattle.laws_resume.specs.TextPages.{approved_among, digest_in, digested_text, text_in}
 use Rattle.laws_resume.proofs.Ascending.{picked, picked_same}
@@ -105,8 +105,24 @@ of_start rules ram text entry disk up kernel sound =
 
 -- ---- the laws
 
-pub boot_is : (rules : Rules) (file disk : List ℕ) → IsMeasuredBoot rules file → IsStart (boot_start rules file disk)
-boot_is rules file disk k = inr (inl (record {
+digests_of_image : (rules : Rules) (file : List ℕ) (disk : Disk) → IsMeasuredBoot rules file → IsSound (image_start rules file disk)
+    → KeepsDigests (image_start rules file disk) (digested_text (image_start rules file disk))
+digests_of_image rules file disk k sound =
+    of_start rules (segments_ram (kernel_segments file) rules.ram_pages) (text_pages (kernel_segments file)) (header_entry file) disk
+    (text_pages_ascend (kernel_segments file)) (ap measure (sym (text_in_ram file rules.ram_pages k.bootable.accepted)) ∙ k.measured) sound
+
+rules_of_image : (rules : Rules) (file : List ℕ) (disk : Disk) → (image_start rules file disk).rules ≡ rules
+unfolding start
+rules_of_image rules file disk = refl
+
+-- a run begins with it
+pub record IsBoot (boot : Boot) : Type 0 where
+  pub starts : (rules : Rules) (file disk : List ℕ) → IsMeasuredBoot rules file → IsStart (boot rules file disk)
+  pub rules : (rules : Rules) (file disk : List ℕ) → (boot rules file disk).rules ≡ rules
+  pub digests : BootDigestsLaw boot
+
+block_starts : (rules : Rules) (file disk : List ℕ) → IsMeasuredBoot rules file → IsStart (boot_start rules file disk)
+block_starts rules file disk k = inr (inl (record {
   rules = rules;
   file = file;
   disk = disk;
@@ -114,12 +130,43 @@ boot_is rules file disk k = inr (inl (record {
   same = refl;
 }))
 
-digests_of_boot : (rules : Rules) (file disk : List ℕ) → IsMeasuredBoot rules file → IsSound (boot_start rules file disk)
+virtio_starts : (rules : Rules) (file disk : List ℕ) → IsMeasuredBoot rules file → IsStart (virtio_start rules file disk)
+virtio_starts rules file disk k = inr (inr (record {
+  rules = rules;
+  file = file;
+  disk = disk;
+  bootable = k.bootable;
+  same = refl;
+}))
+
+block_rules : (rules : Rules) (file disk : List ℕ) → (boot_start rules file disk).rules ≡ rules
+unfolding boot_start
+block_rules rules file disk = rules_of_image rules file (block_disk disk)
+
+virtio_rules : (rules : Rules) (file disk : List ℕ) → (virtio_start rules file disk).rules ≡ rules
+unfolding virtio_start
+virtio_rules rules file disk = rules_of_image rules file (virtio_disk disk)
+
+block_digests : (rules : Rules) (file disk : List ℕ) → IsMeasuredBoot rules file → IsSound (boot_start rules file disk)
     → KeepsDigests (boot_start rules file disk) (digested_text (boot_start rules file disk))
 unfolding boot_start
-digests_of_boot rules file disk k sound =
-    of_start rules (segments_ram (kernel_segments file) rules.ram_pages) (text_pages (kernel_segments file)) (header_entry file) (block_disk disk)
-    (text_pages_ascend (kernel_segments file)) (ap measure (sym (text_in_ram file rules.ram_pages k.bootable.accepted)) ∙ k.measured) sound
+block_digests rules file disk k sound = digests_of_image rules file (block_disk disk) k sound
 
-pub boot_digests_law : BootDigestsLaw
-boot_digests_law rules file disk k = digests_of_boot rules file disk k (reached_sound (boot_start rules file disk) [] (boot_is rules file disk k))
+virtio_digests : (rules : Rules) (file disk : List ℕ) → IsMeasuredBoot rules file → IsSound (virtio_start rules file disk)
+    → KeepsDigests (virtio_start rules file disk) (digested_text (virtio_start rules file disk))
+unfolding virtio_start
+virtio_digests rules file disk k sound = digests_of_image rules file (virtio_disk disk) k sound
+
+pub block_boot : IsBoot boot_start
+block_boot = record {
+  starts = block_starts;
+  rules = block_rules;
+  digests = λ rules file disk k. block_digests rules file disk k (reached_sound (boot_start rules file disk) [] (block_starts rules file disk k));
+}
+
+pub virtio_boot : IsBoot virtio_start
+virtio_boot = record {
+  starts = virtio_starts;
+  rules = virtio_rules;
+  digests = λ rules file disk k. virtio_digests rules file disk k (reached_sound (virtio_start rules file disk) [] (virtio_starts rules file disk k));
+}

@@ -15,6 +15,7 @@ pub mod KindsStay
 pub mod ResumedHarts
 pub mod ResumedHolds
 pub mod ResumedPages
+pub mod RequestsStand
 pub mod ResumedSoundHolds
 pub mod SavedAccepted
 pub mod SavedForms

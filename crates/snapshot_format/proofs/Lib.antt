@@ -1,6 +1,7 @@
 pub mod FormLaws
 pub mod HartLaws
 pub mod PageLaws
+pub mod VirtioLaws
 pub mod DeviceLaws
 pub mod JournalLaws
 pub mod Lengths
@@ -16,3 +17,4 @@ pub mod ReadRegisters
 pub mod ReadRows
 pub mod WholeRead
 pub mod JournalForms
+pub mod VirtioReads

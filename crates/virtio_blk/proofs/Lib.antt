@@ -5,3 +5,4 @@ pub mod NewRequests
 pub mod Places
 pub mod Sums
 pub mod MoveForms
+pub mod Whole

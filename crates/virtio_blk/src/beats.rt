@@ -9,6 +9,7 @@ ghost use Rattle.spec_reference.specs.Move.{OutsideRam};
 ghost use Rattle.dma_guard.specs.Transfers.{beat_of, after_move};
 ghost use Rattle.spec_reference.specs.VirtioBeats.{broken_beat, last_moves_alone, with_written, with_request, finish_request, is_last};
 ghost use Rattle.spec_reference.specs.VirtioBeats.{make, make_first, to_memory, to_disk, put_last, is_live, virtio_beat};
+ghost use Rattle.spec_reference.specs.VirtioDevice.{is_broken};
 ghost use Rattle.spec_reference.specs.VirtioStates.{request_of, moves_left};
 ghost use Rattle.virtio_blk.specs.Held.{IsPlaced, IsOnDisk, CanBeMade, device_of};
 
@@ -90,6 +91,7 @@ impl Virtio {
     fn is_live(&self) -> bool
         ensures value { result ≡ is_live (device_of self.now) }
         ensures ready { IsTrue result → self.now.state.ready ≡ true }
+        ensures whole { IsTrue result → is_broken (device_of self.now) ≡ false }
     {
         has_bit(self.state.status as u64, DRIVER_OK_BIT) && self.state.ready && !self.is_broken()
     }
@@ -107,6 +109,7 @@ impl Virtio {
     fn keep(&mut self, request: VirtioRequest)
         requires placed { IsPlaced request }
         requires on_disk { IsOnDisk (length self.old.bytes) request }
+        requires whole { is_broken (device_of self.old) ≡ false }
         ensures { self.new ≡ record self.old { state = record self.old.state { request = Some request } } }
     {
         self.state.request = Some(request);
@@ -137,6 +140,7 @@ impl Virtio {
         requires inside { place + size ≤ length self.old.bytes }
         requires placed { IsPlaced request.now }
         requires on_disk { IsOnDisk (length self.old.bytes) request.now }
+        requires whole { is_broken (device_of self.old) ≡ false }
         requires first { request.now.tail ≡ 0 }
         ensures device { device_of self.new ≡
             (to_memory (device_of self.old) (request_of self.old.state.accepted request.now) gpa place size mem.old.ram (is_writable guard.now)).device }
@@ -180,6 +184,7 @@ impl Virtio {
         requires one_page { gpa % page_size + length bytes.now ≤ page_size }
         requires placed { IsPlaced request.now }
         requires on_disk { IsOnDisk (length self.old.bytes) request.now }
+        requires whole { is_broken (device_of self.old) ≡ false }
         ensures device { device_of self.new ≡
             (put_last (device_of self.old) (with_request (device_of self.old) (request_of self.old.state.accepted request.now)) gpa bytes.now
             mem.old.ram (is_writable guard.now)).device }
@@ -267,6 +272,7 @@ impl Virtio {
         requires inside { place + size ≤ length self.old.bytes }
         requires placed { IsPlaced request.now }
         requires on_disk { IsOnDisk (length self.old.bytes) request.now }
+        requires whole { is_broken (device_of self.old) ≡ false }
         ensures device { device_of self.new ≡
             (to_disk (device_of self.old) (request_of self.old.state.accepted request.now) gpa place size mem.now.ram).device }
         ensures told { result ≡ beat_of (to_disk (device_of self.old) (request_of self.old.state.accepted request.now) gpa place size mem.now.ram).move }
@@ -295,6 +301,7 @@ impl Virtio {
     ) -> DmaStep
         requires placed { IsPlaced request.now }
         requires on_disk { IsOnDisk (length self.old.bytes) request.now }
+        requires whole { is_broken (device_of self.old) ≡ false }
         requires made { CanBeMade (length self.old.bytes) next }
         requires data_first { is_last next ≡ false → request.now.tail ≡ 0 }
         ensures device { device_of self.new ≡
@@ -330,6 +337,7 @@ impl Virtio {
     fn go_on(&mut self, mut request: VirtioRequest, guard: &DmaGuard, mem: &mut HostMem) -> DmaStep
         requires placed { IsPlaced request }
         requires on_disk { IsOnDisk (length self.old.bytes) request }
+        requires whole { is_broken (device_of self.old) ≡ false }
         requires fits { IsOnDisk (2 ^ 63) request }
         requires under_way { self.old.state.request ≡ Some request }
         ensures device { device_of self.new ≡
