@@ -69,11 +69,12 @@ pub fn policy_after<R: Threads + Sync>(
     names: &[Name],
     objects: &[ObjectFile],
 ) -> Result<Policy, MakingRefusal>
-    ensures policy { IfOk result (λ policy. spec.policy_after (spec.terms_of settings) kernel.now.file.items kernel.now.digest names.now (map spec.file_of objects.now) ≡
-        Ok (rules_of policy)) }
+    ensures policy { IfOk result (λ policy.
+        spec.policy_after (spec.terms_of settings) kernel.now.file.items kernel.now.digest names.now (map spec.file_of objects.now) ≡ Ok (rules_of policy)) }
     ensures within { terms_within (spec.terms_of settings) ≡ true → are_module_names (spec.file_names (map spec.file_of objects.now)) ≡ true →
         IfOk result (λ policy. rules_within (rules_of policy) ≡ true) }
-    ensures refused { IfErr result (Refuses (spec.policy_after (spec.terms_of settings) kernel.now.file.items kernel.now.digest names.now (map spec.file_of objects.now))) }
+    ensures refused { IfErr result
+        (Refuses (spec.policy_after (spec.terms_of settings) kernel.now.file.items kernel.now.digest names.now (map spec.file_of objects.now))) }
 {
     let exports = wanted_exports(alloc, &kernel.file, names)?;
     let modules = made_modules(rt, alloc, &exports, objects)?;

@@ -16,5 +16,5 @@ pub mod ReadLists
 pub mod ReadRegisters
 pub mod ReadRows
 pub mod WholeRead
-pub mod JournalForms
+pub mod WrittenForms
 pub mod VirtioReads

@@ -10,7 +10,8 @@ use Rattle.spec_reference.specs.Calls.{integer_registers_at_boot}
 use Rattle.sv_types.specs.declared.event.Event.TheVariants.{Turn}
 use Rattle.spec_reference.specs.Run.{step}
 use Rattle.spec_reference.specs.States.{State, Hart, with_hart}
-use Rattle.spec_examples.specs.Guests.{small, hart_in, with_two, with_vector, turn_of_hart, as_kernel, as_user, hart_of, register_of, trap_facts, trap_of, at_pc}
+use Rattle.spec_examples.specs.Guests.{small, hart_in, with_two, with_vector, turn_of_hart, as_kernel, as_user, hart_of, register_of}
+use Rattle.spec_examples.specs.Guests.{trap_facts, trap_of, at_pc}
 
 -- Sv39 whose root is a page of zeros: nothing is mapped
 abbrev pub without_mappings : Hart → Hart

@@ -38,7 +38,7 @@ fn write_selection(out: &mut Vec<u8>, state: &VirtioState) -> Result<(), AllocEr
 }
 
 // Interrupt, status, the parts of the queue, and the number of accepted requests.
-#[tactic(auto, unfolding(crate::specs::VirtioForms::queue, crate::specs::VirtioForms::register, crate::specs::VirtioForms::aligned, crate::specs::VirtioForms::ring_index))]
+#[tactic(auto, unfolding(crate::proofs::WrittenForms::queue_forms))]
 fn write_queue(out: &mut Vec<u8>, state: &VirtioState) -> Result<(), AllocError>
     ensures encoded { OnOk result (out.new.items ≡ out.old.items ++ (queue state.now.ready).encode (state_parts state.now).1.1.0) }
     ensures short { OnOk result (are_short (state.now.interrupt ∷ state.now.status ∷ []) ≡ true) }

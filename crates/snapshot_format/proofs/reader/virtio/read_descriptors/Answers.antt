@@ -13,7 +13,8 @@ parts-preserved c =
     let f = next_descriptor c.args.count c.args.reached in
     record {
       so_far = row_read f 34 c.parts.i c.in_ok-part.part c.parts.parts c.parts.rest.now c.in_ok-part.after.now (all_taken f [] 34 c.args.bytes.now) c.parts-test.true here.size
-          (descriptor_at c.args.count c.args.reached c.parts.i c.parts.parts c.parts.rest.now (Ok (c.in_ok-part.part, c.in_ok-part.after.now)) c.parts-test.true here.size c.in_ok-part.ensures) here.so_far;
+          (descriptor_at c.args.count c.args.reached c.parts.i c.parts.parts c.parts.rest.now (Ok (c.in_ok-part.part, c.in_ok-part.after.now)) c.parts-test.true here.size
+          c.in_ok-part.ensures) here.so_far;
       size = length-set c.parts.parts c.parts.i c.in_ok-part.part ∙ here.size;
     }
 
