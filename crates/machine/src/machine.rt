@@ -105,16 +105,28 @@ impl Machine {
         if let Event::Turn(hart) = event {
             return self.hart_turns(hart, most);
         }
+        self.once(event, most)
+    }
+
+    // The event once.
+    #[inline(always)]
+    fn once(&mut self, event: Event, most: u64) -> u64
+        requires { MayMake self.old most }
+        ensures { Made result most self.old event self.new }
+    {
         self.make(event);
         1
     }
 
-    // A row of turns of a hart, and the turn that stopped it where some are left.
+    // A row of turns of a hart, and the turn that stopped it where some are left. A stopped hart has its turns one by one.
     #[inline(always)]
     fn hart_turns(&mut self, hart: u8, most: u64) -> u64
         requires { MayMake self.old most }
         ensures { Made result most self.old (Turn hart) self.new }
     {
+        if self.system.is_stopped(hart) {
+            return self.once(Event::Turn(hart), most);
+        }
         let batch = self.batch(hart, most);
         let made = batch.turns();
         if made == most || batch.left.is_left() {
@@ -144,7 +156,7 @@ impl Machine {
         ensures may { result ≡ true → MayBatch self.new hart }
         ensures same { self.new ≡ self.old }
     {
-        self.is_unreserved() && self.system.is_quiet_at(hart)
+        self.system.is_quiet_at(hart) && self.is_unreserved()
     }
 
     // No hart has a reservation. That is noted, since only an attempt that isn't made in a row gives one.
@@ -180,7 +192,7 @@ impl Machine {
         ensures makes { Makes self.old event self.new }
         ensures counts { (n : ℕ) → CountsAtMost n self.old.journal.counts → CountsAtMost (n + 1) self.new.journal.counts }
     {
-        self.none_reserved = stays_unreserved(self.none_reserved, event);
+        self.none_reserved = stays_unreserved(self.none_reserved, &self.system, event);
         self.system.step(event);
     }
 
@@ -248,13 +260,10 @@ impl Machine {
 
 // Whether no hart has a reservation after an event, where that was known before it.
 #[inline(always)]
-fn stays_unreserved(known: bool, event: Event) -> bool
-    ensures { result ≡ (known && reserves_nothing event) }
+fn stays_unreserved(known: bool, system: &System, event: Event) -> bool
+    ensures { result ≡ (known && reserves_nothing system.now event) }
 {
-    match event {
-        Event::Turn(_) => false,
-        Event::Beat | Event::Key(_) | Event::Tick(_) | Event::Poke { gpa: _, value: _ } => known,
-    }
+    known && system.reserves_nothing(event)
 }
 
 impl Drop for Machine {

@@ -1,7 +1,7 @@
 use Rattle.std.proofs.Common.{◌-◌, arith, refl}
 use Rattle.machine.specs.Limits.{max_counts}
 use Rattle.machine.proofs.Repeated.{counts_within}
-use Rattle.machine.proofs.machine.Machine.round.Goals as goal
+use Rattle.machine.proofs.machine.Machine.once.Goals as goal
 
 pub make-requires-clause-counts : goal.make-requires-clause-counts
 make-requires-clause-counts c =
