@@ -87,6 +87,14 @@ fn low_4(value: u64) -> [u8; 4]
     bytes
 }
 
+// Data that one move takes: its guest-physical address, its place on the disk, and how many bytes it has.
+#[derive(Clone, Copy, Drop)]
+struct Piece {
+    gpa: u64,
+    place: u64,
+    size: u64,
+}
+
 impl Virtio {
     fn is_live(&self) -> bool
         ensures value { result ≡ is_live (device_of self.now) }
@@ -123,33 +131,33 @@ impl Virtio {
         self.state.interrupt |= REQUEST_DONE;
     }
 
-    // Bytes of the disk go into memory. Seven parameters: the move's three parts are numbers of one variant, and the guard and
-    // the memory belong to the bus.
+    // Bytes of the disk go into memory.
     #[tactic(auto, unfolding(crate::proofs::MoveForms::data_written))]
     fn to_memory(
         &mut self,
         request: &VirtioRequest,
-        gpa: u64,
-        place: u64,
-        size: u64,
+        piece: Piece,
         guard: &DmaGuard,
         mem: &mut HostMem,
     ) -> DmaStep
-        requires small { size ≤ beat_size }
-        requires one_page { gpa % page_size + size ≤ page_size }
-        requires inside { place + size ≤ length self.old.bytes }
+        requires small { piece.size ≤ beat_size }
+        requires one_page { piece.gpa % page_size + piece.size ≤ page_size }
+        requires inside { piece.place + piece.size ≤ length self.old.bytes }
         requires placed { IsPlaced request.now }
         requires on_disk { IsOnDisk (length self.old.bytes) request.now }
         requires whole { is_broken (device_of self.old) ≡ false }
         requires first { request.now.tail ≡ 0 }
         ensures device { device_of self.new ≡
-            (to_memory (device_of self.old) (request_of self.old.state.accepted request.now) gpa place size mem.old.ram (is_writable guard.now)).device }
+            (to_memory (device_of self.old) (request_of self.old.state.accepted request.now) piece.gpa piece.place piece.size mem.old.ram
+            (is_writable guard.now)).device }
         ensures told { result ≡
-            beat_of (to_memory (device_of self.old) (request_of self.old.state.accepted request.now) gpa place size mem.old.ram (is_writable guard.now)).move }
+            beat_of (to_memory (device_of self.old) (request_of self.old.state.accepted request.now) piece.gpa piece.place piece.size mem.old.ram
+            (is_writable guard.now)).move }
         ensures memory { mem.new ≡
-            after_move mem.old (to_memory (device_of self.old) (request_of self.old.state.accepted request.now) gpa place size mem.old.ram
+            after_move mem.old (to_memory (device_of self.old) (request_of self.old.state.accepted request.now) piece.gpa piece.place piece.size mem.old.ram
             (is_writable guard.now)).move }
     {
+        let Piece { gpa, place, size } = piece;
         let from = place as usize;
         match guard.write(mem, gpa, &self.bytes[from..from + size as usize]) {
             Ok(()) => {
@@ -313,7 +321,7 @@ impl Virtio {
     {
         match next {
             VirtioMove::ToMemory { gpa, place, size } => {
-                self.to_memory(request, gpa, place, size, guard, mem)
+                self.to_memory(request, Piece { gpa, place, size }, guard, mem)
             }
             VirtioMove::ToDisk { gpa, place, size } => {
                 self.to_disk(request, gpa, place, size, mem)
