@@ -5,5 +5,5 @@ mod printed;
 mod symbols;
 
 pub use kernel::{KernelNames, kernel_names};
-pub use printed::location_text;
+pub use printed::{location_text, push_name};
 pub use symbols::{CodeSymbol, Location, location_of};

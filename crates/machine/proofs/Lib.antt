@@ -30,3 +30,4 @@ pub mod PortForms
 pub mod DeviceParts
 pub mod Regions
 pub mod Seated
+pub mod Loadings
