@@ -17,13 +17,13 @@ use Rattle.sv_types.specs.declared.port.PortState.{PortState}
 use Rattle.sv_types.specs.declared.virtio.VirtioPart.{VirtioPart}
 use Rattle.sv_types.specs.declared.virtio.VirtioRequest.{VirtioRequest}
 use Rattle.sv_types.specs.declared.virtio.VirtioState.{VirtioState}
-use Rattle.snapshot_format.specs.DeviceForms.{disk, holds_disk, lies_on, port}
+use Rattle.snapshot_format.specs.DeviceForms.{disk, holds_disk}
 use Rattle.snapshot_format.specs.Forms.{has_all, is_word, number, within}
 use Rattle.snapshot_format.specs.HartForms.{flag}
 use Rattle.snapshot_format.specs.VirtioForms.{accepted, aligned, descriptor, descriptors, holds_data, in_use, is_aligned, is_left, is_ring, may_be_made}
 use Rattle.snapshot_format.specs.VirtioForms.{may_be_moved, may_stand, next_descriptor}
 use Rattle.snapshot_format.specs.VirtioForms.{place_reached, progress, queue, register, request_after, request_flag, request_form, request_parts, request_under_way}
-use Rattle.snapshot_format.specs.VirtioForms.{result_form, ring_index, selection, state_parts, virtio}
+use Rattle.snapshot_format.specs.VirtioForms.{ring_index, selection, state_parts, virtio}
 use Rattle.snapshot_format.proofs.FormLaws.{first_true, second_true, has_all_length}
 use Rattle.laws_resume.proofs.FormParts.{below_is, max_is}
 use Rattle.virtio_blk.specs.Held.{IsOnDisk, IsPlaced, IsSound}
