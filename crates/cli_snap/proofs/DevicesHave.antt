@@ -82,14 +82,14 @@ transfer_in b bytes done busy is sound =
 abbrev block_by : (sector gpa count : ℕ) → BlockStatus → BlockState
 block_by sector gpa count status = record { sector = sector; gpa = gpa; count = count; status = status }
 
-record HasNumbers (sector gpa count done : ℕ) : Type 0 where
-  sector : is_word sector ≡ true
-  gpa : is_word gpa ≡ true
-  count : is_word count ≡ true
-  few : nat_lt count (2 ^ 32) ≡ true
-  done : is_word done ≡ true
+record HasNumbers (b : BlockState) : Type 0 where
+  sector : is_word b.sector ≡ true
+  gpa : is_word b.gpa ≡ true
+  count : is_word b.count ≡ true
+  few : nat_lt b.count (2 ^ 32) ≡ true
+  done : is_word (beats_done b.status) ≡ true
 
-still_has : (sector gpa count : ℕ) (status : BlockStatus) (bytes : List ℕ) → HasNumbers sector gpa count (beats_done status)
+still_has : (sector gpa count : ℕ) (status : BlockStatus) (bytes : List ℕ) → HasNumbers (block_by sector gpa count status)
     → IsSoundBlock (record { block = block_by sector gpa count status; bytes = bytes }) → block.has (block_by sector gpa count status) ≡ true
 unfolding block standing_status transfer
 still_has sector gpa count BlockStatus.Idle bytes is sound = rw (is.sector, is.gpa, is.count, is.few) refl
