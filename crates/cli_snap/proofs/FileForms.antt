@@ -1,4 +1,4 @@
--- The device and its disk have a spelling.
+-- The device and its disk have an encoding.
 use Rattle.std.proofs.Common.{◌≡◌, ℕ, ◌+◌, ◌*◌, ◌/◌, ◌%◌, ◌^◌, ◌<◌, ◌≤◌, List, length, true, arith, refl, subst, sym}
 use Rattle.std.specs.Prelude.{not, ◌==◌, ◌||◌, nat_lt, nat_le}
 use Rattle.std.proofs.lemmas.Bool.{lt-ltb, le-leb, eq-eqb}
