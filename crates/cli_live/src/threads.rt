@@ -118,6 +118,7 @@ impl LiveRun {
         ensures end { result.write_failed ≡ false → (self.new.journal.autos ≡ self.old.events) ⊎ (self.new.machine.journal.verdict ≢ Running) }
         ensures way { IsUnderWay self.new }
         ensures harts { harts_of self.new.script ≡ harts_of self.old.script }
+        ensures events { self.new.events ≡ self.old.events }
     {
         let KeySource { line, feeder } = source;
         let (fed, driven) = self.feed_and_drive(host, &line, feeder, keys, out);

@@ -1,4 +1,4 @@
-use Rattle.std.proofs.Common.{◌+◌, ◌∷◌, ◌++◌, [], false, sym, ◌∙◌, subst}
+use Rattle.std.proofs.Common.{◌+◌, ◌∷◌, ◌++◌, [], sym, ◌∙◌, subst}
 use Rattle.spec_reference.specs.Run.{step}
 use Rattle.spec_hardware.specs.Machine.{Machine}
 use Rattle.machine.specs.Standing.{HasState}
@@ -24,9 +24,9 @@ returns-clause-broke g c =
     let steps : Makes c.args.machine.now c.args.event c.step.new.self = record { stands = c.step.ensures.stands; event = c.step.ensures.event } in
     err_both c.flush_due.result _ _ _
     (λ same off made.
-    subst (λ (m : Machine). Breaks false made (made ++ c.args.event ∷ []) c.args.machine.now m (g.O.Sink.state c.args.out.now) (g.O.Sink.state c.flush_due.new.out)) (sym same)
-    (broken_one _ _ _ _ _ c.requires.came steps off made))
-    c.flush_due.ensures.machine c.flush_due.ensures.failed
+    subst (λ (m : Machine). Breaks ⊥ made (made ++ c.args.event ∷ []) c.args.machine.now m (g.O.Sink.state c.args.out.now) (g.O.Sink.state c.flush_due.new.out)) (sym same)
+    (broken_one _ _ _ _ _ c.requires.came steps off.0 off.1 made))
+    c.flush_due.ensures.machine (err_both c.flush_due.result _ _ _ (λ off due. (off, due)) c.flush_due.ensures.failed c.flush_due.ensures.due)
 
 pub returns-clause-state : goal.returns-clause-state
 returns-clause-state g c =

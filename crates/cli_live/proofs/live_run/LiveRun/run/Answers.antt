@@ -26,6 +26,9 @@ returns-clause-keys g c =
     (λ done. ok_gives c.drive_again-ended.result _ c.drive_again-ended.ensures.whole (sym c.is_err.ensures.value ∙ done))
     (c.law_journal_events.ensures.keys (harts_of last.script) 0 last.journal.keys.items last.journal.autos ∙ c.drive_again-ended.ensures.under.way.keys)
 
+pub returns-clause-events : goal.returns-clause-events
+returns-clause-events g c = c.drive_again-ended.ensures.under.events ∙ c.feed_and_drive-fed.ensures.drives.stays.events
+
 pub returns-clause-others : goal.returns-clause-others
 returns-clause-others g c =
     let last = c.drive_again-ended.new.self in
