@@ -6,7 +6,7 @@ pub sizes-init : goal.sizes-init
 sizes-init g c = (reduced_none _ _ c.requires.stops, refl, omega arith)
 
 pub take_pieces-requires-clause-stops : goal.take_pieces-requires-clause-stops
-take_pieces-requires-clause-stops g c = still_stops _ _ _ _ c.sizes.invariant.1 c.sizes.invariant.0
+take_pieces-requires-clause-stops g c = λ κs lives. still_stops _ _ _ _ c.sizes.invariant.1 c.sizes.invariant.0
 
 pub returns-in_err-take_pieces-clause-reduced : goal.returns-in_err-take_pieces-clause-reduced
 returns-in_err-take_pieces-clause-reduced g c = reduced_next _ _ _ _ _ c.sizes.invariant.1 c.sizes.invariant.0 c.take_pieces.ensures.reduced
@@ -22,7 +22,7 @@ sizes-preserved g c =
     )
 
 pub take_single_items-requires-clause-stops : goal.take_single_items-requires-clause-stops
-take_single_items-requires-clause-stops g c = still_stops _ _ _ _ c.rounds.invariant.1 c.rounds.invariant.0
+take_single_items-requires-clause-stops g c = λ κs lives. still_stops _ _ _ _ c.rounds.invariant.1 c.rounds.invariant.0
 
 pub returns-in_err-take_single_items-clause-reduced : goal.returns-in_err-take_single_items-clause-reduced
 returns-in_err-take_single_items-clause-reduced g c = reduced_next _ _ _ _ _ c.rounds.invariant.1 c.rounds.invariant.0 c.take_single_items.ensures.reduced

@@ -6,7 +6,7 @@ pub pieces-init : goal.pieces-init
 pieces-init g c = (reduced_none _ _ c.requires.stops, refl, omega arith)
 
 pub try_without-requires-clause-stops : goal.try_without-requires-clause-stops
-try_without-requires-clause-stops g c = still_stops _ _ _ _ c.pieces.invariant.1 c.pieces.invariant.0
+try_without-requires-clause-stops g c = λ κs lives. still_stops _ _ _ _ c.pieces.invariant.1 c.pieces.invariant.0
 
 pub returns-in_err-try_without-clause-reduced : goal.returns-in_err-try_without-clause-reduced
 returns-in_err-try_without-clause-reduced g c = reduced_next _ _ _ _ _ c.pieces.invariant.1 c.pieces.invariant.0 c.try_without.ensures.reduced

@@ -6,7 +6,7 @@ pub items-init : goal.items-init
 items-init g c = (reduced_none _ _ c.requires.stops, refl, omega arith, (λ same i below. absurd (omega (arith, below))), (λ is. absurd (cc)), (λ is. cc is))
 
 pub try_without-requires-clause-stops : goal.try_without-requires-clause-stops
-try_without-requires-clause-stops g c = still_stops _ _ _ _ c.items.invariant.1 c.items.invariant.0
+try_without-requires-clause-stops g c = λ κs lives. still_stops _ _ _ _ c.items.invariant.1 c.items.invariant.0
 
 pub returns-in_err-try_without-clause-reduced : goal.returns-in_err-try_without-clause-reduced
 returns-in_err-try_without-clause-reduced g c = reduced_next _ _ _ _ _ c.items.invariant.1 c.items.invariant.0 c.try_without.ensures.reduced
