@@ -29,7 +29,7 @@ use Rattle.live_keys.specs.Keys.{KeysState}
 use Rattle.live_keys.specs.Placed.{autos_between, events_between, keys_among, others_among}
 use Rattle.live_keys.specs.declared.live_key.LiveKey.{LiveKey}
 use Rattle.live_keys.proofs.Events.{numbers_join}
-use Rattle.cli_live.proofs.MadeEvents.{last_under}
+use Rattle.cli_live.proofs.MadeEvents.{last_under, shown_early}
 use Rattle.cli_live.specs.Coming.{CameRunning}
 use Rattle.cli_live.specs.Drives.{BrokeOff, GoesOn, HasBroken, HasDriven, IsShownEarly, MayShow}
 use Rattle.cli_live.specs.Inputs.{HasKeys}
@@ -218,8 +218,8 @@ runs_live ready last ended start f0 f1 old mid new k0 k1 b0 result fresh is_new 
       late = λ broke.
           subst (λ (s : SinkState). BreaksLast start (events_made last) (first_events live.events live.script) old s) (sym (r.broke broke).1)
           (broken_last (MayShow last) live.machine start (events_made last) (first_events live.events live.script) last.machine old mid
-          (shown_as (events_made last) _ _ _ _ _ _ (sym (ap (λ (es : List Event). length es) others ∙ drawn_length harts last.journal.autos))
-          (events ∙ sym (ap (λ (s : Schedule). length (first_events live.events s)) (script_is live fresh.way fresh.autos) ∙ drawn_length harts live.events)) ends.verdict)
+          (λ shown. shown_as (events_made last) _ _ _ _ _ _ (sym (ap (λ (es : List Event). length es) others ∙ drawn_length harts last.journal.autos))
+          (events ∙ sym (ap (λ (s : Schedule). length (first_events live.events s)) (script_is live fresh.way fresh.autos) ∙ drawn_length harts live.events)) ends.verdict (shown_early last shown))
           ((drove.broke broke).broke live.machine start old (ran_none live.machine start old (events_made live) (none_made live fresh.keys fresh.autos) is_new fresh.console)));
       writes = ends.writes;
       saved = r.saved;

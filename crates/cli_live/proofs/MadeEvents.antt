@@ -1,5 +1,5 @@
 -- Events that are made one after another, and what of the console is written.
-use Rattle.std.proofs.Common.{◌≡◌, ◌≤◌, ◌<◌, ◌+◌, ◌-◌, ◌^◌, ℕ, ◌⊎◌, inl, inr, Bool, IsFalse, IsTrue, OnOk, OnErr}
+use Rattle.std.proofs.Common.{◌≡◌, ◌≤◌, ◌<◌, ◌+◌, ◌-◌, ◌^◌, ◌%◌, ◌≢◌, ℕ, ◌⊎◌, inl, inr, Bool, IsFalse, IsTrue, OnOk, OnErr}
 use Rattle.std.proofs.Common.{IsErr, Result, Ok, Err, true, false, List, [], ◌∷◌, ◌++◌, length, drop, refl, sym, ◌∙◌, ap, subst, arith}
 use Rattle.std.proofs.Common.{length-append}
 use Rattle.std.proofs.lemmas.List.{length-drop}
@@ -31,9 +31,10 @@ use Rattle.machine.specs.Limits.{max_counts}
 use Rattle.machine.specs.Repeats.{Makes}
 use Rattle.atomic_table.specs.Seated.{TableId}
 use Rattle.cli_live.specs.declared.live_run.LiveRun.{LiveRun}
+use Rattle.live_keys.specs.declared.line.Taker.{Taker}
 use Rattle.cli_live.specs.Coming.{CameRunning, IsKey, MayCome}
 use Rattle.cli_live.specs.LiveRuns.{harts_of, events_made, IsUnderWay, MayStep, count_of}
-use Rattle.cli_live.specs.Drives.{GoesOn, ComesLast, HasBroken, Breaks, BrokeOff, MayDrive, Driven, StaysUnderWay, Drives}
+use Rattle.cli_live.specs.Drives.{GoesOn, ComesLast, EndsInScript, HasBroken, Breaks, BrokeOff, IsShownEarly, MayShow, shown_every, MayDrive, Driven, StaysUnderWay, Drives}
 use Rattle.cli_live.proofs.DrawnEvents.{same_harts}
 
 -- ---- printed bytes that are taken away twice
@@ -207,6 +208,25 @@ breaks_due x = breaks_under (λ never. absurd never) x
 pub breaks_shown : {early : Type 0} {made more : List Event} {a b : Machine} {s t : SinkState} → early → Breaks (Unit {0}) made more a b s t → Breaks early made more a b s t
 breaks_shown is x = breaks_under (λ _. is) x
 
+-- ---- when the console is shown early
+
+pub shown_often : (l : LiveRun) → l.journal.autos % shown_every ≡ 0 → EndsInScript (events_made l) → MayShow l
+unfolding MayShow
+shown_often l often drawn = inl (often, drawn)
+
+pub shown_last : (l : LiveRun) → (l.journal.autos ≡ l.events) ⊎ (l.machine.journal.verdict ≢ Running) → MayShow l
+unfolding MayShow
+shown_last l last = inr last
+
+pub shown_early : (l : LiveRun) → MayShow l → IsShownEarly (events_made l) l.journal.autos l.events l.machine.journal.verdict
+unfolding MayShow
+shown_early l shown = shown
+
+-- whatever was taken of the line
+pub broke_taken : (old mid : LiveRun) (taker : Taker) (s t : SinkState) → BrokeOff old mid s t → BrokeOff old (record mid { taker = taker }) s t
+unfolding MayShow
+broke_taken old mid taker s t off = off
+
 -- ---- what a sink keeps
 
 pub may_write : {made more : List Event} {a b : Machine} {s t : SinkState} → GoesOn made more a b s t → MayWrite s → MayWrite t
@@ -233,9 +253,9 @@ pub err_map : {T E : Type 0} (r : Result T E) (P Q : Type 0) → (P → Q) → O
 err_map (Ok x) P Q f p = tt
 err_map (Err e) P Q f p = f p
 
-pub err_both : {T E : Type 0} (r : Result T E) (P Q S : Type 0) → (P → Q → S) → OnErr r P → OnErr r Q → OnErr r S
-err_both (Ok x) P Q S f p q = tt
-err_both (Err e) P Q S f p q = f p q
+pub err_three : {T E : Type 0} (r : Result T E) (P Q S U : Type 0) → (P → Q → S → U) → OnErr r P → OnErr r Q → OnErr r S → OnErr r U
+err_three (Ok x) P Q S U f p q s = tt
+err_three (Err e) P Q S U f p q s = f p q s
 
 -- ---- one drive after another, and what fails after it
 

@@ -67,7 +67,7 @@ abbrev pub WentOn : (old new : LiveRun) (before after : SinkState) → Type 0
 WentOn old new before after = GoesOn (events_made old) (events_made new) old.machine new.machine before after
 
 -- its console is shown early
-abbrev pub MayShow : LiveRun → Type 0
+unfoldable pub MayShow : LiveRun → Type 0
 MayShow l = IsShownEarly (events_made l) l.journal.autos l.events l.machine.journal.verdict
 
 -- it has, and then a write failed

@@ -1,5 +1,5 @@
 // Events that are made at once, each with its place in the journal, and the console.
-ghost use Rattle.std.specs.Prelude.{◌≡◌, ◌<◌, ◌≤◌, ◌+◌, ◌-◌, ◌++◌, ◌∷◌, ℕ, List, [], length, vec_len, Unit, OnOk, OnErr};
+ghost use Rattle.std.specs.Prelude.{◌≡◌, ◌<◌, ◌≤◌, ◌+◌, ◌-◌, ◌++◌, ◌∷◌, ℕ, List, [], length, vec_len, OnOk, OnErr};
 ghost use Rattle.sv_types.specs.Limits.{max_printed, max_events};
 ghost use Rattle.sv_types.specs.declared.event.Event.{Event as Made};
 ghost use Rattle.sv_types.specs.declared.event.Verdict.TheVariants.{Running};

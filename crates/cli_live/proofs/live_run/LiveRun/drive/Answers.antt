@@ -3,7 +3,7 @@ use Rattle.sv_types.specs.Limits.{max_printed}
 use Rattle.sv_types.specs.declared.event.Verdict.{Verdict}
 use Rattle.sv_types.specs.declared.event.Verdict.TheVariants.{Running}
 use Rattle.cli_live.specs.LiveRuns.{events_made}
-use Rattle.cli_live.proofs.MadeEvents.{breaks_shown, on_breaks, may_write, on_ok, on_then, ok_both, err_map, cleared_way, cleared_verdict, may_drive, driven_then, stays_then, drives_off}
+use Rattle.cli_live.proofs.MadeEvents.{breaks_shown, shown_last, on_breaks, may_write, on_ok, on_then, ok_both, err_map, cleared_way, cleared_verdict, may_drive, driven_then, stays_then, drives_off}
 use Rattle.cli_live.proofs.live_run.LiveRun.drive.Goals as goal
 
 none_printed : {bytes : List ℕ} → bytes ≡ [] → length bytes < max_printed
@@ -46,7 +46,7 @@ returns-clause-drives g c =
       on = ok_both c.show_console.result _ _ _ (λ on none. record { went = on_then driven.went (on (events_made c.make_keys.new.live)); room = none_printed none })
           c.show_console.ensures.on c.show_console.ensures.none;
       broke = err_map c.show_console.result _ _
-          (λ off. on_breaks driven.went (breaks_shown (inr last)
+          (λ off. on_breaks driven.went (breaks_shown (shown_last (record c.make_keys.new.live { machine = c.show_console.new.machine }) last)
           (off (events_made c.make_keys.new.live)))) c.show_console.ensures.broke;
       stays = stays_then (stays_then autos.stays keys.stays) (cleared_way c.make_keys.new.live c.show_console.new.machine keys.stays.way c.show_console.ensures.cleared);
     }
