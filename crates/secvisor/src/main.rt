@@ -53,9 +53,7 @@ fn main(rt: HostRuntime) -> ExitCode {
         alloc: rt.alloc(),
         pace: &watching,
     };
-    let status = answer(
-        &host, &words, &mut files, &mut keys, &mut out, &mut bench,
-    );
+    let status = answer(&host, &words, &mut files, &mut keys, &mut out, &mut bench);
     watching.end();
     explain(&rt, &rt, &words, status);
     if is_watched {

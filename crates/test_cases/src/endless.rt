@@ -35,9 +35,7 @@ pub fn refuse_endless<
         alloc: rt.alloc(),
         pace: &Still,
     };
-    let status = cli_dispatch::answer(
-        &called, &line, &mut files, &mut keys, &mut out, &mut bench,
-    );
+    let status = cli_dispatch::answer(&called, &line, &mut files, &mut keys, &mut out, &mut bench);
     println!(rt; "status {}", status.number())?;
     io::writer(rt).write_all(out.taken_bytes())
 }

@@ -26,9 +26,7 @@ pub fn call_real<R: Threads + Wait + Sync>(
         alloc: rt.alloc(),
         pace: &Still,
     };
-    let status = cli_dispatch::answer(
-        &host, &line, &mut files, &mut keys, &mut out, &mut bench,
-    );
+    let status = cli_dispatch::answer(&host, &line, &mut files, &mut keys, &mut out, &mut bench);
     println!(rt; "status {}", status.number())
 }
 

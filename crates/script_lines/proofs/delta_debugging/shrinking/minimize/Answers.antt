@@ -14,8 +14,7 @@ returns-in_err-take_pieces-clause-reduced g c = reduced_next _ _ _ _ _ c.sizes.i
 pub sizes-preserved : goal.sizes-preserved
 sizes-preserved g c =
     let before = c.sizes.invariant.2 in
-    let less = c.take_pieces.ensures.runs in
-    (
+    let less = c.take_pieces.ensures.runs in (
       reduced_next _ _ _ _ _ c.sizes.invariant.1 c.sizes.invariant.0 c.take_pieces.ensures.reduced,
       c.take_pieces.ensures.same ∙ c.sizes.invariant.1,
       omega arith,
@@ -33,8 +32,7 @@ returns-in-Same-clause-reduced g c = reduced_next _ _ _ _ _ c.rounds.invariant.1
 pub rounds-preserved : goal.rounds-preserved
 rounds-preserved g c =
     let before = c.rounds.invariant.2 in
-    let less = c.take_single_items.ensures.runs in
-    (
+    let less = c.take_single_items.ensures.runs in (
       reduced_next _ _ _ _ _ c.rounds.invariant.1 c.rounds.invariant.0 c.take_single_items.ensures.reduced,
       c.take_single_items.ensures.same ∙ c.rounds.invariant.1,
       omega arith,

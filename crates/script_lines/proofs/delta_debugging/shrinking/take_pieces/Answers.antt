@@ -14,8 +14,7 @@ returns-in_err-try_without-clause-reduced g c = reduced_next _ _ _ _ _ c.pieces.
 pub pieces-preserved : goal.pieces-preserved
 pieces-preserved g c =
     let before = c.pieces.invariant.2 in
-    let less = c.try_without.ensures.runs in
-    (
+    let less = c.try_without.ensures.runs in (
       reduced_next _ _ _ _ _ c.pieces.invariant.1 c.pieces.invariant.0 c.try_without.ensures.reduced,
       c.try_without.ensures.same ∙ c.pieces.invariant.1,
       omega arith,

@@ -14,8 +14,7 @@ returns-in_err-try_without-clause-reduced g c = reduced_next _ _ _ _ _ c.items.i
 pub items-preserved-then-branch : goal.items-preserved-then-branch
 items-preserved-then-branch g c =
     let before = c.items.invariant.2 in
-    let one = c.in_ok-try_without.ensures.run in
-    (
+    let one = c.in_ok-try_without.ensures.run in (
       reduced_next _ _ _ _ _ c.items.invariant.1 c.items.invariant.0 c.try_without.ensures.reduced,
       c.try_without.ensures.same ∙ c.items.invariant.1,
       omega arith,
