@@ -56,10 +56,10 @@ pub record SurveyOwed (words : List (List ℕ)) (old new : LiveOutside) (answer 
   pub unsaved : SavesNothing old.files new.files
   pub keys : new.keys ≡ old.keys
 
--- `live`
+-- `live` and `vlive`
 pub record LiveOwed (words : List (List ℕ)) (old new : LiveOutside) (answer : Status) : Type 0 where
   pub headline : LiveHeadline (live_judged words) old new answer
-  -- `run` over what was saved is due the same
+  -- `run`, or `vrun`, over what was saved is due the same
   pub replay : (line : LiveLine) → words ≡ live_line line → HasEnded answer old.keys new.keys → Replays line old new answer
   pub read_fault : answer ≡ Status.ReadFault →
       FailsToRead (live_plan (live_judged words)) old.files new.files ⊎ (old.keys.faults < new.keys.faults)

@@ -8,7 +8,7 @@ use Rattle.cli_dispatch.specs.declared.choice.TopCall.TheVariants.{Live, Snap, S
 
 abbrev pub call_of : Option CommandName → TopCall
 call_of (Some command.Survey) = Survey
-call_of (Some command.Live) = Live
+call_of (Some (command.Live kind)) = Live
 call_of (Some command.Snap) = Snap
 call_of (Some command.Sweep) = Sweep
 call_of (Some command.Shrink) = Shrink

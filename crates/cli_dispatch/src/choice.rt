@@ -34,7 +34,7 @@ fn call_of_name(name: &str) -> TopCall
 {
     match command_of_name(name) {
         Some(CommandName::Survey) => TopCall::Survey,
-        Some(CommandName::Live) => TopCall::Live,
+        Some(CommandName::Live(_)) => TopCall::Live,
         Some(CommandName::Snap) => TopCall::Snap,
         Some(CommandName::Sweep) => TopCall::Sweep,
         Some(CommandName::Shrink) => TopCall::Shrink,

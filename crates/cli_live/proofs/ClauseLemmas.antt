@@ -20,7 +20,7 @@ use Rattle.cli_plans.specs.declared.refusal.Refusal.TheVariants.{NoCommand, OutO
 use Rattle.host_io.specs.declared.trouble.Trouble.{Trouble}
 use Rattle.host_io.specs.declared.trouble.Trouble.TheVariants.{Write, Memory}
 use Rattle.cli_plans.specs.Refusals.{refusal_status}
-use Rattle.cli_plans.specs.CommandLine.{Auto, unless_none, LiveWords, block_run, live_judged}
+use Rattle.cli_plans.specs.CommandLine.{Auto, unless_none, LiveWords, unsaved_run, live_judged}
 use Rattle.cli_plans.specs.Plans.{Due, Refuse, RunFrom, Make, Saving, Plan, run_plan, live_plan}
 use Rattle.cli_plans.specs.Reading.{Follows}
 use Rattle.secvisor_cli.specs.Answers.{outside, Writes, SavedAfter}
@@ -109,7 +109,7 @@ run_replays : (line : LiveLine) (words : LiveWords) (old new : LiveOutside) (rea
     RunsLive start asked words.out (live_outside read old.sink old.keys old.bench) new (Ok answer) → Replays line old new answer
 unfolding live_plan
 run_replays line words old new read start asked save answer good follows r =
-    let reads : Follows (run_plan (block_run line.image line.policy line.disk (Auto 0) good.count)) old.files read (Some (RunFrom start asked save)) =
+    let reads : Follows (run_plan (unsaved_run line.kind line.image line.policy line.disk (Auto 0) good.count)) old.files read (Some (RunFrom start asked save)) =
     subst (λ (w : LiveWords). Follows (run_plan w.run) old.files read (Some (RunFrom start asked save))) good.words_are
     (judge_gives (run_plan words.run) old.files read (RunFrom start asked save) follows) in
     let g : RunGives line good.count old.files start asked = run_gives line good.count old.files read start asked save reads in

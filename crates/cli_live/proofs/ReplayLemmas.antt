@@ -1,4 +1,4 @@
--- From what `live` did to what `run` is due.
+-- From what a live run did to what `run`, or `vrun`, is due.
 use Rattle.std.proofs.Common.{◌≡◌, ◌≤◌, ◌+◌, ℕ, List, [], ◌∷◌, ◌++◌, length, Bool, true, false, ◌&&◌, ◌||◌, nat_le, IsTrue, refl, sym, ◌∙◌}
 use Rattle.std.proofs.Common.{ap, subst, arith, Option, Some, None, Result, Ok, Err, if◌then◌else◌, take_all, length-append}
 use Rattle.std.proofs.lemmas.Bool.{leb-true, ne_eqb, or_from}
@@ -18,13 +18,14 @@ use Rattle.sv_types.specs.declared.event.Event.TheVariants.{Turn, Beat, Key, Tic
 use Rattle.sv_types.specs.Limits.{max_events, max_disk_bytes}
 use Rattle.policy.specs.Refusals.{Judged}
 use Rattle.policy.specs.Text.{rules_of_text}
-use Rattle.spec_reference.specs.Start.{boot_start, start as begin}
+use Rattle.spec_reference.specs.Start.{boot_start, virtio_start, start as begin}
 use Rattle.spec_reference.specs.States.{State, has_number}
 use Rattle.host_io.specs.Outside.{FilesState}
 use Rattle.script.proofs.FirstEvents.{first_listed, first_few}
 use Rattle.script.specs.AutoScripts.{events_of_text, first_refused}
 use Rattle.cli_plans.specs.declared.command_words.table.CommandName.TheVariants as command
-use Rattle.cli_plans.specs.Commands.{Named, RunSplit, has_dash, named_shape, named_words}
+use Rattle.cli_plans.specs.declared.command_words.table.CommandName.{CommandName}
+use Rattle.cli_plans.specs.Commands.{Named, RunSplit, LiveSplit, has_dash, name_of, named_by, named_shape, named_words}
 use Rattle.live_keys.specs.Line.{StartsWith, max_keys}
 use Rattle.live_keys.specs.Placed.{keys_among, others_among}
 use Rattle.live_keys.proofs.JournalLines.{number_back}
@@ -34,29 +35,29 @@ use Rattle.cli_plans.specs.declared.refusal.Refusal.{Refusal}
 use Rattle.cli_plans.specs.declared.refusal.Refusal.TheVariants.{NoCommand, Measure, Entry}
 use Rattle.cli_plans.specs.declared.command_words.command.DiskKind.{DiskKind}
 use Rattle.cli_plans.specs.CommandLine.{Command, Run, RunWords, Source, Text, Auto, judgement_of_words, named_judged, command_after}
-use Rattle.cli_plans.specs.CommandLine.{live_after, run_words, unless_none, LiveWords, block_run, live_words, live_judged, max_live_events}
+use Rattle.cli_plans.specs.CommandLine.{live_after, run_words, unless_none, LiveWords, unsaved_run, live_words, live_judged, max_live_events}
 use Rattle.cli_plans.specs.Plans.{Due, Refuse, RunFrom, Plan, End, Judge, max_policy_bytes, max_image_bytes, max_script_bytes}
 use Rattle.cli_plans.specs.Plans.{policy_judged, policy_part, part_judged, kernel_part, disk_refusal, disk_part, text_part, script_part}
-use Rattle.cli_plans.specs.Plans.{image_measure, boot_judged, boot_plan, image_plan, run_plan, command_plan, plan_of}
+use Rattle.cli_plans.specs.Plans.{image_measure, start_with, boot_judged, boot_plan, image_plan, run_plan, command_plan, plan_of}
 use Rattle.cli_plans.specs.Reading.{Follows}
 use Rattle.cli_plans.proofs.PlanLemmas.{Keeps}
 use Rattle.cli_live.specs.LiveAnswers.{IsScriptOf}
 use Rattle.secvisor_cli.specs.DueIn.{due_in}
 use Rattle.secvisor_cli.proofs.DueLemmas.{held_before, due_held}
-use Rattle.cli_live.specs.Replays.{LiveLine, live_line, run_line, NamesScript, Parts, HoldDisk, HoldParts}
+use Rattle.cli_live.specs.Replays.{LiveLine, live_name, run_name, live_line, run_line, NamesScript, Parts, HoldDisk, HoldParts}
 use Rattle.cli_live.proofs.PlanLemmas.{part_gives, judge_gives}
 
 -- ---- what was judged good
 
 -- parts that are accepted under rules, and the state in which their machine starts
-pub record AreGood (rules : Rules) (parts : Parts) (start : State) : Type 0 where
+pub record AreGood (kind : DiskKind) (rules : Rules) (parts : Parts) (start : State) : Type 0 where
   pub policy_few : length parts.policy ≤ max_policy_bytes
   pub policy : rules_of_text parts.policy ≡ Ok rules
   pub image_few : length parts.image ≤ max_image_bytes
   pub image : kernel_refusal parts.image rules.ram_pages ≡ None
   pub disk_few : length parts.disk ≤ max_disk_bytes
   pub disk : disk_refusal parts.disk ≡ None
-  pub boots : (events : List Event) (save : Option (List ℕ)) → boot_judged DiskKind.Block rules parts.image parts.disk events save ≡ RunFrom start events save
+  pub boots : (events : List Event) (save : Option (List ℕ)) → boot_judged kind rules parts.image parts.disk events save ≡ RunFrom start events save
   pub harts : start.rules.harts ≡ rules.harts
 
 policy_good : (next : Rules → Plan) (judged : Judged Rules) (now read : FilesState) (start : State) (events : List Event) (save : Option (List ℕ)) →
@@ -107,24 +108,25 @@ boot_gives true true first asked again one other by_measure by_entry start event
 boot_gives true false first asked again one other by_measure by_entry start events save is = absurd (cc is)
 boot_gives false entered first asked again one other by_measure by_entry start events save is = absurd (cc is)
 
-booted : (rules : Rules) (file disk : List ℕ) (asked again : List Event) (one other : Option (List ℕ)) (start : State) (events : List Event) (save : Option (List ℕ)) →
-    boot_judged DiskKind.Block rules file disk asked one ≡ RunFrom start events save →
-    (asked ≡ events) × (start ≡ boot_start rules file disk) × (boot_judged DiskKind.Block rules file disk again other ≡ RunFrom start again other)
+booted : (kind : DiskKind) (rules : Rules) (file disk : List ℕ) (asked again : List Event) (one other : Option (List ℕ)) (start : State) (events : List Event) (save : Option (List ℕ)) →
+    boot_judged kind rules file disk asked one ≡ RunFrom start events save →
+    (asked ≡ events) × (start ≡ start_with kind rules file disk) × (boot_judged kind rules file disk again other ≡ RunFrom start again other)
 unfolding boot_judged
-booted rules file disk asked again one other start events save is =
-    let it = boot_gives (bytes_eq (image_measure file) rules.kernel) (has_number rules.entries (header_entry file)) (boot_start rules file disk) asked again one other
+booted kind rules file disk asked again one other start events save is =
+    let it = boot_gives (bytes_eq (image_measure file) rules.kernel) (has_number rules.entries (header_entry file)) (start_with kind rules file disk) asked again one other
     (Measure (image_measure file) rules.kernel) (Entry (header_entry file)) start events save is in
     (it.events_are, it.start_is, it.boots)
 
-start_harts : (rules : Rules) (file disk : List ℕ) (start : State) → start ≡ boot_start rules file disk → start.rules.harts ≡ rules.harts
-unfolding boot_start begin
-start_harts rules file disk start is = ap (λ (s : State). s.rules.harts) is
+start_harts : (kind : DiskKind) (rules : Rules) (file disk : List ℕ) (start : State) → start ≡ start_with kind rules file disk → start.rules.harts ≡ rules.harts
+unfolding boot_start virtio_start begin
+start_harts DiskKind.Block rules file disk start is = ap (λ (s : State). s.rules.harts) is
+start_harts DiskKind.Virtio rules file disk start is = ap (λ (s : State). s.rules.harts) is
 
 -- what is known where `live` went on to a run
 pub record RunGives (line : LiveLine) (count : ℕ) (old : FilesState) (start : State) (asked : List Event) : Type 0 where
   pub rules : Rules
   pub parts : Parts
-  pub good : AreGood rules parts start
+  pub good : AreGood line.kind rules parts start
   pub found : IsTrue old.tells → HoldParts old.held line parts
   pub asked_are : first_events count (Schedule.Auto rules.harts 0) ≡ asked
 
@@ -135,18 +137,18 @@ record AfterImage (line : LiveLine) (count : ℕ) (rules : Rules) (file : List �
   pub good : disk_refusal bytes ≡ None
   pub held : IsTrue old.tells → HoldDisk old.held (unless_none line.disk) bytes
   pub asked_are : first_events count (Schedule.Auto rules.harts 0) ≡ asked
-  pub start_is : start ≡ boot_start rules file bytes
-  pub boots : (events : List Event) (save : Option (List ℕ)) → boot_judged DiskKind.Block rules file bytes events save ≡ RunFrom start events save
+  pub start_is : start ≡ start_with line.kind rules file bytes
+  pub boots : (events : List Event) (save : Option (List ℕ)) → boot_judged line.kind rules file bytes events save ≡ RunFrom start events save
 
 after_image : (line : LiveLine) (count : ℕ) (rules : Rules) (file : List ℕ) (old read : FilesState) (start : State) (asked : List Event) (save : Option (List ℕ)) →
-    Follows (boot_plan (block_run line.image line.policy line.disk (Auto 0) count) rules file) old read (Some (RunFrom start asked save)) → AfterImage line count rules file old start asked
+    Follows (boot_plan (unsaved_run line.kind line.image line.policy line.disk (Auto 0) count) rules file) old read (Some (RunFrom start asked save)) → AfterImage line count rules file old start asked
 unfolding boot_plan script_part
 after_image line count rules file old read start asked save follows =
-    let d = disk_gives (unless_none line.disk) (λ disk. Judge (End (boot_judged DiskKind.Block rules file disk (first_events count (Schedule.Auto rules.harts 0)) None))) old read
+    let d = disk_gives (unless_none line.disk) (λ disk. Judge (End (boot_judged line.kind rules file disk (first_events count (Schedule.Auto rules.harts 0)) None))) old read
     start asked save follows in
-    let ended = judge_gives (End (boot_judged DiskKind.Block rules file d.bytes (first_events count (Schedule.Auto rules.harts 0)) None)) d.now read (RunFrom start asked save) d.rest in
-    let is : boot_judged DiskKind.Block rules file d.bytes (first_events count (Schedule.Auto rules.harts 0)) None ≡ RunFrom start asked save = sym (same_Some _ _ ended.0) in
-    let it = booted rules file d.bytes (first_events count (Schedule.Auto rules.harts 0)) [] None None start asked save is in
+    let ended = judge_gives (End (boot_judged line.kind rules file d.bytes (first_events count (Schedule.Auto rules.harts 0)) None)) d.now read (RunFrom start asked save) d.rest in
+    let is : boot_judged line.kind rules file d.bytes (first_events count (Schedule.Auto rules.harts 0)) None ≡ RunFrom start asked save = sym (same_Some _ _ ended.0) in
+    let it = booted line.kind rules file d.bytes (first_events count (Schedule.Auto rules.harts 0)) [] None None start asked save is in
     record {
       bytes = d.bytes;
       few = d.few;
@@ -154,7 +156,7 @@ after_image line count rules file old read start asked save follows =
       held = d.held;
       asked_are = it.0;
       start_is = it.1;
-      boots = λ events other. (booted rules file d.bytes (first_events count (Schedule.Auto rules.harts 0)) events None other start asked save is).2;
+      boots = λ events other. (booted line.kind rules file d.bytes (first_events count (Schedule.Auto rules.harts 0)) events None other start asked save is).2;
     }
 
 -- after the policy: the image, and what stands after it
@@ -168,10 +170,10 @@ record AfterPolicy (line : LiveLine) (count : ℕ) (rules : Rules) (old : FilesS
   pub rest : AfterImage line count rules bytes now start asked
 
 after_policy : (line : LiveLine) (count : ℕ) (rules : Rules) (old read : FilesState) (start : State) (asked : List Event) (save : Option (List ℕ)) →
-    Follows (image_plan (block_run line.image line.policy line.disk (Auto 0) count) rules) old read (Some (RunFrom start asked save)) → AfterPolicy line count rules old start asked
+    Follows (image_plan (unsaved_run line.kind line.image line.policy line.disk (Auto 0) count) rules) old read (Some (RunFrom start asked save)) → AfterPolicy line count rules old start asked
 unfolding image_plan kernel_part
 after_policy line count rules old read start asked save follows =
-    let words : RunWords = block_run line.image line.policy line.disk (Auto 0) count in
+    let words : RunWords = unsaved_run line.kind line.image line.policy line.disk (Auto 0) count in
     let p = part_gives Part.Image line.image max_image_bytes (λ file. Judge (part_judged FileFault.Image (boot_plan words rules file) (kernel_refusal file rules.ram_pages))) old
     read start asked save follows in
     let checked = judge_gives (part_judged FileFault.Image (boot_plan words rules p.bytes) (kernel_refusal p.bytes rules.ram_pages)) p.now read (RunFrom start asked save) p.rest in
@@ -179,10 +181,10 @@ after_policy line count rules old read start asked save follows =
     record { bytes = p.bytes; few = p.few; good = g.0; held = p.held; now = p.now; keeps = p.keeps; rest = after_image line count rules p.bytes p.now read start asked save g.1 }
 
 pub run_gives : (line : LiveLine) (count : ℕ) (old read : FilesState) (start : State) (asked : List Event) (save : Option (List ℕ)) →
-    Follows (run_plan (block_run line.image line.policy line.disk (Auto 0) count)) old read (Some (RunFrom start asked save)) → RunGives line count old start asked
+    Follows (run_plan (unsaved_run line.kind line.image line.policy line.disk (Auto 0) count)) old read (Some (RunFrom start asked save)) → RunGives line count old start asked
 unfolding run_plan policy_part
 run_gives line count old read start asked save follows =
-    let words : RunWords = block_run line.image line.policy line.disk (Auto 0) count in
+    let words : RunWords = unsaved_run line.kind line.image line.policy line.disk (Auto 0) count in
     let p = part_gives Part.Policy line.policy max_policy_bytes (λ bytes. Judge (policy_judged (image_plan words) (rules_of_text bytes))) old read start asked save follows in
     let g = policy_good (image_plan words) (rules_of_text p.bytes) p.now read start asked save (judge_gives (policy_judged (image_plan words) (rules_of_text p.bytes)) p.now read
     (RunFrom start asked save) p.rest) in
@@ -199,7 +201,7 @@ run_gives line count old read start asked save follows =
         disk_few = d.few;
         disk = d.good;
         boots = d.boots;
-        harts = start_harts g.0 i.bytes d.bytes start d.start_is;
+        harts = start_harts line.kind g.0 i.bytes d.bytes start d.start_is;
       };
       found = λ tells. record {
         image = held_before old p.now line.image (Some i.bytes) p.keeps i.held tells;
@@ -209,11 +211,11 @@ run_gives line count old read start asked save follows =
       asked_are = d.asked_are;
     }
 
--- ---- what `run` is due
+-- ---- what `run`, or `vrun`, is due
 
 abbrev pub again_run : LiveLine → (script : List ℕ) → (events : ℕ) → (save : Option (List ℕ)) → RunWords
 again_run line script events save = record {
-  kind = DiskKind.Block;
+  kind = line.kind;
   image = line.image;
   policy = line.policy;
   disk = unless_none line.disk;
@@ -242,19 +244,19 @@ script_due held harts script text journal next is it =
     ∙ ap (λ (events : List Event). due_in held (next (Schedule.Listed events))) it.reads
 
 boot_due : (line : LiveLine) (rules : Rules) (parts : Parts) (start : State) (journal : List Event) (held : List ℕ → Option (List ℕ)) (script text : List ℕ) (events : ℕ) (save : Option (List ℕ)) →
-    AreGood rules parts start → HoldParts held line parts → held script ≡ Some text → IsScriptOf rules.harts journal text → length journal ≤ events →
+    AreGood line.kind rules parts start → HoldParts held line parts → held script ≡ Some text → IsScriptOf rules.harts journal text → length journal ≤ events →
     due_in held (boot_plan (again_run line script events save) rules parts.image) ≡ RunFrom start journal save
 unfolding boot_plan
 boot_due line rules parts start journal held script text events save good holds is it few =
     disk_due held (unless_none line.disk)
-    (λ disk. script_part rules.harts (Text script) (λ schedule. Judge (End (boot_judged DiskKind.Block rules parts.image disk (first_events events schedule) save))))
+    (λ disk. script_part rules.harts (Text script) (λ schedule. Judge (End (boot_judged line.kind rules parts.image disk (first_events events schedule) save))))
     parts.disk holds.disk good.disk_few good.disk
-    ∙ script_due held rules.harts script text journal (λ schedule. Judge (End (boot_judged DiskKind.Block rules parts.image parts.disk (first_events events schedule) save))) is it
+    ∙ script_due held rules.harts script text journal (λ schedule. Judge (End (boot_judged line.kind rules parts.image parts.disk (first_events events schedule) save))) is it
     ∙ good.boots (first_events events (Schedule.Listed journal)) save
     ∙ ap (λ (es : List Event). RunFrom start es save) (first_all events journal few)
 
 pub run_due : (line : LiveLine) (rules : Rules) (parts : Parts) (start : State) (journal : List Event) (held : List ℕ → Option (List ℕ)) (script text : List ℕ) (events : ℕ) (save : Option (List ℕ)) →
-    AreGood rules parts start → HoldParts held line parts → held script ≡ Some text → IsScriptOf rules.harts journal text → length journal ≤ events →
+    AreGood line.kind rules parts start → HoldParts held line parts → held script ≡ Some text → IsScriptOf rules.harts journal text → length journal ≤ events →
     due_in held (run_plan (again_run line script events save)) ≡ RunFrom start journal save
 unfolding run_plan policy_part image_plan kernel_part
 run_due line rules parts start journal held script text events save good holds is it few =
@@ -275,6 +277,19 @@ or_second : (a b : Bool) → a || b ≡ false → b ≡ false
 or_second false b is = is
 or_second true b is = absurd (cc is)
 
+-- the names of the commands
+live_named : (kind : DiskKind) → name_of (live_name kind) ≡ Some (command.Live kind)
+live_named DiskKind.Block = refl
+live_named DiskKind.Virtio = refl
+
+run_named : (kind : DiskKind) → name_of (run_name kind) ≡ Some (command.Run kind)
+run_named DiskKind.Block = refl
+run_named DiskKind.Virtio = refl
+
+run_plain : (kind : DiskKind) → has_dash (run_name kind) ≡ false
+run_plain DiskKind.Block = refl
+run_plain DiskKind.Virtio = refl
+
 -- the words of a live run that are good
 pub record LineGood (line : LiveLine) (words : LiveWords) : Type 0 where
   pub image : has_dash line.image ≡ false
@@ -282,7 +297,7 @@ pub record LineGood (line : LiveLine) (words : LiveWords) : Type 0 where
   pub disk : has_dash line.disk ≡ false
   pub count : ℕ
   pub few : count ≤ max_live_events
-  pub words_are : words ≡ record { run = block_run line.image line.policy line.disk (Auto 0) count; out = line.out }
+  pub words_are : words ≡ record { run = unsaved_run line.kind line.image line.policy line.disk (Auto 0) count; out = line.out }
 
 -- a text that is a number within its range
 record IsWithin (number high_enough : Bool) (value n : ℕ) : Type 0 where
@@ -302,9 +317,12 @@ within_high low high n text is =
     let it = within_by (is_number text) (nat_le low (decimal_value 0 text)) (nat_le (decimal_value 0 text) high) (decimal_value 0 text) n is in
     subst (λ (k : ℕ). k ≤ high) it.value_is (leb-true (decimal_value 0 text) high it.high_is)
 
+abbrev split_of : LiveLine → LiveSplit
+split_of line = record { kind = line.kind; image = line.image; policy = line.policy; disk = line.disk; events = line.events; out = line.out }
+
 named_good : (line : LiveLine) (count : Option ℕ) (words : LiveWords) → ((n : ℕ) → count ≡ Some n → n ≤ max_live_events) → has_dash line.image ≡ false → has_dash line.policy ≡
     false → has_dash line.disk ≡ false →
-    live_words line.image line.policy line.disk line.out count ≡ Ok words → LineGood line words
+    live_words (split_of line) count ≡ Ok words → LineGood line words
 unfolding live_words
 named_good line None words within image policy disk is = absurd (cc is)
 named_good line (Some count) words within image policy disk is =
@@ -314,17 +332,19 @@ line_by : (line : LiveLine) (dashed : Bool) (words : LiveWords) → list_any has
     named_judged live_after (if dashed then None else named_shape (live_line line)) ≡ Ok words → LineGood line words
 line_by line true words any is = absurd (cc is)
 line_by line false words any is =
-    let image : has_dash line.image || list_any has_dash (line.policy ∷ line.disk ∷ line.events ∷ line.out ∷ []) ≡ false = any in
+    let rest : List (List ℕ) = line.image ∷ line.policy ∷ line.disk ∷ line.events ∷ line.out ∷ [] in
+    let good = subst (λ (name : Option CommandName). named_judged live_after (named_by name rest) ≡ Ok words) (live_named line.kind) is in
+    let image : list_any has_dash rest ≡ false = or_second (has_dash (live_name line.kind)) _ any in
     let policy = or_second (has_dash line.image) _ image in
     let disk = or_second (has_dash line.policy) _ policy in
     named_good line (number_within 0 max_live_events line.events) words (λ n within. within_high 0 max_live_events n line.events within)
-    (or_first (has_dash line.image) _ image) (or_first (has_dash line.policy) _ policy) (or_first (has_dash line.disk) _ disk) is
+    (or_first (has_dash line.image) _ image) (or_first (has_dash line.policy) _ policy) (or_first (has_dash line.disk) _ disk) good
 
 pub line_good : (line : LiveLine) (words : LiveWords) → live_judged (live_line line) ≡ Ok words → LineGood line words
 unfolding live_judged named_words
 line_good line words is = line_by line (list_any has_dash (live_line line)) words refl is
 
--- ---- the words of `run`
+-- ---- the words of `run`, or of `vrun`
 
 digit_dash : (word : List ℕ) → list_all is_ascii_digit word ≡ true → has_dash word ≡ false
 digit_dash [] all = refl
@@ -345,32 +365,34 @@ number_of_run events few = number_back 0 max_events events (omega arith) (omega 
 no_dash : (line : LiveLine) (words : LiveWords) (script : List ℕ) (events : ℕ) (save : List ℕ) → LineGood line words → NamesScript script → has_dash save ≡ false → events ≤ max_events →
     list_any has_dash (run_line line script events save) ≡ false
 no_dash line words script events save good names saves few =
-    or_from (has_dash line.image) _ good.image
+    or_from (has_dash (run_name line.kind)) _ (run_plain line.kind)
+    (or_from (has_dash line.image) _ good.image
     (or_from (has_dash line.policy) _ good.policy
     (or_from (has_dash line.disk) _ good.disk
     (or_from (has_dash script) _ names.dash
     (or_from (has_dash (decimal events)) _ (number_dash 0 max_events events (decimal events) (number_of_run events few))
-    (or_from (has_dash save) false saves refl)))))
+    (or_from (has_dash save) false saves refl))))))
 
 named_as : (line : LiveLine) (script : List ℕ) (events : ℕ) (save : List ℕ) → list_any has_dash (run_line line script events save) ≡ false →
     named_words (run_line line script events save) ≡ Some (record {
-      command = command.Run DiskKind.Block;
+      command = command.Run line.kind;
       rest = line.image ∷ line.policy ∷ line.disk ∷ script ∷ decimal events ∷ save ∷ [];
     })
 unfolding named_words
 named_as line script events save none =
     ap (λ (b : Bool). if b then None else named_shape (run_line line script events save)) none
+    ∙ ap (λ (name : Option CommandName). named_by name (line.image ∷ line.policy ∷ line.disk ∷ script ∷ decimal events ∷ save ∷ [])) (run_named line.kind)
 
 pub run_judged_as : (line : LiveLine) (words : LiveWords) (script : List ℕ) (events : ℕ) (save : List ℕ) → LineGood line words → NamesScript script → has_dash save ≡ false → events ≤ max_events →
     judgement_of_words (run_line line script events save) ≡ Ok (Run (again_run line script events (unless_none save)))
 unfolding judgement_of_words run_words
 run_judged_as line words script events save good names saves few =
-    let split : RunSplit = record { kind = DiskKind.Block; image = line.image; policy = line.policy; disk = line.disk; script = script; events = decimal events; save = save } in
+    let split : RunSplit = record { kind = line.kind; image = line.image; policy = line.policy; disk = line.disk; script = script; events = decimal events; save = save } in
     ap (λ (named : Option Named). named_judged command_after named) (named_as line script events save (no_dash line words script events save good names saves few))
     ∙ ap (λ (source : Option Source). run_words split source (number_within 0 max_events (decimal events))) names.file
     ∙ ap (λ (count : Option ℕ). run_words split (Some (Text script)) count) (number_of_run events few)
 
--- what `run` is due by its words is due by its plan
+-- what is due by the words is due by its plan
 pub words_due : (line : LiveLine) (words : LiveWords) (script : List ℕ) (events : ℕ) (save : List ℕ) (held : List ℕ → Option (List ℕ)) → LineGood line words → NamesScript script →
     has_dash save ≡ false →
     events ≤ max_events → due_in held (plan_of (judgement_of_words (run_line line script events save))) ≡ due_in held (run_plan (again_run line script events (unless_none save)))

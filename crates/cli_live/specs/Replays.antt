@@ -1,4 +1,4 @@
--- That `run` replays what `live` did: what it is due, where the text that `live` saved is its script.
+-- That `run` replays what `live` did, and `vrun` what `vlive` did: what it is due, where the text that was saved is its script.
 use Rattle.std.specs.Prelude.{◌≡◌, ◌<◌, ◌≤◌, ◌⊎◌, ℕ, List, [], ◌∷◌, length, Bool, true, false, IsTrue, Option, Some, None, codes}
 use Rattle.std.specs.Fmt.{decimal}
 use Rattle.sv_types.specs.Limits.{max_events}
@@ -11,6 +11,7 @@ use Rattle.spec_reference.specs.Report.{output}
 use Rattle.spec_reference.specs.Run.{run}
 use Rattle.spec_hardware.specs.Machine.{Machine}
 use Rattle.cli_plans.specs.Commands.{has_dash}
+use Rattle.cli_plans.specs.declared.command_words.command.DiskKind.{DiskKind}
 use Rattle.host_io.specs.Outside.{after_taking}
 use Rattle.live_keys.specs.Keys.{KeysState}
 use Rattle.cli_plans.specs.CommandLine.{Text, judgement_of_words, source_of, unless_none}
@@ -20,21 +21,32 @@ use Rattle.cli_live.specs.LiveAnswers.{LiveOutside}
 
 -- ---- the words
 
--- live IMAGE POLICY DISK EVENTS OUT
+-- live IMAGE POLICY DISK EVENTS OUT, or vlive with the same words
 pub record LiveLine : Type 0 where
+  -- which block device the machine has
+  pub kind : DiskKind
   pub image : List ℕ
   pub policy : List ℕ
   pub disk : List ℕ
   pub events : List ℕ
   pub out : List ℕ
 
-abbrev pub live_line : LiveLine → List (List ℕ)
-live_line line = codes "live" ∷ line.image ∷ line.policy ∷ line.disk ∷ line.events ∷ line.out ∷ []
+abbrev pub live_name : DiskKind → List ℕ
+live_name DiskKind.Block = codes "live"
+live_name DiskKind.Virtio = codes "vlive"
 
--- run IMAGE POLICY DISK SCRIPT EVENTS SAVE, where the first three words are those of `live`
+-- the command that replays it
+abbrev pub run_name : DiskKind → List ℕ
+run_name DiskKind.Block = codes "run"
+run_name DiskKind.Virtio = codes "vrun"
+
+abbrev pub live_line : LiveLine → List (List ℕ)
+live_line line = live_name line.kind ∷ line.image ∷ line.policy ∷ line.disk ∷ line.events ∷ line.out ∷ []
+
+-- run IMAGE POLICY DISK SCRIPT EVENTS SAVE, or vrun, over the same device, where the first three words are those of the live run
 abbrev pub run_line : LiveLine → (script : List ℕ) → (events : ℕ) → (save : List ℕ) → List (List ℕ)
 run_line line script events save =
-    codes "run" ∷ line.image ∷ line.policy ∷ line.disk ∷ script ∷ decimal events ∷ save ∷ []
+    run_name line.kind ∷ line.image ∷ line.policy ∷ line.disk ∷ script ∷ decimal events ∷ save ∷ []
 
 -- a word that `run` takes for the name of its script's file
 pub record NamesScript (word : List ℕ) : Type 0 where
@@ -77,8 +89,8 @@ is_of_run Status.Memory = false
 abbrev pub HasEnded : (answer : Status) → (old new : KeysState) → Type 0
 HasEnded answer old new = IsTrue (is_of_run answer) ⊎ ((answer ≡ Status.ReadFault) × (old.faults < new.faults))
 
--- There is one run, from a start over a journal. `live` wrote its output, answered its status, left its disk in the machine and
--- saved a text; and `run` over that text is due this very run.
+-- There is one run, from a start over a journal. The live run wrote its output, answered its status, left its disk in the machine and
+-- saved a text; and `run`, or `vrun` after `vlive`, over that text is due this very run.
 pub record Replays (line : LiveLine) (old new : LiveOutside) (answer : Status) : Type 0 where
   pub start : State
   pub journal : List Event

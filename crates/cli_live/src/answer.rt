@@ -1,4 +1,4 @@
-// The answer to the words of `live`.
+// The answer to the words of `live` and `vlive`.
 ghost use Rattle.std.specs.Prelude.{◌≡◌, ◌≢◌, ◌<◌, ◌≤◌, ◌-◌, ◌⊎◌, ◌∷◌, ℕ, [], true, false, List, map, string_bytes, Result, Some, None, IsTrue};
 ghost use Rattle.std.specs.Result.{is_ok};
 ghost use Rattle.sv_types.specs.Limits.{max_events};
@@ -154,7 +154,7 @@ fn answer<R: Threads + Wait + Sync, F: Files, K: Keys + Send, O: Sink, P: Pace +
     }
 }
 
-/// Does all that `live` does: judges the words, reads the files that they name, runs the machine while a second thread reads the
+/// Does all that `live` or `vlive` does: judges the words, reads the files that they name, runs the machine while a second thread reads the
 /// keys, writes the report, and saves the events as a script. It returns when the keys have ended, too. Each parameter is a
 /// thing of its own outside of the program.
 pub fn secvisor_live<R: Threads + Wait + Sync, F: Files, K: Keys + Send, O: Sink, P: Pace + Sync>(
@@ -181,7 +181,7 @@ pub fn secvisor_live<R: Threads + Wait + Sync, F: Files, K: Keys + Send, O: Sink
         (live_outside (F.state files.old) (O.state out.old) (K.state keys.old) bench.old.machine)
         (live_outside (F.state files.new) (O.state out.new) (K.state keys.new) bench.new.machine) result }
 
-    // Where a run came to its end, `run` over what was saved is due the same bytes, status and disk.
+    // Where a run came to its end, `run`, or `vrun` after `vlive`, over what was saved is due the same bytes, status and disk.
     ensures replay { (line : LiveLine) → map string_bytes words.now ≡ live_line line → HasEnded result (K.state keys.old) (K.state keys.new) →
         Replays line
         (live_outside (F.state files.old) (O.state out.old) (K.state keys.old) bench.old.machine)

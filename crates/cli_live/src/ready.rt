@@ -1,4 +1,4 @@
-// What is ready of `live`.
+// What is ready of `live` or `vlive`.
 ghost use Rattle.std.specs.Prelude.{◌≡◌, ◌<◌, ◌-◌, map, string_bytes, IfOk};
 ghost use Rattle.cli_plans.specs.Reading.{MayFollow};
 ghost use Rattle.cli_plans.specs.CommandLine.{live_judged};
@@ -15,7 +15,7 @@ use secvisor_cli::{PreparedRun, Stop, prepare_run};
 use std::alloc::Global;
 use std::thread::Threads;
 
-/// What is ready of `live`: a run that has made no event, where its keys come from, and the name of its script.
+/// What is ready of `live` or `vlive`: a run that has made no event, where its keys come from, and the name of its script.
 #[derive(Drop)]
 pub struct LiveReady<'a> {
     pub live: LiveRun,
@@ -23,7 +23,7 @@ pub struct LiveReady<'a> {
     pub out: &'a str,
 }
 
-/// Reads and judges what `run` does for the same words, and boots a machine. The room for keys is taken before any file is
+/// Reads and judges what `run` or `vrun` does for the same words, and boots a machine. The room for keys is taken before any file is
 /// read.
 pub fn prepare_live<'a, R: Threads + Sync, F: Files>(
     rt: &R,

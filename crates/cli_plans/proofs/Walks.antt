@@ -158,10 +158,10 @@ survey_read : (words : List Text) → is_some (survey_split words) ≡ true → 
 survey_read (a ∷ b ∷ c ∷ d ∷ e ∷ []) known plain = read_by _ _ survey_is _ _ _ plain refl (refl, (refl, (refl, (refl, (refl, tt))))) refl
 survey_read _ known plain = absurd (true≢false (sym known))
 
-live_read : (words : List Text) → is_some (live_split words) ≡ true → list_any has_dash words ≡ false
-    → IsRead live_wants live_found words (live_split words)
-live_read (a ∷ b ∷ c ∷ d ∷ e ∷ []) known plain = read_by _ _ live_is _ _ _ plain refl (refl, (refl, (refl, (refl, (refl, tt))))) refl
-live_read _ known plain = absurd (true≢false (sym known))
+live_read : (kind : DiskKind) (words : List Text) → is_some (live_split kind words) ≡ true → list_any has_dash words ≡ false
+    → IsRead live_wants (live_found kind) words (live_split kind words)
+live_read kind (a ∷ b ∷ c ∷ d ∷ e ∷ []) known plain = read_by _ _ live_is _ _ _ plain refl (refl, (refl, (refl, (refl, (refl, tt))))) refl
+live_read kind _ known plain = absurd (true≢false (sym known))
 
 snap_read : (words : List Text) → is_some (snap_split words) ≡ true → list_any has_dash words ≡ false
     → IsRead snap_wants snap_found words (snap_split words)
@@ -262,8 +262,8 @@ words_read (command.Run kind) words known plain =
     let it = run_read kind words known plain in record { taken = it.taken; has = it.has; finds = λ rows e. it.is rows _ e refl }
 words_read command.Survey words known plain =
     let it = survey_read words known plain in record { taken = it.taken; has = it.has; finds = λ rows e. it.is rows _ e refl }
-words_read command.Live words known plain =
-    let it = live_read words known plain in record { taken = it.taken; has = it.has; finds = λ rows e. it.is rows _ e refl }
+words_read (command.Live kind) words known plain =
+    let it = live_read kind words known plain in record { taken = it.taken; has = it.has; finds = λ rows e. it.is rows _ e refl }
 words_read command.Snap words known plain =
     let it = snap_read words known plain in record { taken = it.taken; has = it.has; finds = λ rows e. it.is rows _ e refl }
 words_read command.Sweep words known plain =

@@ -84,14 +84,14 @@ not_survey (a ∷ b ∷ c ∷ d ∷ []) other = refl
 not_survey (a ∷ b ∷ c ∷ d ∷ e ∷ []) other = absurd (other refl)
 not_survey (a ∷ b ∷ c ∷ d ∷ e ∷ f ∷ rest) other = refl
 
-pub not_live : (words : List (List ℕ)) → length words ≢ 5 → live_split words ≡ None
-not_live [] other = refl
-not_live (a ∷ []) other = refl
-not_live (a ∷ b ∷ []) other = refl
-not_live (a ∷ b ∷ c ∷ []) other = refl
-not_live (a ∷ b ∷ c ∷ d ∷ []) other = refl
-not_live (a ∷ b ∷ c ∷ d ∷ e ∷ []) other = absurd (other refl)
-not_live (a ∷ b ∷ c ∷ d ∷ e ∷ f ∷ rest) other = refl
+pub not_live : (kind : DiskKind) (words : List (List ℕ)) → length words ≢ 5 → live_split kind words ≡ None
+not_live kind [] other = refl
+not_live kind (a ∷ []) other = refl
+not_live kind (a ∷ b ∷ []) other = refl
+not_live kind (a ∷ b ∷ c ∷ []) other = refl
+not_live kind (a ∷ b ∷ c ∷ d ∷ []) other = refl
+not_live kind (a ∷ b ∷ c ∷ d ∷ e ∷ []) other = absurd (other refl)
+not_live kind (a ∷ b ∷ c ∷ d ∷ e ∷ f ∷ rest) other = refl
 
 pub not_snap : (words : List (List ℕ)) → length words ≢ 6 → snap_split words ≡ None
 not_snap [] other = refl
@@ -259,10 +259,10 @@ making_no_read_fault words (Ok terms) is = go (are_module_names words.modules) _
     go true command = tt
     go false command = λ e. cc e
 
-live_no_fault : (image policy disk out : List ℕ) (events : Option ℕ) → NoReadFault (live_words image policy disk out events)
+live_no_fault : (w : LiveSplit) (events : Option ℕ) → NoReadFault (live_words w events)
 unfolding live_words
-live_no_fault image policy disk out None = λ e. cc e
-live_no_fault image policy disk out (Some events) = tt
+live_no_fault w None = λ e. cc e
+live_no_fault w (Some events) = tt
 
 snap_no_fault : (image policy disk out : List ℕ) (script : Option Source) (events : Option ℕ) → NoReadFault (snap_words image policy disk out script events)
 unfolding snap_words
@@ -306,7 +306,7 @@ command_no_fault command.Measure rest = split_no_fault making_judged (measure_sp
     making_no_read_fault w (terms_judged w.ram w.harts w.entries w.init)
     (terms_no_read_fault w.init (number_within 16 max_ram_pages w.ram) (number_within 1 4 w.harts) (entries_judged w.entries)))
 command_no_fault command.Convert rest = split_no_fault (λ w. Ok (Convert w)) (convert_split rest) (λ w. tt)
-command_no_fault command.Live rest = λ e. cc e
+command_no_fault (command.Live kind) rest = λ e. cc e
 command_no_fault command.Sweep rest = λ e. cc e
 command_no_fault command.Shrink rest = λ e. cc e
 command_no_fault command.Snap rest = λ e. cc e
@@ -319,7 +319,7 @@ unfolding judgement_of_words
 words_no_read_fault words = named_no_fault command_after (named_words words) command_no_fault
 
 live_after_no_fault : (name : CommandName) (rest : List (List ℕ)) → NoReadFault (live_after name rest)
-live_after_no_fault command.Live rest = split_no_fault live_of (live_split rest) (λ w. live_no_fault w.image w.policy w.disk w.out (number_within 0 max_live_events w.events))
+live_after_no_fault (command.Live kind) rest = split_no_fault live_of (live_split kind rest) (λ w. live_no_fault w (number_within 0 max_live_events w.events))
 live_after_no_fault command.Flat rest = λ e. cc e
 live_after_no_fault command.Generated rest = λ e. cc e
 live_after_no_fault (command.Run kind) rest = λ e. cc e
@@ -341,7 +341,7 @@ snap_after_no_fault command.Snap rest = split_no_fault snap_of (snap_split rest)
 snap_after_no_fault command.Flat rest = λ e. cc e
 snap_after_no_fault command.Generated rest = λ e. cc e
 snap_after_no_fault (command.Run kind) rest = λ e. cc e
-snap_after_no_fault command.Live rest = λ e. cc e
+snap_after_no_fault (command.Live kind) rest = λ e. cc e
 snap_after_no_fault command.Sweep rest = λ e. cc e
 snap_after_no_fault command.Shrink rest = λ e. cc e
 snap_after_no_fault command.Resume rest = λ e. cc e
@@ -359,7 +359,7 @@ sweep_after_no_fault command.Sweep rest = split_no_fault sweep_of (sweep_split r
 sweep_after_no_fault command.Flat rest = λ e. cc e
 sweep_after_no_fault command.Generated rest = λ e. cc e
 sweep_after_no_fault (command.Run kind) rest = λ e. cc e
-sweep_after_no_fault command.Live rest = λ e. cc e
+sweep_after_no_fault (command.Live kind) rest = λ e. cc e
 sweep_after_no_fault command.Snap rest = λ e. cc e
 sweep_after_no_fault command.Shrink rest = λ e. cc e
 sweep_after_no_fault command.Resume rest = λ e. cc e
@@ -377,7 +377,7 @@ shrink_after_no_fault command.Shrink rest = split_no_fault snap_of (snap_split r
 shrink_after_no_fault command.Flat rest = λ e. cc e
 shrink_after_no_fault command.Generated rest = λ e. cc e
 shrink_after_no_fault (command.Run kind) rest = λ e. cc e
-shrink_after_no_fault command.Live rest = λ e. cc e
+shrink_after_no_fault (command.Live kind) rest = λ e. cc e
 shrink_after_no_fault command.Snap rest = λ e. cc e
 shrink_after_no_fault command.Sweep rest = λ e. cc e
 shrink_after_no_fault command.Survey rest = λ e. cc e
@@ -395,7 +395,7 @@ resume_after_no_fault command.Resume rest = split_no_fault resume_of (resume_spl
 resume_after_no_fault command.Flat rest = λ e. cc e
 resume_after_no_fault command.Generated rest = λ e. cc e
 resume_after_no_fault (command.Run kind) rest = λ e. cc e
-resume_after_no_fault command.Live rest = λ e. cc e
+resume_after_no_fault (command.Live kind) rest = λ e. cc e
 resume_after_no_fault command.Sweep rest = λ e. cc e
 resume_after_no_fault command.Shrink rest = λ e. cc e
 resume_after_no_fault command.Snap rest = λ e. cc e

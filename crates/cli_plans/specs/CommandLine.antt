@@ -158,16 +158,16 @@ run_words w (Some script) (Some events) = Ok (Run (run_of w script events))
 abbrev pub run_judged : RunSplit → Result Command Refusal
 run_judged w = run_words w (source_of w.script) (number_within 0 max_events w.events)
 
--- ---- live IMAGE POLICY DISK EVENTS OUT
+-- ---- live IMAGE POLICY DISK EVENTS OUT, and vlive with the same words
 
 -- with every key these are at most 2^32 events
 abbrev pub max_live_events : ℕ
 max_live_events = max_events - max_keys
 
 -- the disk isn't saved alongside the script or the snapshot
-abbrev pub block_run : (image policy disk : List ℕ) → Source → (events : ℕ) → RunWords
-block_run image policy disk script events = record {
-  kind = DiskKind.Block;
+abbrev pub unsaved_run : DiskKind → (image policy disk : List ℕ) → Source → (events : ℕ) → RunWords
+unsaved_run kind image policy disk script events = record {
+  kind = kind;
   image = image;
   policy = policy;
   disk = unless_none disk;
@@ -176,19 +176,22 @@ block_run image policy disk script events = record {
   save = None;
 }
 
-unfoldable pub live_words : (image policy disk out : List ℕ) → Option ℕ → Result LiveWords Refusal
-live_words image policy disk out None = Err (OutOfRange Word.Events)
-live_words image policy disk out (Some events) = Ok (record { run = block_run image policy disk (Auto 0) events; out = out })
+abbrev pub drawn_run : LiveSplit → (events : ℕ) → RunWords
+drawn_run w events = unsaved_run w.kind w.image w.policy w.disk (Auto 0) events
+
+unfoldable pub live_words : LiveSplit → Option ℕ → Result LiveWords Refusal
+live_words w None = Err (OutOfRange Word.Events)
+live_words w (Some events) = Ok (record { run = drawn_run w events; out = w.out })
 
 abbrev pub live_of : LiveSplit → Result LiveWords Refusal
-live_of w = live_words w.image w.policy w.disk w.out (number_within 0 max_live_events w.events)
+live_of w = live_words w (number_within 0 max_live_events w.events)
 
 -- ---- survey IMAGE POLICY DISK SCRIPT EVENTS
 
 unfoldable pub survey_words : (image policy disk : List ℕ) → Option Source → Option ℕ → Result RunWords Refusal
 survey_words image policy disk None events = Err (OutOfRange Word.Script)
 survey_words image policy disk (Some script) None = Err (OutOfRange Word.Events)
-survey_words image policy disk (Some script) (Some events) = Ok (block_run image policy disk script events)
+survey_words image policy disk (Some script) (Some events) = Ok (unsaved_run DiskKind.Block image policy disk script events)
 
 abbrev pub survey_of : SurveySplit → Result RunWords Refusal
 survey_of w = survey_words w.image w.policy w.disk (source_of w.script) (number_within 0 max_events w.events)
@@ -198,7 +201,7 @@ survey_of w = survey_words w.image w.policy w.disk (source_of w.script) (number_
 unfoldable pub snap_words : (image policy disk out : List ℕ) → Option Source → Option ℕ → Result SnapWords Refusal
 snap_words image policy disk out None events = Err (OutOfRange Word.Script)
 snap_words image policy disk out (Some script) None = Err (OutOfRange Word.Events)
-snap_words image policy disk out (Some script) (Some events) = Ok (record { run = block_run image policy disk script events; out = out })
+snap_words image policy disk out (Some script) (Some events) = Ok (record { run = unsaved_run DiskKind.Block image policy disk script events; out = out })
 
 abbrev pub snap_of : SnapSplit → Result SnapWords Refusal
 snap_of w = snap_words w.image w.policy w.disk w.out (source_of w.script) (number_within 0 max_events w.events)
@@ -319,7 +322,7 @@ survey_after command.Survey rest = split_judged survey_of (survey_split rest)
 survey_after _ rest = Err NoCommand
 
 abbrev pub live_after : CommandName → List (List ℕ) → Result LiveWords Refusal
-live_after command.Live rest = split_judged live_of (live_split rest)
+live_after (command.Live kind) rest = split_judged live_of (live_split kind rest)
 live_after _ rest = Err NoCommand
 
 abbrev pub snap_after : CommandName → List (List ℕ) → Result SnapWords Refusal

@@ -31,8 +31,10 @@ pub record SurveySplit : Type 0 where
   pub script : List ℕ
   pub events : List ℕ
 
--- live IMAGE POLICY DISK EVENTS OUT
+-- live IMAGE POLICY DISK EVENTS OUT, or vlive with the same words
 pub record LiveSplit : Type 0 where
+  -- which block device the machine has
+  pub kind : DiskKind
   pub image : List ℕ
   pub policy : List ℕ
   pub disk : List ℕ
@@ -92,7 +94,8 @@ name_of name =
     else if bytes_eq name (codes "run") then Some (command.Run DiskKind.Block)
     else if bytes_eq name (codes "vrun") then Some (command.Run DiskKind.Virtio)
     else if bytes_eq name (codes "survey") then Some command.Survey
-    else if bytes_eq name (codes "live") then Some command.Live
+    else if bytes_eq name (codes "live") then Some (command.Live DiskKind.Block)
+    else if bytes_eq name (codes "vlive") then Some (command.Live DiskKind.Virtio)
     else if bytes_eq name (codes "snap") then Some command.Snap
     else if bytes_eq name (codes "resume") then Some command.Resume
     else if bytes_eq name (codes "sweep") then Some command.Sweep
@@ -129,10 +132,10 @@ survey_split (image ∷ policy ∷ disk ∷ script ∷ events ∷ []) =
     Some (record { image = image; policy = policy; disk = disk; script = script; events = events })
 survey_split _ = None
 
-abbrev pub live_split : List (List ℕ) → Option LiveSplit
-live_split (image ∷ policy ∷ disk ∷ events ∷ out ∷ []) =
-    Some (record { image = image; policy = policy; disk = disk; events = events; out = out })
-live_split _ = None
+abbrev pub live_split : DiskKind → List (List ℕ) → Option LiveSplit
+live_split kind (image ∷ policy ∷ disk ∷ events ∷ out ∷ []) =
+    Some (record { kind = kind; image = image; policy = policy; disk = disk; events = events; out = out })
+live_split kind _ = None
 
 abbrev pub snap_split : List (List ℕ) → Option SnapSplit
 snap_split (image ∷ policy ∷ disk ∷ script ∷ events ∷ out ∷ []) =

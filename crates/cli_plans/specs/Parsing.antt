@@ -64,7 +64,7 @@ wants_of command.Flat = flat_wants
 wants_of command.Generated = gen_wants
 wants_of (command.Run kind) = run_wants
 wants_of command.Survey = survey_wants
-wants_of command.Live = live_wants
+wants_of (command.Live kind) = live_wants
 wants_of command.Snap = snap_wants
 wants_of command.Sweep = sweep_wants
 wants_of command.Shrink = snap_wants
@@ -130,8 +130,9 @@ survey_found rows = record {
   events = word_of (codes "EVENTS") rows;
 }
 
-abbrev pub live_found : List Row → LiveSplit
-live_found rows = record {
+abbrev pub live_found : DiskKind → List Row → LiveSplit
+live_found kind rows = record {
+  kind = kind;
   image = word_of (codes "IMAGE") rows;
   policy = word_of (codes "POLICY") rows;
   disk = word_of (codes "DISK") rows;
@@ -199,7 +200,7 @@ IsKnown command.Flat words = IsTrue (is_some (flat_split words))
 IsKnown command.Generated words = IsTrue (is_some (gen_split words))
 IsKnown (command.Run kind) words = IsTrue (is_some (run_split kind words))
 IsKnown command.Survey words = IsTrue (is_some (survey_split words))
-IsKnown command.Live words = IsTrue (is_some (live_split words))
+IsKnown (command.Live kind) words = IsTrue (is_some (live_split kind words))
 IsKnown command.Snap words = IsTrue (is_some (snap_split words))
 IsKnown command.Sweep words = IsTrue (is_some (sweep_split words))
 IsKnown command.Shrink words = IsTrue (is_some (snap_split words))
@@ -214,7 +215,7 @@ Finds command.Flat words rows = flat_split words ≡ Some (flat_found rows)
 Finds command.Generated words rows = gen_split words ≡ Some (gen_found rows)
 Finds (command.Run kind) words rows = run_split kind words ≡ Some (run_found kind rows)
 Finds command.Survey words rows = survey_split words ≡ Some (survey_found rows)
-Finds command.Live words rows = live_split words ≡ Some (live_found rows)
+Finds (command.Live kind) words rows = live_split kind words ≡ Some (live_found kind rows)
 Finds command.Snap words rows = snap_split words ≡ Some (snap_found rows)
 Finds command.Sweep words rows = sweep_split words ≡ Some (sweep_found rows)
 Finds command.Shrink words rows = snap_split words ≡ Some (snap_found rows)

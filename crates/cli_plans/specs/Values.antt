@@ -37,6 +37,7 @@ survey_split_of w = record {
 
 abbrev pub live_split_of : LiveWords → LiveSplit
 live_split_of w = record {
+  kind = w.kind;
   image = w.image.now;
   policy = w.policy.now;
   disk = w.disk.now;

@@ -79,7 +79,7 @@ fn ask_after<'a>(
         CommandName::Measure => ask_measure(alloc, rest),
         CommandName::Convert => ask_convert(alloc, rest),
         CommandName::Survey
-        | CommandName::Live
+        | CommandName::Live(_)
         | CommandName::Snap
         | CommandName::Sweep
         | CommandName::Shrink
@@ -173,7 +173,7 @@ fn survey_after<'a>(
     Ok(read_survey(&words)?)
 }
 
-/// What words ask `live` for.
+/// What words ask `live` or `vlive` for.
 #[tactic(auto, unfolding(crate::specs::CommandLine::live_judged))]
 pub fn ask_live<'a>(alloc: Global, words: &'a [String]) -> Result<Live<'a>, Unread>
     ensures asked { IsAsked live_value (live_judged (map string_bytes words.now)) result }
@@ -195,11 +195,11 @@ fn live_after<'a>(
     ensures asked { IsAsked live_value (live_after command (map string_bytes rest.now)) result }
     ensures drawn { IfOk result IsDrawnRun }
 {
-    let CommandName::Live = command else {
+    let CommandName::Live(kind) = command else {
         return Err(Unread::Refused(Refusal::NoCommand));
     };
-    judge_live(rest)?;
-    let words = split_live(alloc, rest)?;
+    judge_live(kind, rest)?;
+    let words = split_live(alloc, kind, rest)?;
     Ok(read_live(&words)?)
 }
 

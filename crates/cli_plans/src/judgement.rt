@@ -27,7 +27,7 @@ pub fn judge(words: &[String]) -> Result<(), Refusal> {
         CommandName::Generated => judge_generated(naming.rest),
         CommandName::Run(kind) => judge_run(kind, naming.rest),
         CommandName::Survey => judge_survey(naming.rest),
-        CommandName::Live => judge_live(naming.rest),
+        CommandName::Live(kind) => judge_live(kind, naming.rest),
         CommandName::Snap | CommandName::Shrink => judge_snap(naming.rest),
         CommandName::Sweep => judge_sweep(naming.rest),
         CommandName::Resume => judge_resume(naming.rest),
@@ -142,12 +142,13 @@ pub fn judge_survey(rest: &[String]) -> Result<(), Refusal>
 }
 
 #[tactic(auto, using(crate::proofs::WordLemmas::not_live))]
-pub fn judge_live(rest: &[String]) -> Result<(), Refusal>
-    ensures { IsJudged (split_judged live_of (live_split (map string_bytes rest.now))) result }
+pub fn judge_live(kind: DiskKind, rest: &[String]) -> Result<(), Refusal>
+    ensures { IsJudged (split_judged live_of (live_split kind (map string_bytes rest.now))) result }
 {
     match rest {
         [image, policy, disk, events, out] => {
             read_live(&LiveWords {
+                kind,
                 image: image.as_str(),
                 policy: policy.as_str(),
                 disk: disk.as_str(),

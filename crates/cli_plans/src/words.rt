@@ -8,7 +8,7 @@ ghost use Rattle.policy_making.specs.WordRanges.{entries_of, are_module_names};
 ghost use Rattle.cli_plans.specs.declared.command_words.command.DiskKind.{DiskKind};
 ghost use Rattle.cli_plans.specs.Values.{flat_split_of, run_split_of, survey_split_of, live_split_of, snap_split_of, sweep_split_of};
 ghost use Rattle.cli_plans.specs.Values.{resume_split_of, measure_split_of};
-ghost use Rattle.cli_plans.specs.CommandLine.{flat_judged, gen_judged, run_judged, run_of, block_run, survey_of, live_of, snap_of};
+ghost use Rattle.cli_plans.specs.CommandLine.{flat_judged, gen_judged, run_judged, run_of, unsaved_run, survey_of, live_of, snap_of};
 ghost use Rattle.cli_plans.specs.CommandLine.{sweep_of, sweep_with, drawn_order_of, most_runs, resume_of, unless_none, source_of, auto_of};
 ghost use Rattle.cli_plans.specs.CommandLine.{bursts_of, making_judged, terms_judged, terms_with, init_of};
 ghost use Rattle.cli_plans.specs.Words.{IsRead, IsInRange, IsDrawnRun, IsSurveyRun, IsBlockRun, AreNumbers, command_of, source_value};
@@ -67,7 +67,7 @@ pub struct Run<'a> {
     pub save: Option<&'a str>,
 }
 
-/// `live IMAGE POLICY DISK EVENTS OUT`: a run whose events are drawn, and the name that its script is saved under.
+/// `live IMAGE POLICY DISK EVENTS OUT`, or `vlive` with the same words: a run whose events are drawn, and the name that its script is saved under.
 #[derive(Drop)]
 pub struct Live<'a> {
     pub run: Run<'a>,
@@ -214,7 +214,7 @@ fn run_of<'a>(words: &RunWords<'a>, script: Source<'a>, events: u64) -> Run<'a>
     }
 }
 
-/// The words of `live`.
+/// The words of `live`, or of `vlive`.
 #[tactic(auto, unfolding(crate::specs::CommandLine::live_words))]
 pub fn read_live<'a>(words: &LiveWords<'a>) -> Result<Live<'a>, Refusal>
     ensures read { IsRead live_value (live_of (live_split_of words.now)) result }
@@ -223,7 +223,8 @@ pub fn read_live<'a>(words: &LiveWords<'a>) -> Result<Live<'a>, Refusal>
     let Some(events) = number_within(words.events.as_bytes(), 0, MAX_LIVE_EVENTS) else {
         return Err(Refusal::OutOfRange { word: Word::Events });
     };
-    let run = block_run(
+    let run = unsaved_run(
+        words.kind,
         words.image,
         words.policy,
         words.disk,
@@ -248,7 +249,14 @@ pub fn read_snap<'a>(words: &SnapWords<'a>) -> Result<Snap<'a>, Refusal>
     let Some(events) = number_within(words.events.as_bytes(), 0, MAX_EVENTS) else {
         return Err(Refusal::OutOfRange { word: Word::Events });
     };
-    let run = block_run(words.image, words.policy, words.disk, script, events);
+    let run = unsaved_run(
+        DiskKind::Block,
+        words.image,
+        words.policy,
+        words.disk,
+        script,
+        events,
+    );
     Ok(Snap {
         run,
         out: words.out,
@@ -267,25 +275,33 @@ pub fn read_survey<'a>(words: &SurveyWords<'a>) -> Result<Run<'a>, Refusal>
     let Some(events) = number_within(words.events.as_bytes(), 0, MAX_EVENTS) else {
         return Err(Refusal::OutOfRange { word: Word::Events });
     };
-    let run = block_run(words.image, words.policy, words.disk, script, events);
+    let run = unsaved_run(
+        DiskKind::Block,
+        words.image,
+        words.policy,
+        words.disk,
+        script,
+        events,
+    );
     Ok(run)
 }
 
-// A run over the project's block device, whose disk isn't saved.
-fn block_run<'a>(
+// A run whose disk isn't saved.
+fn unsaved_run<'a>(
+    kind: DiskKind,
     image: &'a str,
     policy: &'a str,
     disk: &'a str,
     script: Source<'a>,
     events: u64,
 ) -> Run<'a>
-    ensures value { run_value result ≡ block_run image.now policy.now disk.now (source_value script.entry) events }
-    ensures kind { result.kind ≡ DiskKind.Block }
+    ensures value { run_value result ≡ unsaved_run kind image.now policy.now disk.now (source_value script.entry) events }
+    ensures kind { result.kind ≡ kind }
     ensures script { result.script ≡ script.entry }
     ensures events { result.events ≡ events }
 {
     Run {
-        kind: DiskKind::Block,
+        kind,
         image,
         policy,
         disk: unless_none(disk),

@@ -16,7 +16,7 @@ use Rattle.script.specs.AutoScripts.{events_of_text, first_refused}
 use Rattle.cli_plans.specs.Commands.{RunSplit, has_dash, named_shape, named_words}
 use Rattle.cli_plans.specs.declared.command_words.command.DiskKind.{DiskKind}
 use Rattle.cli_plans.specs.CommandLine.{RunWords, Source, Rounds, Auto, Bursts, Text, judgement_of_words, run_words, source_of}
-use Rattle.cli_plans.specs.CommandLine.{command_after, named_judged, snap_after, unless_none, SnapWords, block_run, snap_judged, snap_words}
+use Rattle.cli_plans.specs.CommandLine.{command_after, named_judged, snap_after, unless_none, SnapWords, unsaved_run, snap_judged, snap_words}
 use Rattle.secvisor_cli.specs.DueIn.{due_in}
 use Rattle.cli_plans.specs.Plans.{Due, Refuse, RunFrom, Make, Plan, Found, Faulty, Missing, Longer, Held, boot_judged, boot_plan}
 use Rattle.cli_plans.specs.Plans.{command_plan, disk_part, disk_refusal, found_plan, image_measure, image_plan, kernel_part, part_judged}
@@ -138,7 +138,7 @@ unfolding plan_of command_plan run_words snap_words snap_plan
 words_by held line save None count start events kept words due = absurd (cc due)
 words_by held line save (Some source) None start events kept words due = absurd (cc due)
 words_by held line save (Some source) (Some count) start events kept words due =
-    let asked : RunWords = block_run line.image line.policy line.disk source count in
+    let asked : RunWords = unsaved_run DiskKind.Block line.image line.policy line.disk source count in
     record {
       words = record { run = asked; out = line.out };
       judged_as = words;

@@ -196,7 +196,7 @@ pub fn print_held<R: Threads + Wait + Sync + AllocGlobal + Print>(
     keep_script(rt.alloc(), case, &left)?;
     let is_early = events_before_a_key(&case.handed.script) <= HELD_EVENT;
     println!(rt; "the first key is among the events so far: {is_early}")?;
-    print_again(rt, case, &left)
+    print_again(rt, case, words, &left)
 }
 
 // The call behind its gate, whose waits are printed.
@@ -224,13 +224,25 @@ fn keep_script(alloc: Global, case: &mut Case, left: &Left) -> Result<(), AllocE
     Ok(())
 }
 
+// The words of the run that replays a live run: over the same image, policy and disk, with two keys more.
+fn replaying(alloc: Global, words: &str) -> Result<String, AllocError> {
+    let (live, words) = first_word(words);
+    let (image, words) = first_word(words);
+    let (policy, words) = first_word(words);
+    let (disk, _) = first_word(words);
+    let run = if live == "vlive" { "vrun" } else { "run" };
+    format!(in alloc; "{run} {image} {policy} {disk} script 5002 none")
+}
+
 // Prints whether the run over what was saved prints the same.
 fn print_again<R: Threads + Wait + Sync + AllocGlobal + Print>(
     rt: &R,
     case: &Case,
+    words: &str,
     left: &Left,
 ) -> io::Result<()> {
-    let line = line(rt.alloc(), case, "run image policy none script 5002 none")?;
+    let words = replaying(rt.alloc(), words)?;
+    let line = line(rt.alloc(), case, words.as_str())?;
     let again = make_call(rt, rt.alloc(), case, &line, GOOD)?;
     let is_same = is_same(&again, left);
     println!(rt; "its script is run with the same report: {is_same}")

@@ -39,9 +39,10 @@ pub struct SurveyWords<'a> {
     pub events: &'a str,
 }
 
-/// `live IMAGE POLICY DISK EVENTS OUT`
+/// `live IMAGE POLICY DISK EVENTS OUT`, or `vlive` with the same words, whose disk is a virtio block device.
 #[derive(Drop)]
 pub struct LiveWords<'a> {
+    pub kind: DiskKind,
     pub image: &'a str,
     pub policy: &'a str,
     pub disk: &'a str,

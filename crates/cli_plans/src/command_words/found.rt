@@ -61,11 +61,12 @@ pub fn survey<'a>(matches: &ArgMatches<'a>) -> SurveyWords<'a>
     }
 }
 
-pub fn live<'a>(matches: &ArgMatches<'a>) -> LiveWords<'a>
+pub fn live<'a>(kind: DiskKind, matches: &ArgMatches<'a>) -> LiveWords<'a>
     requires { HasWords live_wants (rows_of (found_of matches.now)) }
-    ensures { live_split_of result ≡ live_found (rows_of (found_of matches.now)) }
+    ensures { live_split_of result ≡ live_found kind (rows_of (found_of matches.now)) }
 {
     LiveWords {
+        kind,
         image: word(matches, "IMAGE"),
         policy: word(matches, "POLICY"),
         disk: word(matches, "DISK"),

@@ -78,14 +78,18 @@ pub fn split_survey<'a>(alloc: Global, words: &'a [String]) -> Result<SurveyWord
     Ok(found::survey(&matches))
 }
 
-/// `live IMAGE POLICY DISK EVENTS OUT`
-pub fn split_live<'a>(alloc: Global, words: &'a [String]) -> Result<LiveWords<'a>, AllocError>
-    requires known { IsTrue (is_some (live_split (map string_bytes words.now))) }
+/// `live IMAGE POLICY DISK EVENTS OUT`, or `vlive` with the same words.
+pub fn split_live<'a>(
+    alloc: Global,
+    kind: DiskKind,
+    words: &'a [String],
+) -> Result<LiveWords<'a>, AllocError>
+    requires known { IsTrue (is_some (live_split kind (map string_bytes words.now))) }
     requires plain { list_any has_dash (map string_bytes words.now) ≡ false }
-    ensures { IfOk result (λ found. live_split (map string_bytes words.entry.now) ≡ Some (live_split_of found)) }
+    ensures { IfOk result (λ found. live_split kind (map string_bytes words.entry.now) ≡ Some (live_split_of found)) }
 {
-    let matches = find(alloc, CommandName::Live, words)?;
-    Ok(found::live(&matches))
+    let matches = find(alloc, CommandName::Live(kind), words)?;
+    Ok(found::live(kind, &matches))
 }
 
 /// `snap IMAGE POLICY DISK SCRIPT EVENTS OUT`, or `shrink` with the same words.

@@ -13,7 +13,8 @@ pub enum CommandName {
     /// With the block device that its machine has.
     Run(DiskKind),
     Survey,
-    Live,
+    /// With the block device that its machine has.
+    Live(DiskKind),
     Snap,
     Sweep,
     Shrink,
@@ -53,6 +54,8 @@ const SURVEY_NAME: &str = "survey";
 
 const LIVE_NAME: &str = "live";
 
+const VIRTIO_LIVE_NAME: &str = "vlive";
+
 const SNAP_NAME: &str = "snap";
 
 const SWEEP_NAME: &str = "sweep";
@@ -68,7 +71,7 @@ const MEASURE_NAME: &str = "measure";
 const CONVERT_NAME: &str = "convert";
 
 /// All commands, in the order in which they are explained.
-pub static COMMANDS: [CommandRow; 13] = [
+pub static COMMANDS: [CommandRow; 14] = [
     CommandRow {
         name: MEASURE_NAME,
         command: CommandName::Measure,
@@ -96,8 +99,13 @@ pub static COMMANDS: [CommandRow; 13] = [
     },
     CommandRow {
         name: LIVE_NAME,
-        command: CommandName::Live,
+        command: CommandName::Live(DiskKind::Block),
         about: "runs a kernel with the keys of standard input, up to its end, and saves its events as\n      OUT, a script for run",
+    },
+    CommandRow {
+        name: VIRTIO_LIVE_NAME,
+        command: CommandName::Live(DiskKind::Virtio),
+        about: "the same with a virtio disk; OUT is a script for vrun",
     },
     CommandRow {
         name: SNAP_NAME,
@@ -191,7 +199,7 @@ pub static WORDS: [WordRow; 21] = [
     },
     WordRow {
         name: "EVENTS",
-        permitted: "the most events, 0 to 4294967296; with live to 4294950912, besides the keys",
+        permitted: "the most events, 0 to 4294967296; with live and vlive to 4294950912, besides the keys",
     },
     WordRow {
         name: "SNAPSHOT",
@@ -318,7 +326,7 @@ pub fn arguments_of(command: CommandName) -> &'static [Argument<'static>]
         CommandName::Generated => &GENERATED,
         CommandName::Run(_) => &RUN,
         CommandName::Survey => &SURVEY,
-        CommandName::Live => &LIVE,
+        CommandName::Live(_) => &LIVE,
         CommandName::Snap => &SNAP,
         CommandName::Sweep => &SWEEP,
         CommandName::Shrink => &SNAP,
@@ -339,7 +347,8 @@ pub fn command_of_name(name: &str) -> Option<CommandName>
         RUN_NAME => Some(CommandName::Run(DiskKind::Block)),
         VIRTIO_RUN_NAME => Some(CommandName::Run(DiskKind::Virtio)),
         SURVEY_NAME => Some(CommandName::Survey),
-        LIVE_NAME => Some(CommandName::Live),
+        LIVE_NAME => Some(CommandName::Live(DiskKind::Block)),
+        VIRTIO_LIVE_NAME => Some(CommandName::Live(DiskKind::Virtio)),
         SNAP_NAME => Some(CommandName::Snap),
         RESUME_NAME => Some(CommandName::Resume),
         SWEEP_NAME => Some(CommandName::Sweep),
