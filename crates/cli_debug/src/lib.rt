@@ -1,0 +1,5 @@
+//! The command `debug`: a debugger asks over standard input how a run stands, moves it forwards and backwards, and is answered on
+//! standard output.
+#![tactic(auto)]
+
+pub mod machine;
