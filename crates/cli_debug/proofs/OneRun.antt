@@ -19,6 +19,7 @@ of_one_run stands first run keys left old new (Ok done) at s = record {
 of_one_run stands first run keys left old new (Err Read) at s = record {
   input = s.input;
   took = s.took;
+  faults = s.faults;
   wrote = λ other is. subst (λ r. new ≡ after_taking old (answered r s.input)) (sym is) (s.wrote run at);
 }
 of_one_run stands first run keys left old new (Err Write) at s = record {
@@ -29,6 +30,7 @@ of_one_run stands first run keys left old new (Err Write) at s = record {
 of_one_run stands first run keys left old new (Err Memory) at s = record {
   input = s.input;
   took = s.took;
+  faults = s.faults;
   some = λ other is. subst (λ r. TookPrefix old new (answered r s.input)) (sym is) (s.some run at);
 }
 

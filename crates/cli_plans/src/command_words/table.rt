@@ -13,6 +13,7 @@ pub enum CommandName {
     /// With the block device that its machine has.
     Run(DiskKind),
     Survey,
+    Debug,
     Live,
     Snap,
     Sweep,
@@ -51,6 +52,8 @@ const VIRTIO_RUN_NAME: &str = "vrun";
 
 const SURVEY_NAME: &str = "survey";
 
+const DEBUG_NAME: &str = "debug";
+
 const LIVE_NAME: &str = "live";
 
 const SNAP_NAME: &str = "snap";
@@ -68,7 +71,7 @@ const MEASURE_NAME: &str = "measure";
 const CONVERT_NAME: &str = "convert";
 
 /// All commands, in the order in which they are explained.
-pub static COMMANDS: [CommandRow; 13] = [
+pub static COMMANDS: [CommandRow; 14] = [
     CommandRow {
         name: MEASURE_NAME,
         command: CommandName::Measure,
@@ -93,6 +96,11 @@ pub static COMMANDS: [CommandRow; 13] = [
         name: SURVEY_NAME,
         command: CommandName::Survey,
         about: "runs a kernel past each write that breaks its policy, and tells what breaks it, and where",
+    },
+    CommandRow {
+        name: DEBUG_NAME,
+        command: CommandName::Debug,
+        about: "runs a kernel for gdb, which asks over standard input: target remote | secvisor debug ...",
     },
     CommandRow {
         name: LIVE_NAME,
@@ -318,6 +326,7 @@ pub fn arguments_of(command: CommandName) -> &'static [Argument<'static>]
         CommandName::Generated => &GENERATED,
         CommandName::Run(_) => &RUN,
         CommandName::Survey => &SURVEY,
+        CommandName::Debug => &SURVEY,
         CommandName::Live => &LIVE,
         CommandName::Snap => &SNAP,
         CommandName::Sweep => &SWEEP,
@@ -339,6 +348,7 @@ pub fn command_of_name(name: &str) -> Option<CommandName>
         RUN_NAME => Some(CommandName::Run(DiskKind::Block)),
         VIRTIO_RUN_NAME => Some(CommandName::Run(DiskKind::Virtio)),
         SURVEY_NAME => Some(CommandName::Survey),
+        DEBUG_NAME => Some(CommandName::Debug),
         LIVE_NAME => Some(CommandName::Live),
         SNAP_NAME => Some(CommandName::Snap),
         RESUME_NAME => Some(CommandName::Resume),
