@@ -1,3 +1,5 @@
 pub mod Upcoming
 pub mod Debugged
 pub mod Debugging
+pub mod Beginnings
+pub mod DebugAnswers

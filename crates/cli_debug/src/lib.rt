@@ -2,4 +2,9 @@
 //! standard output.
 #![tactic(auto)]
 
+mod answer;
+mod beginning;
 pub mod machine;
+
+pub use answer::secvisor_debug;
+pub use beginning::FilesBeginning;
