@@ -18,13 +18,13 @@ USE = re.compile(r'^(?:pub )?use (?:«?Rattle»?\.)([\w.«»+]+?)\.?(?:\{([^}]*)
 HEAD = re.compile(r'^(?:(?:abbrev|unfoldable|opaque) )*(?:pub )?(record|data)? ?([^\s(:]+)')
 
 LISTS = [
-    ('the laws of the guarantee', ['laws_guarantee']),
+    ('the laws of the guarantee', ['laws_guarantee/lib']),
     ('`run` and `vrun` with their laws', [
         'cli_plans.specs.CommandLine.run_judged', 'cli_plans.specs.Plans.run_plan', 'laws_program.specs.ProgramLaw.GuardedRun',
-        'laws_program.specs.Starts.IsMeasuredStart', 'laws_guarantee', 'laws_invariants']),
+        'laws_program.specs.Starts.IsMeasuredStart', 'laws_guarantee/lib', 'laws_simulation/invariants']),
     ('all commands with all laws of the program', [
-        'secvisor_cli', 'cli_live', 'cli_snap', 'cli_resume', 'cli_show', 'cli_sweep', 'cli_shrink', 'cli_survey', 'laws_guarantee',
-        'laws_invariants', 'laws_program']),
+        'secvisor_cli', 'cli_live', 'cli_snap', 'cli_trials', 'cli_survey', 'laws_guarantee/lib', 'laws_simulation/invariants',
+        'laws_program']),
 ]
 
 
@@ -151,12 +151,15 @@ def led(module, name):
 
 
 def starts(law):
-    """A definition by its name, or what the contract of a function, or of each law of a crate, names."""
+    """A definition by its name, or what the contract of a function, or of each law of a crate or of one module of it, names."""
     if '.' in law:
         return led(*law.rsplit('.', 1))
-    crate, _, name = law.partition('::')
+    place, _, name = law.partition('::')
+    crate, _, room = place.partition('/')
     todo = []
     for path in rust_files(crate):
+        if room and path.relative_to(TOP / 'crates' / crate / 'src').parts[0].removesuffix('.rt') != room:
+            continue
         text = path.read_text()
         uses = {}
         for module, words in re.findall(r'^ghost use Rattle\.([\w.]+)\.\{([^}]*)\};', text, re.M):

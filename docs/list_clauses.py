@@ -33,6 +33,7 @@ STEPS = set("""
     law_plain_texts law_bound_within_limits law_bound_in_text law_exports_of_names law_block law_counts
     law_reaches law_saved_resumes law_saved_accepted law_resumed_goes_on law_snap_file
     law_live_ends law_snap_ends law_resume_ends law_show_ends
+    law_write_keeps_tables law_mask law_fields_right law_accepted_segments
     """.split())
 
 
@@ -108,7 +109,7 @@ def wrong_clauses(page):
     """Names in brackets after a crate's name that no contract of that crate has."""
     listed, crate = set(crates()), None
     for number, line in enumerate(page.splitlines(), 1):
-        head = re.match(r'\*\*`(\w+)`\*\*', line)
+        head = re.match(r'\*\*`(\w+)(?:::\w+)?`\*\*', line)
         if head and head[1] in listed:
             crate = head[1]
         for named in re.findall(r'\[((?:`\w+`(?:, )?)+)\]', line):

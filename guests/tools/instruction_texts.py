@@ -1,6 +1,6 @@
 #!/usr/bin/env python3
 """Writes crates/test_instructions/data/text.txt: for each word of the other vectors that is an instruction the text that GNU objdump
-(riscv64-linux-gnu-objdump of binutils 2.40) prints of it, in the form of the crate rv64_text. Run by hand, at the top of the repository.
+(riscv64-linux-gnu-objdump of binutils 2.40) prints of it, in the form of the crate rv64_encode::text. Run by hand, at the top of the repository.
 
 The two differ in four ways, which are evened out here: a tab parts mnemonic and operands; a target is an address; a fence has its
 sets; and objdump names more registers than the supervisor's."""

@@ -19,7 +19,7 @@ pub mod Passes
 pub mod Looking
 pub mod EventsBatches
 pub mod BeatsFollow
-mod Seen
+mod EventsSeen
 pub mod Turns
 pub mod Passings
 pub mod Accepted
