@@ -2,3 +2,4 @@ pub mod OneEvent
 pub mod Drawing
 pub mod Standings
 pub mod OneRun
+pub mod AnswerLemmas
