@@ -1,11 +1,9 @@
 // A run that begins from files.
 ghost use Rattle.std.specs.Prelude.{◌≡◌, ◌%◌, IfOk, Ok, length};
-ghost use Rattle.sv_types.specs.Policies.{Rules, rules_of};
+ghost use Rattle.sv_types.specs.Policies.{rules_of};
 ghost use Rattle.spec_reference.specs.BlockDisk.{sector_size};
-ghost use Rattle.spec_reference.specs.Start.{boot_start};
 ghost use Rattle.policy.specs.Text.{rules_of_text};
-ghost use Rattle.cli_trials.specs.Orders.{IsAccepted, order_schedule};
-ghost use Rattle.cli_debug.specs.Beginnings as spec;
+ghost use Rattle.cli_trials.specs.Orders.{IsAccepted};
 
 use crate::machine::Beginning;
 use cli_trials::Parts;
@@ -39,11 +37,14 @@ fn read_again(alloc: Global, text: &[u8]) -> Result<Policy, AllocError>
 }
 
 impl<'a, R: Threads + Sync> FilesBeginning<'a, R> {
+    ghost use Rattle.sv_types.specs.Policies.{Rules};
+    ghost use Rattle.cli_debug.specs.Beginnings.{BeginsAs};
+
     /// From files that were read and judged.
     pub fn new(rt: &'a R, alloc: Global, parts: Parts) -> Result<FilesBeginning<'a, R>, AllocError>
         requires sectors { length parts.disk.items % sector_size ≡ 0 }
         requires accepted { IsAccepted parts.order }
-        ensures { IfOk result (λ b. (rules : Rules) → rules_of_text parts.policy.items ≡ Ok rules → spec.BeginsAs b rules parts) }
+        ensures { IfOk result (λ b. (rules : Rules) → rules_of_text parts.policy.items ≡ Ok rules → BeginsAs b rules parts) }
     {
         let policy = read_again(alloc, &parts.policy)?;
         Ok(FilesBeginning { rt, parts, policy })
@@ -51,9 +52,11 @@ impl<'a, R: Threads + Sync> FilesBeginning<'a, R> {
 }
 
 impl<'a, R: Threads + Sync> Beginning for FilesBeginning<'a, R> {
-    ghost start = { spec.start_of };
+    ghost use Rattle.cli_debug.specs.Beginnings.{start_of, schedule_of};
 
-    ghost schedule = { spec.schedule_of };
+    ghost start = { start_of };
+
+    ghost schedule = { schedule_of };
 
     fn machine(&self, alloc: Global) -> Result<Machine, AllocError> {
         match boot_files(self.rt, alloc, &self.parts.files()) {
