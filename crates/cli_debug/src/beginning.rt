@@ -1,9 +1,10 @@
 // A run that begins from files.
-ghost use Rattle.std.specs.Prelude.{◌≡◌, ◌%◌, IfOk, Ok, length};
+ghost use Rattle.std.specs.Prelude.{◌≡◌, ◌%◌, IfOk, Ok, None, length};
 ghost use Rattle.sv_types.specs.Policies.{rules_of};
 ghost use Rattle.spec_reference.specs.BlockDisk.{sector_size};
 ghost use Rattle.policy.specs.Text.{rules_of_text};
 ghost use Rattle.cli_trials.specs.Orders.{IsAccepted};
+ghost use Rattle.cli_debug.specs.Accepting.{refused_in};
 
 use crate::machine::Beginning;
 use cli_trials::Parts;
@@ -23,7 +24,7 @@ pub struct FilesBeginning<'a, R: Threads + Sync> {
     policy: Policy,
     ghost reads: { rules_of_text parts.policy.items ≡ Ok (rules_of policy) },
     ghost sectors: { length parts.disk.items % sector_size ≡ 0 },
-    ghost accepted: { IsAccepted parts.order },
+    ghost accepted: { refused_in parts.order ≡ None },
 }
 
 // A policy's text, which was judged before, so that nothing but memory is left to fail.
