@@ -7,6 +7,7 @@ ghost use Rattle.cli_dispatch.specs.Choice as spec;
 ghost use Rattle.cli_dispatch.specs.Answers.{MayAnswer, Owed};
 
 use crate::choice::{TopCall, top_call_of};
+use cli_debug::secvisor_debug;
 use cli_live::{Host, secvisor_live};
 use cli_snap::resume::secvisor_resume;
 use cli_snap::secvisor_snap;
@@ -56,6 +57,7 @@ pub fn answer<
     let Host { rt, alloc, pace } = *host;
     match top_call_of(words) {
         TopCall::Survey => secvisor_survey(rt, alloc, words, files, out, bench),
+        TopCall::Debug => secvisor_debug(rt, alloc, words, files, keys, out),
         TopCall::Live => secvisor_live(rt, alloc, words, files, keys, out, pace, bench),
         TopCall::Snap => secvisor_snap(rt, alloc, words, files, out, bench),
         TopCall::Sweep => secvisor_sweep(rt, alloc, words, files, out, pace),

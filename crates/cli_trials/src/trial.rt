@@ -12,4 +12,4 @@ pub use ending::Ending;
 pub use files::{NoOutcome, RunFiles};
 pub use keeping::keep_memory;
 pub use order::Order;
-pub use trial::{script_of_order, try_order};
+pub use trial::{boot_files, script_of_order, try_order};
