@@ -9,7 +9,7 @@ use Rattle.cli_trials.specs.declared.shrink.shrinking.Script.{Script}
 
 -- what stopped so still does
 pub stops_again : (now old : List EventRun → Bool) (lines given : List EventRun) (answer : Bool) → now ≡ old → given ≡ lines → answer ≡ old given → answer ≡ true → now lines ≡ true
-stops_again now old lines given answer same is answered yes = ap (λ (f : List EventRun → Bool). f lines) same ∙ ap old (sym is) ∙ sym answered ∙ yes
+stops_again now old lines given answer same is answered stopped = ap (λ (f : List EventRun → Bool). f lines) same ∙ ap old (sym is) ∙ sym answered ∙ stopped
 
 pub small : (wanted : Outcome) (ends : List ℕ → Option Outcome) (now : List EventRun → Bool) (script : Script) (left : ℕ) →
     now ≡ (λ lines. is_outcome wanted (ends (text_of lines))) → string_bytes script.text ≡ text_of script.lines.items → now script.lines.items ≡ true →
@@ -17,7 +17,7 @@ pub small : (wanted : Outcome) (ends : List ℕ → Option Outcome) (now : List 
 small wanted ends now script left same text stops minimal spent runs = record {
   text_is = text;
   stops = ap (λ (bytes : List ℕ). is_outcome wanted (ends bytes)) text ∙ sym (ap (λ (f : List EventRun → Bool). f script.lines.items) same) ∙ stops;
-  minimal = λ yes. subst (λ (f : List EventRun → Bool). IsOneMinimal f script.lines.items) same (minimal yes);
-  spent = λ no. let none = spent no in omega arith;
+  minimal = λ is. subst (λ (f : List EventRun → Bool). IsOneMinimal f script.lines.items) same (minimal is);
+  spent = λ is. let none = spent is in omega arith;
   few = omega arith;
 }
