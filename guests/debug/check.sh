@@ -28,7 +28,7 @@ while read -r name command image policy disk script events _; do
     pc=$("$program" run $words none | sed -n 's/^verdict stopped write .* pc \(0x[0-9a-f]*\) .*/\1/p')
     [ -n "$pc" ] || continue
     said=$(ask "$words" "$image" continue 'printf "at %#018lx\n", $pc' reverse-stepi stepi 'printf "at %#018lx\n", $pc' \
-        reverse-continue 'printf "at %#018lx\n", $pc')
+        reverse-continue 'thread 1' 'printf "at %#018lx\n", $pc')
     compare "$name stops" "at $pc at $pc at 0x0000000080000000" "$(grep -o 'at 0x[0-9a-f]\{16\}$' <<< "$said" | tr '\n' ' ' | sed 's/ $//')"
     compare "$name by a signal" "1" "$(grep -c 'signal SIGSEGV' <<< "$said" | sed 's/^[1-9].*/1/')"
 done < <(grep -v '^#' runs.txt)

@@ -36,6 +36,7 @@ use Rattle.cli_trials.proofs.WritingLemmas.{refused_fault, same_rises, written_n
 use Rattle.cli_debug.specs.DebugAnswers.{AnswersDebug, AnswersDue, AnswersReached, DebugsFiles, DebugsRun, RefusesDebug, Wants, Wire, end_of_session, wire}
 use Rattle.cli_debug.specs.Debugged.{run_from}
 use Rattle.cli_debug.specs.Debugging.{Debugs}
+use Rattle.cli_debug.proofs.OneRun.{before_it}
 
 -- ---- from what was read to the answer
 
@@ -211,3 +212,7 @@ debug_fault words files read old new result it is = judged_fault (debug_judged w
 pub may_debug : (words : List (List ℕ)) (files : FilesState) → ((asked : List (List ℕ × ℕ)) → IsTrue (files.permits asked)) →
     ((saves : List (List ℕ × List ℕ)) → IsTrue (files.permits_save saves)) → MayFollow (survey_plan (debug_judged words)) files
 may_debug words files all saves = may_follow (survey_plan (debug_judged words)) files all saves
+
+-- memory ran out before the session
+pub wanted_before : (run : Run) (keys : KeysState) (sink : SinkState) (result : Result Status Trouble) → result ≡ Err Memory → DebugsRun run (wire keys sink) (wire keys sink) result
+wanted_before run keys sink result is = record { served = Err breakdown.Memory; debugs = before_it run keys sink; result_is = is }

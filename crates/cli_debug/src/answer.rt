@@ -134,8 +134,8 @@ fn debug_parts<R: Threads + Sync, K: Keys, O: Sink>(
         spec.DebugsRun (run_from (boot_start rules parts.image.items parts.disk.items) (first_events events (order_schedule rules.harts parts.order)))
         (spec.wire (K.state keys.old) (O.state out.old)) (spec.wire (K.state keys.new) (O.state out.new)) result }
 {
-    let beginning = FilesBeginning::new(rt, alloc, parts)?;
-    end_of_session(debug(alloc, beginning, events, keys, out))
+    let beginning = FilesBeginning::new(alloc, parts)?;
+    end_of_session(debug(rt, alloc, beginning, events, keys, out))
 }
 
 fn end_of_session(served: Result<(), Breakdown>) -> Result<Status, Trouble>

@@ -18,8 +18,7 @@ use sv_types::Policy;
 /// A run that begins from files, which were read and judged as `run` does. Its machine boots as often as asked. A boot that is
 /// refused then is told as out of memory; all that refuses one was judged before.
 #[derive(Drop)]
-pub struct FilesBeginning<'a, R: Threads + Sync> {
-    rt: &'a R,
+pub struct FilesBeginning {
     parts: Parts,
     policy: Policy,
     ghost reads: { rules_of_text parts.policy.items ≡ Ok (rules_of policy) },
@@ -37,30 +36,30 @@ fn read_again(alloc: Global, text: &[u8]) -> Result<Policy, AllocError>
     }
 }
 
-impl<'a, R: Threads + Sync> FilesBeginning<'a, R> {
+impl FilesBeginning {
     ghost use Rattle.sv_types.specs.Policies.{Rules};
     ghost use Rattle.cli_debug.specs.Beginnings.{BeginsAs};
 
     /// From files that were read and judged.
-    pub fn new(rt: &'a R, alloc: Global, parts: Parts) -> Result<FilesBeginning<'a, R>, AllocError>
+    pub fn new(alloc: Global, parts: Parts) -> Result<FilesBeginning, AllocError>
         requires sectors { length parts.disk.items % sector_size ≡ 0 }
         requires accepted { IsAccepted parts.order }
         ensures { IfOk result (λ b. (rules : Rules) → rules_of_text parts.policy.items ≡ Ok rules → BeginsAs b rules parts) }
     {
         let policy = read_again(alloc, &parts.policy)?;
-        Ok(FilesBeginning { rt, parts, policy })
+        Ok(FilesBeginning { parts, policy })
     }
 }
 
-impl<'a, R: Threads + Sync> Beginning for FilesBeginning<'a, R> {
+impl Beginning for FilesBeginning {
     ghost use Rattle.cli_debug.specs.Beginnings.{start_of, schedule_of};
 
     ghost start = { start_of };
 
     ghost schedule = { schedule_of };
 
-    fn machine(&self, alloc: Global) -> Result<Machine, AllocError> {
-        match boot_files(self.rt, alloc, &self.parts.files()) {
+    fn machine<R: Threads + Sync>(&self, rt: &R, alloc: Global) -> Result<Machine, AllocError> {
+        match boot_files(rt, alloc, &self.parts.files()) {
             Ok(machine) => Ok(machine),
             Err(_) => Err(AllocError),
         }

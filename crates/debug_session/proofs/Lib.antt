@@ -1,5 +1,7 @@
 pub mod SeenBytes
 pub mod Watching
+pub mod Reaching
+pub mod Pairs
 pub mod Motions
 pub mod Threads
 pub mod ServingSteps

@@ -3,6 +3,7 @@ pub mod Watches
 pub mod Looks
 pub mod Runs
 pub mod Description
+pub mod Questions
 pub mod Sessions
 pub mod Desks
 pub mod Halts

@@ -110,6 +110,10 @@ ahead breaks watches steps run = after run (first_halt (halts_after breaks watch
 abbrev pub last_change : List Watch → Run → (there : ℕ) → Option Change
 last_change watches run there = if nat_lt run.made there then change_at watches run (there - 1) else None
 
+-- the run after so many events, or after all
+abbrev pub at_event : ℕ → Run → Run
+at_event number run = after run (if nat_lt number (length run.events) then number else length run.events)
+
 -- ---- backwards
 
 -- the greatest number below another one that passes, none where there is none

@@ -26,7 +26,11 @@ use Rattle.gdb_protocol.specs.declared.stop.Stop.TheVariants as by
 use Rattle.debug_session.specs.Description.{description, supported_text}
 use Rattle.debug_session.specs.Looks.{error_text, hart_words, register_text, registers_text}
 use Rattle.debug_session.specs.Memory.{seen_bytes}
-use Rattle.debug_session.specs.Runs.{Run, state, ahead, behind, found_behind, last_change, meets_break, next_turn}
+use Rattle.debug_session.specs.Runs.{Run, state, ahead, behind, at_event, found_behind, last_change, meets_break, next_turn}
+use Rattle.debug_session.specs.Questions.{question_of, question_text, text_of}
+use Rattle.debug_session.specs.declared.questions.Question.{Question}
+use Rattle.debug_session.specs.declared.questions.Question.TheVariants as question
+use Rattle.gdb_protocol.specs.Words.{after as text_after, is_comma}
 use Rattle.debug_session.specs.Watches.{watch_of, with_watch, without_watch}
 use Rattle.debug_session.specs.declared.motion.Change.{Change}
 use Rattle.debug_session.specs.declared.motion.Found.{Found}
@@ -268,6 +272,22 @@ by_packet (asks.Resume motion thread) run desk = by_motion motion (hart_of (hart
 by_packet asks.Kill run desk = record { run = run; desk = record desk { goes_on = false }; answers = [] }
 by_packet packet run desk = still_outcome packet run desk
 
+-- ---- what `monitor` asks
+
+-- the run that it is about. It moves to an event where that is asked
+abbrev pub asked_run : Question → Run → Run
+asked_run question.Events run = run
+asked_run (question.At number) run = at_event number run
+asked_run question.Unknown run = run
+
+abbrev pub by_question : Question → Run → Desk → Outcome
+by_question q run desk = record { run = asked_run q run; desk = desk; answers = byte_digits (question_text q (asked_run q run).made) ∷ [] }
+
+-- the question stands after the name of the packet
+abbrev pub by_payload : Packet → (payload : List ℕ) → Run → Desk → Outcome
+by_payload asks.Command payload run desk = by_question (question_of (text_of (text_after is_comma payload))) run desk
+by_payload packet payload run desk = by_packet packet run desk
+
 -- ---- whatever arrives
 
 abbrev pub with_answers : List (List ℕ) → Run → Desk → Outcome
@@ -275,7 +295,7 @@ with_answers answers run desk = record { run = run; desk = desk; answers = answe
 
 -- a packet with a wrong checksum is asked for once more by an acknowledgment; where there are none it is answered as an error
 abbrev pub by_arrival : Arrival → (payload : List ℕ) → Run → Desk → Outcome
-by_arrival kind.Packet payload run desk = by_packet (packet_of payload) run desk
+by_arrival kind.Packet payload run desk = by_payload (packet_of payload) payload run desk
 by_arrival kind.Broken payload run desk = with_answers (if desk.acks then [] else error_text ∷ []) run desk
 by_arrival kind.TooLong payload run desk = with_answers (error_text ∷ []) run desk
 by_arrival kind.Interrupt payload run desk = with_answers (halt_text (halt_of None desk.breaks desk.looks run) ∷ []) run desk

@@ -3,9 +3,11 @@ ghost use Rattle.std.specs.Prelude.{◌≡◌, ◌<◌, ◌≤◌, ◌+◌, ◌|
 ghost use Rattle.spec_reference.specs.States.{has_number};
 ghost use Rattle.debug_session.specs.Runs as spec;
 
+use crate::host::Host;
 use crate::target::Target;
 use crate::watches::{Watch, all_watched, first_changed};
 use std::alloc::{AllocError, Global};
+use std::thread::Threads;
 use sv_types::Verdict;
 
 /// A change of what is watched by an event: the address of the watch, and the hart whose turn the event is.
@@ -133,6 +135,31 @@ pub(crate) fn go_ahead<T: Target>(
     Ok(change)
 }
 
+// As many events more as are left, at most so many.
+fn advance_at_most<T: Target>(target: &mut T, count: u64) -> Result<(), AllocError>
+    ensures { OnOk result ((run : spec.Run) → T.stands target.old run → run.made ≡ 0 → T.stands target.new (spec.at_event count run)) }
+{
+    'events: for _ in 0..count {
+        if !target.is_left() {
+            return Ok(());
+        }
+        target.advance()?;
+    }
+    Ok(())
+}
+
+/// A run is made anew up to an event, or up to its last one.
+pub(crate) fn go_to<T: Target, R: Threads + Sync>(
+    target: &mut T,
+    host: &Host<'_, R>,
+    number: u64,
+) -> Result<(), AllocError>
+    ensures { OnOk result ((run : spec.Run) → T.stands target.old run → T.stands target.new (spec.at_event number run)) }
+{
+    target.restart(host.rt, host.alloc)?;
+    advance_at_most(target, number)
+}
+
 // A break is met, or a hart that steps has the next turn.
 #[tactic(auto, unfolding(crate::specs::Runs::is_met))]
 fn is_met<T: Target>(target: &T, breaks: &[u64], steps: Option<u8>) -> bool
@@ -207,9 +234,9 @@ fn number_of(found: Option<Found>) -> u64
 /// A run goes back to the last place before, and says what is found there; else it begins anew. It is made once up to where it was,
 /// and once more up to that place.
 #[tactic(auto, unfolding(crate::specs::Runs::behind, crate::specs::Runs::back_number, crate::specs::Runs::found_behind))]
-pub(crate) fn go_back<T: Target>(
+pub(crate) fn go_back<T: Target, R: Threads + Sync>(
     target: &mut T,
-    alloc: Global,
+    host: &Host<'_, R>,
     breaks: &[u64],
     watches: &[Watch],
     steps: Option<u8>,
@@ -219,9 +246,9 @@ pub(crate) fn go_back<T: Target>(
 {
     let made = target.events_made();
     let watches = watches_back(steps, watches);
-    target.restart(alloc)?;
-    let found = last_target(target, alloc, breaks, watches, steps, made)?;
-    target.restart(alloc)?;
+    target.restart(host.rt, host.alloc)?;
+    let found = last_target(target, host.alloc, breaks, watches, steps, made)?;
+    target.restart(host.rt, host.alloc)?;
     advance_by(target, number_of(found))?;
     Ok(found)
 }

@@ -1,7 +1,8 @@
 // What arrives is answered.
-ghost use Rattle.std.specs.Prelude.{◌≡◌, ◌++◌, ◌∷◌, [], OnOk, IfOk, unwrap_or, if◌then◌else◌};
+ghost use Rattle.std.specs.Prelude.{◌≡◌, ◌++◌, ◌∷◌, [], OnOk, IfOk, unwrap_or, if◌then◌else◌, position};
 ghost use Rattle.gdb_protocol.specs.Framing.{frame};
 ghost use Rattle.gdb_protocol.specs.Packets.{packet_of};
+ghost use Rattle.gdb_protocol.specs.Words.{after as text_after, is_comma};
 ghost use Rattle.debug_session.specs.Halts.{halt_value};
 ghost use Rattle.debug_session.specs.Looks.{error_text};
 ghost use Rattle.debug_session.specs.Performing.{Performs};
@@ -9,13 +10,18 @@ ghost use Rattle.debug_session.specs.Runs.{Run, ahead, behind};
 ghost use Rattle.debug_session.specs.Sessions as spec;
 
 use crate::desk::Desk;
-use crate::motion::{Found, go_ahead, go_back};
+use crate::host::Host;
+use crate::motion::{Found, go_ahead, go_back, go_to};
+use crate::questions::{Question, asked, question_text};
 use crate::registers::ERROR;
 use crate::replies::{Halt, halt_of, hart_of, push_halt, push_reply, watch_in};
 use crate::target::Target;
 use crate::watches::Watch;
-use gdb_protocol::{Arrival, Motion, Packet, Stop, Thread, packet_of, push_console, push_frame};
+use gdb_protocol::{
+    Arrival, Motion, Packet, Stop, Thread, packet_of, push_console, push_digits, push_frame,
+};
 use std::alloc::{AllocError, Global};
+use std::thread::Threads;
 
 // ---- settings
 
@@ -86,8 +92,8 @@ fn move_ahead<T: Target>(
 }
 
 // Backwards.
-fn move_back<T: Target>(
-    alloc: Global,
+fn move_back<T: Target, R: Threads + Sync>(
+    host: &Host<'_, R>,
     target: &mut T,
     breaks: &[u64],
     watches: &[Watch],
@@ -98,13 +104,13 @@ fn move_back<T: Target>(
     ensures halt { IfOk result (λ halt. (run : Run) → T.stands target.old run →
         halt_value halt ≡ spec.halt_behind breaks.now watches.now steps hart run) }
 {
-    let found = go_back(target, alloc, breaks, watches, steps)?;
+    let found = go_back(target, host, breaks, watches, steps)?;
     Ok(halt_back(target, found, breaks, hart))
 }
 
 // A run goes on by a hart, and halts.
-fn move_run<T: Target>(
-    alloc: Global,
+fn move_run<T: Target, R: Threads + Sync>(
+    host: &Host<'_, R>,
     target: &mut T,
     breaks: &[u64],
     watches: &[Watch],
@@ -117,10 +123,10 @@ fn move_run<T: Target>(
         halt_value halt ≡ spec.halt_after motion breaks.now watches.now hart run) }
 {
     match motion {
-        Motion::Continue => move_ahead(alloc, target, breaks, watches, None, hart),
-        Motion::Step => move_ahead(alloc, target, breaks, watches, Some(hart), hart),
-        Motion::ContinueBack => move_back(alloc, target, breaks, watches, None, hart),
-        Motion::StepBack => move_back(alloc, target, breaks, watches, Some(hart), hart),
+        Motion::Continue => move_ahead(host.alloc, target, breaks, watches, None, hart),
+        Motion::Step => move_ahead(host.alloc, target, breaks, watches, Some(hart), hart),
+        Motion::ContinueBack => move_back(host, target, breaks, watches, None, hart),
+        Motion::StepBack => move_back(host, target, breaks, watches, Some(hart), hart),
     }
 }
 
@@ -193,8 +199,8 @@ fn stand<T: Target>(
     give_halt(alloc, desk, halt, out)
 }
 
-fn answer_motion<T: Target>(
-    alloc: Global,
+fn answer_motion<T: Target, R: Threads + Sync>(
+    host: &Host<'_, R>,
     target: &mut T,
     desk: &mut Desk,
     motion: Motion,
@@ -204,8 +210,8 @@ fn answer_motion<T: Target>(
     ensures { OnOk result ((run : Run) → T.stands target.old run →
         Performs T.stands (spec.motion_outcome motion hart run desk.old) out.old.items target.new desk.new out.new.items) }
 {
-    let halt = move_run(alloc, target, &desk.breaks, &desk.watches, motion, hart)?;
-    stand(alloc, target, desk, halt, out)
+    let halt = move_run(host, target, &desk.breaks, &desk.watches, motion, hart)?;
+    stand(host.alloc, target, desk, halt, out)
 }
 
 fn answer_still<T: Target>(
@@ -224,8 +230,8 @@ fn answer_still<T: Target>(
     give(desk, answer, out)
 }
 
-fn answer_packet<T: Target>(
-    alloc: Global,
+fn answer_packet<T: Target, R: Threads + Sync>(
+    host: &Host<'_, R>,
     target: &mut T,
     desk: &mut Desk,
     packet: Packet,
@@ -237,15 +243,82 @@ fn answer_packet<T: Target>(
     match packet {
         Packet::Resume(motion, thread) => {
             match hart_of(target.hart_count(), desk.moves, thread) {
-                Some(hart) => answer_motion(alloc, target, desk, motion, hart, out),
-                None => give_error(alloc, desk, out),
+                Some(hart) => answer_motion(host, target, desk, motion, hart, out),
+                None => give_error(host.alloc, desk, out),
             }
         }
         Packet::Kill => {
             desk.end();
             Ok(())
         }
-        _ => answer_still(alloc, target, desk, packet, out),
+        _ => answer_still(host.alloc, target, desk, packet, out),
+    }
+}
+
+// The run that a question is about.
+fn move_to<T: Target, R: Threads + Sync>(
+    host: &Host<'_, R>,
+    target: &mut T,
+    question: Question,
+) -> Result<(), AllocError>
+    ensures { OnOk result ((run : Run) → T.stands target.old run → T.stands target.new (spec.asked_run question run)) }
+{
+    match question {
+        Question::At(number) => go_to(target, host, number),
+        Question::Events | Question::Unknown => Ok(()),
+    }
+}
+
+// A question is answered by a line of text.
+fn answer_question<T: Target, R: Threads + Sync>(
+    host: &Host<'_, R>,
+    target: &mut T,
+    desk: &mut Desk,
+    question: Question,
+    out: &mut Vec<u8>,
+) -> Result<(), AllocError>
+    ensures { OnOk result ((run : Run) → T.stands target.old run →
+        Performs T.stands (spec.by_question question run desk.old) out.old.items target.new desk.new out.new.items) }
+{
+    move_to(host, target, question)?;
+    let text = question_text(host.alloc, question, target.events_made())?;
+    let mut answer = Vec::new(host.alloc);
+    push_digits(&mut answer, text.as_str().as_bytes())?;
+    give(desk, answer, out)
+}
+
+fn comma_in(payload: &[u8]) -> Option<usize>
+    ensures { result ≡ position is_comma payload.now }
+{
+    payload.iter().position(|c| *c == b',')
+}
+
+// What stands after a comma.
+fn after_comma(payload: &[u8]) -> &[u8]
+    ensures { result.now ≡ text_after is_comma payload.now }
+{
+    match comma_in(payload) {
+        Some(i) => &payload[i + 1..],
+        None => &[],
+    }
+}
+
+fn answer_payload<T: Target, R: Threads + Sync>(
+    host: &Host<'_, R>,
+    target: &mut T,
+    desk: &mut Desk,
+    payload: &[u8],
+    out: &mut Vec<u8>,
+) -> Result<(), AllocError>
+    ensures { OnOk result ((run : Run) → T.stands target.old run →
+        Performs T.stands (spec.by_payload (packet_of payload.now) payload.now run desk.old) out.old.items target.new desk.new out.new.items) }
+{
+    match packet_of(payload) {
+        Packet::Command => {
+            let question = asked(host.alloc, after_comma(payload))?;
+            answer_question(host, target, desk, question, out)
+        }
+        packet => answer_packet(host, target, desk, packet, out),
     }
 }
 
@@ -256,8 +329,8 @@ fn give_again(alloc: Global, desk: &Desk, out: &mut Vec<u8>) -> Result<(), Alloc
     push_frame(out, &desk.last)
 }
 
-fn answer<T: Target>(
-    alloc: Global,
+fn answer<T: Target, R: Threads + Sync>(
+    host: &Host<'_, R>,
     target: &mut T,
     desk: &mut Desk,
     arrival: Arrival,
@@ -268,15 +341,15 @@ fn answer<T: Target>(
         Performs T.stands (spec.by_arrival arrival payload.now run desk.old) out.old.items target.new desk.new out.new.items) }
 {
     match arrival {
-        Arrival::Packet => answer_packet(alloc, target, desk, packet_of(payload), out),
+        Arrival::Packet => answer_payload(host, target, desk, payload, out),
         Arrival::Broken if desk.acks => Ok(()),
-        Arrival::Broken | Arrival::TooLong => give_error(alloc, desk, out),
+        Arrival::Broken | Arrival::TooLong => give_error(host.alloc, desk, out),
         Arrival::Interrupt => {
             let halt = halt_of(target, None, &desk.breaks, desk.looks);
-            give_halt(alloc, desk, halt, out)
+            give_halt(host.alloc, desk, halt, out)
         }
         Arrival::Received => Ok(()),
-        Arrival::Again => give_again(alloc, desk, out),
+        Arrival::Again => give_again(host.alloc, desk, out),
     }
 }
 
@@ -295,8 +368,8 @@ fn acknowledge(out: &mut Vec<u8>, acks: bool, arrival: Arrival) -> Result<(), Al
 }
 
 /// What arrived is acknowledged and answered.
-pub(crate) fn take_arrival<T: Target>(
-    alloc: Global,
+pub(crate) fn take_arrival<T: Target, R: Threads + Sync>(
+    host: &Host<'_, R>,
     target: &mut T,
     desk: &mut Desk,
     arrival: Arrival,
@@ -308,5 +381,5 @@ pub(crate) fn take_arrival<T: Target>(
         out.new.items) }
 {
     acknowledge(out, desk.acks, arrival)?;
-    answer(alloc, target, desk, arrival, payload, out)
+    answer(host, target, desk, arrival, payload, out)
 }

@@ -7,17 +7,19 @@ ghost use Rattle.debug_session.specs.Serving.{Serves, Steps};
 
 use crate::breakdown::Breakdown;
 use crate::desk::Desk;
+use crate::host::Host;
 use crate::performing::take_arrival;
 use crate::target::Target;
 use gdb_protocol::PacketReader;
 use host_io::{Sink, write_all};
 use live_keys::Keys;
 use std::alloc::{AllocError, Global};
+use std::thread::Threads;
 
 // A byte comes in.
 #[tactic(auto, using(crate::proofs::ServingSteps::nothing_arrives, crate::proofs::ServingSteps::something_arrives))]
-fn take_byte<T: Target>(
-    alloc: Global,
+fn take_byte<T: Target, R: Threads + Sync>(
+    host: &Host<'_, R>,
     target: &mut T,
     desk: &mut Desk,
     reader: &mut PacketReader,
@@ -29,13 +31,14 @@ fn take_byte<T: Target>(
         Steps T.stands run desk.old reader.old byte out.old.items target.new desk.new reader.new out.new.items) }
 {
     match reader.take(byte) {
-        Some(arrival) => take_arrival(alloc, target, desk, arrival, reader.payload(), out),
+        Some(arrival) => take_arrival(host, target, desk, arrival, reader.payload(), out),
         None => Ok(()),
     }
 }
 
 /// Serves a debugger: its bytes come in by `keys`, and what is written on them goes out, until it goes away or no byte is left.
-pub fn serve<T: Target, K: Keys, O: Sink>(
+pub fn serve<R: Threads + Sync, T: Target, K: Keys, O: Sink>(
+    rt: &R,
     alloc: Global,
     target: &mut T,
     keys: &mut K,
@@ -46,6 +49,7 @@ pub fn serve<T: Target, K: Keys, O: Sink>(
     // For all bytes that come in, those that are written are the frames of the session's answers.
     ensures headline { Serves T.stands target.old (K.state keys.old) (K.state keys.new) (O.state out.old) (O.state out.new) result }
 {
+    let host = Host { rt, alloc };
     let mut desk = Desk::new(alloc);
     let mut reader = PacketReader::new(alloc)?;
     let mut bytes = Vec::new(alloc);
@@ -60,7 +64,7 @@ pub fn serve<T: Target, K: Keys, O: Sink>(
             return Ok(());
         };
         bytes.clear();
-        take_byte(alloc, target, &mut desk, &mut reader, byte, &mut bytes)?;
+        take_byte(&host, target, &mut desk, &mut reader, byte, &mut bytes)?;
         write_all(out, &bytes)?;
     }
     Ok(())

@@ -5,6 +5,7 @@ ghost use Rattle.debug_session.specs.Runs.{Run, after, events_left, next_turn, p
 
 use spec_reference::saved_machine::SavedHart;
 use std::alloc::{AllocError, Global};
+use std::thread::Threads;
 use sv_types::Verdict;
 
 /// A run that is debugged. It can begin anew.
@@ -58,6 +59,6 @@ pub trait Target {
         ensures { OnOk result ((run : Run) → stands self.old run → run.made < length run.events → stands self.new (after run (run.made + 1))) };
 
     /// Begins anew.
-    fn restart(&mut self, alloc: Global) -> Result<(), AllocError>
+    fn restart<R: Threads + Sync>(&mut self, rt: &R, alloc: Global) -> Result<(), AllocError>
         ensures { OnOk result ((run : Run) → stands self.old run → stands self.new (after run 0)) };
 }

@@ -8,6 +8,7 @@ use spec_processor::{Mode, REGISTERS};
 use spec_reference::saved_machine::SavedHart;
 use std::alloc::{AllocError, Global};
 use std::test::Fail;
+use std::thread::Threads;
 use sv_types::Verdict;
 
 // Hart 0 and hart 1 in turn, four bytes on with each turn. It stands for no run.
@@ -85,54 +86,60 @@ impl Target for Toy {
         Ok(())
     }
 
-    fn restart(&mut self, _alloc: Global) -> Result<(), AllocError> {
+    fn restart<R: Threads + Sync>(&mut self, _rt: &R, _alloc: Global) -> Result<(), AllocError> {
         self.made = 0;
         Ok(())
     }
 }
 
 // Whether these bytes are answered by those.
-fn is_answered(alloc: Global, input: &[u8], output: &[u8]) -> Result<bool, AllocError> {
+fn is_answered<R: Threads + Sync>(
+    rt: &R,
+    alloc: Global,
+    input: &[u8],
+    output: &[u8],
+) -> Result<bool, AllocError> {
     let mut toy = Toy {
         made: 0,
         ram: [7; 16],
     };
     let mut keys = MemKeys::new(input.to_vec(alloc)?, Vec::new(alloc));
     let mut sink = MemSink::new(alloc, 65536, 64, &[])?;
-    let served = serve(alloc, &mut toy, &mut keys, &mut sink);
+    let served = serve(rt, alloc, &mut toy, &mut keys, &mut sink);
     Ok(served == Ok(()) && sink.taken_bytes() == output)
 }
 
 #[test]
 fn looks(rt: HostRuntime) -> Result<(), Fail> {
     let alloc = rt.alloc();
-    assert!(rt; is_answered(alloc, b"+$?#3f", b"+$T05thread:01;#07")?);
-    assert!(rt; is_answered(alloc, b"$m80000000,4#55", b"+$07070707#9c")?);
-    assert!(rt; is_answered(alloc, b"$qfThreadInfo#bb", b"+$m01,02#5c")?);
+    assert!(rt; is_answered(&rt, alloc, b"+$?#3f", b"+$T05thread:01;#07")?);
+    assert!(rt; is_answered(&rt, alloc, b"$m80000000,4#55", b"+$07070707#9c")?);
+    assert!(rt; is_answered(&rt, alloc, b"$qfThreadInfo#bb", b"+$m01,02#5c")?);
     Ok(())
 }
 
 #[test]
 fn motions(rt: HostRuntime) -> Result<(), Fail> {
     let alloc = rt.alloc();
-    assert!(rt; is_answered(alloc, b"$vCont;s:2;c#c2", b"+$T05thread:02;#08")?);
+    assert!(rt; is_answered(&rt, alloc, b"$vCont;s:2;c#c2", b"+$T05thread:02;#08")?);
     assert!(rt;
         is_answered(
+            &rt,
             alloc,
             b"$Z0,80000008,4#a6$vCont;c#a8",
             b"+$OK#9a+$T05thread:01;hwbreak:;#60"
         )?
     );
-    assert!(rt; is_answered(alloc, b"$bc#c5", b"+$T05thread:01;replaylog:begin;#50")?);
+    assert!(rt; is_answered(&rt, alloc, b"$bc#c5", b"+$T05thread:01;replaylog:begin;#50")?);
     Ok(())
 }
 
 #[test]
 fn hostile_bytes(rt: HostRuntime) -> Result<(), Fail> {
     let alloc = rt.alloc();
-    assert!(rt; is_answered(alloc, b"noise$?#00$m90000000,4#56", b"-+$E01#a6")?);
-    assert!(rt; is_answered(alloc, b"$G00#a7-", b"+$E01#a6$E01#a6")?);
-    assert!(rt; is_answered(alloc, b"$k#6b$?#3f", b"+")?);
-    assert!(rt; is_answered(alloc, b"$D#44$?#3f", b"+$OK#9a")?);
+    assert!(rt; is_answered(&rt, alloc, b"noise$?#00$m90000000,4#56", b"-+$E01#a6")?);
+    assert!(rt; is_answered(&rt, alloc, b"$G00#a7-", b"+$E01#a6$E01#a6")?);
+    assert!(rt; is_answered(&rt, alloc, b"$k#6b$?#3f", b"+")?);
+    assert!(rt; is_answered(&rt, alloc, b"$D#44$?#3f", b"+$OK#9a")?);
     Ok(())
 }

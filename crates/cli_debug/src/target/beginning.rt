@@ -8,6 +8,7 @@ ghost use Rattle.laws_resume.specs.Starts.{journal_at_boot};
 use machine::Machine;
 use script::Script;
 use std::alloc::{AllocError, Global};
+use std::thread::Threads;
 
 /// Where a run begins, as often as asked.
 pub trait Beginning {
@@ -18,7 +19,7 @@ pub trait Beginning {
     ghost schedule: { Self → Schedule };
 
     /// A machine before its first event.
-    fn machine(&self, alloc: Global) -> Result<Machine, AllocError>
+    fn machine<R: Threads + Sync>(&self, rt: &R, alloc: Global) -> Result<Machine, AllocError>
         ensures new { IfOk result (λ m. IsNew m (start self.now)) }
         ensures journal { IfOk result (λ m. m.journal ≡ journal_at_boot) };
 

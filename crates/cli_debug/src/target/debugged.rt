@@ -11,6 +11,7 @@ use machine::Machine;
 use script::Script;
 use spec_reference::saved_machine::SavedHart;
 use std::alloc::{AllocError, Global};
+use std::thread::Threads;
 use sv_types::{Event, Verdict};
 
 /// A machine that is debugged: where its run begins, and where it stands.
@@ -42,11 +43,16 @@ impl<B: Beginning + Drop> DebuggedMachine<B> {
     ghost use Rattle.cli_debug.specs.Debugged.{StandsAt, run_from};
 
     /// A machine before the first of at most so many events.
-    pub fn new(alloc: Global, beginning: B, events: u64) -> Result<DebuggedMachine<B>, AllocError>
+    pub fn new<R: Threads + Sync>(
+        rt: &R,
+        alloc: Global,
+        beginning: B,
+        events: u64,
+    ) -> Result<DebuggedMachine<B>, AllocError>
         requires { events ≤ max_events }
         ensures { IfOk result (λ t. StandsAt B.start B.schedule t (run_from (B.start beginning) (first_events events (B.schedule beginning)))) }
     {
-        let machine = beginning.machine(alloc)?;
+        let machine = beginning.machine(rt, alloc)?;
         let mut script = beginning.script(alloc)?;
         let (next, left) = draw(&mut script, events);
         Ok(DebuggedMachine {
@@ -123,8 +129,8 @@ impl<B: Beginning + Drop> Target for DebuggedMachine<B> {
         told
     }
 
-    fn restart(&mut self, alloc: Global) -> Result<(), AllocError> {
-        let machine = self.beginning.machine(alloc)?;
+    fn restart<R: Threads + Sync>(&mut self, rt: &R, alloc: Global) -> Result<(), AllocError> {
+        let machine = self.beginning.machine(rt, alloc)?;
         let mut script = self.beginning.script(alloc)?;
         let (next, left) = draw(&mut script, self.events);
         self.machine = machine;

@@ -13,9 +13,11 @@ use debug_session::{Breakdown, serve};
 use host_io::Sink;
 use live_keys::Keys;
 use std::alloc::Global;
+use std::thread::Threads;
 
 /// Debugs a run of at most so many events: gdb's bytes come in by `keys`, and what is written on them goes out.
-pub fn debug<B: Beginning + Drop, K: Keys, O: Sink>(
+pub fn debug<R: Threads + Sync, B: Beginning + Drop, K: Keys, O: Sink>(
+    rt: &R,
     alloc: Global,
     beginning: B,
     events: u64,
@@ -30,6 +32,6 @@ pub fn debug<B: Beginning + Drop, K: Keys, O: Sink>(
     ensures headline { Debugs (run_from (B.start beginning) (first_events events (B.schedule beginning)))
         (K.state keys.old) (K.state keys.new) (O.state out.old) (O.state out.new) result }
 {
-    let mut target = DebuggedMachine::new(alloc, beginning, events)?;
-    serve(alloc, &mut target, keys, out)
+    let mut target = DebuggedMachine::new(rt, alloc, beginning, events)?;
+    serve(rt, alloc, &mut target, keys, out)
 }
