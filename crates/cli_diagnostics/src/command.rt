@@ -40,7 +40,7 @@ fn judge_command<R: Threads + Sync, A: Reread>(
             run_words(alloc, rest, files, most)
         }
         CommandName::Sweep => sweep_words(alloc, rest, files, most),
-        CommandName::Survey => survey_words(alloc, rest, files, most),
+        CommandName::Survey | CommandName::Debug => survey_words(alloc, rest, files, most),
         CommandName::Live(_) => live_words(alloc, rest, files, most),
         CommandName::Measure => measure_words(alloc, rest, files, most),
         CommandName::Convert => convert_words(rt, alloc, rest, files, most),

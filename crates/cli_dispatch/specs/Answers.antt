@@ -4,7 +4,7 @@ use Rattle.std.specs.Prelude.{◌≡◌, ◌<◌, ◌⊎◌, ℕ, List, Bool, tr
 use Rattle.std.specs.Result.{is_ok}
 use Rattle.sv_types.specs.declared.status.Status.{Status}
 use Rattle.host_io.specs.Outside.{FilesState, MaySaveUnder}
-use Rattle.cli_plans.specs.CommandLine.{judgement_of_words, live_judged, snap_judged, sweep_judged, shrink_judged, resume_judged, survey_judged}
+use Rattle.cli_plans.specs.CommandLine.{judgement_of_words, live_judged, snap_judged, sweep_judged, shrink_judged, resume_judged, survey_judged, debug_judged}
 use Rattle.cli_plans.specs.Plans.{Plan, plan_of, live_plan, snap_plan, survey_plan}
 use Rattle.cli_plans.specs.Reading.{MayFollow, IsNamed, SavesUnder}
 use Rattle.secvisor_cli.specs.Answers.{Outside, outside, Headline}
@@ -14,18 +14,20 @@ use Rattle.cli_live.specs.Replays.{LiveLine, live_line, HasEnded, Replays}
 use Rattle.cli_snap.specs.SnapReady.{out_of as snapshot_name}
 use Rattle.cli_snap.specs.SnapAnswers.{SnapHeadline}
 use Rattle.cli_survey.specs.SurveyAnswers.{SurveyHeadline}
+use Rattle.cli_debug.specs.DebugAnswers.{DebugHeadline, wire}
 use Rattle.cli_snap.specs.ResumePlans.{resume_plan}
 use Rattle.cli_trials.specs.SweepAnswers.{MayAsk as MaySweep, SweepHeadline, sweep_plan}
 use Rattle.cli_trials.specs.ShrinkAnswers.{MayAsk as MayShrink, ShrinkHeadline, out_of as small_script_name}
 use Rattle.cli_snap.specs.Showing.{name_in, held_shown}
 use Rattle.cli_snap.specs.Answers.{MayAsk, Headline as ShowHeadline, Answers as Shows}
 use Rattle.cli_dispatch.specs.declared.choice.TopCall.{TopCall}
-use Rattle.cli_dispatch.specs.declared.choice.TopCall.TheVariants.{Live, Snap, Sweep, Shrink, Resume, Show, Others, Survey}
+use Rattle.cli_dispatch.specs.declared.choice.TopCall.TheVariants.{Live, Snap, Sweep, Shrink, Resume, Show, Others, Survey, Debug}
 
 -- ---- what may be asked of the files
 
 abbrev pub MayAnswer : TopCall → List (List ℕ) → FilesState → Type 0
 MayAnswer Survey words files = MayFollow (survey_plan (survey_judged words)) files
+MayAnswer Debug words files = MayFollow (survey_plan (debug_judged words)) files
 MayAnswer Live words files = MayFollow (live_plan (live_judged words)) files × MaySaveUnder (script_name (live_judged words)) files
 MayAnswer Snap words files = MayFollow (snap_plan (snap_judged words)) files × MaySaveUnder (snapshot_name (snap_judged words)) files
 MayAnswer Sweep words files = MaySweep (sweep_judged words) files
@@ -55,6 +57,15 @@ pub record SurveyOwed (words : List (List ℕ)) (old new : LiveOutside) (answer 
   pub unread : is_ok (survey_judged words) ≡ false → new.files ≡ old.files
   pub unsaved : SavesNothing old.files new.files
   pub keys : new.keys ≡ old.keys
+
+-- `debug`
+pub record DebugOwed (words : List (List ℕ)) (old new : LiveOutside) (answer : Status) : Type 0 where
+  pub headline : DebugHeadline (debug_judged words) old.files new.files (wire old.keys old.sink) (wire new.keys new.sink) answer
+  pub read_fault : answer ≡ Status.ReadFault →
+      FailsToRead (survey_plan (debug_judged words)) old.files new.files ⊎ (old.keys.faults < new.keys.faults)
+  pub unread : is_ok (debug_judged words) ≡ false → new.files ≡ old.files
+  pub unsaved : SavesNothing old.files new.files
+  pub bench : new.bench ≡ old.bench
 
 -- `live` and `vlive`
 pub record LiveOwed (words : List (List ℕ)) (old new : LiveOutside) (answer : Status) : Type 0 where
@@ -117,6 +128,7 @@ pub record ShowOwed (words : List (List ℕ)) (old new : LiveOutside) (answer : 
 
 abbrev pub Owed : TopCall → List (List ℕ) → (old new : LiveOutside) → Status → Type 0
 Owed Survey words old new answer = SurveyOwed words old new answer
+Owed Debug words old new answer = DebugOwed words old new answer
 Owed Live words old new answer = LiveOwed words old new answer
 Owed Snap words old new answer = SnapOwed words old new answer
 Owed Sweep words old new answer = SweepOwed words old new answer

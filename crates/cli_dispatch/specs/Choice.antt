@@ -4,10 +4,11 @@ use Rattle.cli_plans.specs.declared.command_words.table.CommandName.{CommandName
 use Rattle.cli_plans.specs.declared.command_words.table.CommandName.TheVariants as command
 use Rattle.cli_plans.specs.Commands.{name_of}
 use Rattle.cli_dispatch.specs.declared.choice.TopCall.{TopCall}
-use Rattle.cli_dispatch.specs.declared.choice.TopCall.TheVariants.{Live, Snap, Sweep, Shrink, Resume, Show, Others, Survey}
+use Rattle.cli_dispatch.specs.declared.choice.TopCall.TheVariants.{Live, Snap, Sweep, Shrink, Resume, Show, Others, Survey, Debug}
 
 abbrev pub call_of : Option CommandName → TopCall
 call_of (Some command.Survey) = Survey
+call_of (Some command.Debug) = Debug
 call_of (Some (command.Live kind)) = Live
 call_of (Some command.Snap) = Snap
 call_of (Some command.Sweep) = Sweep

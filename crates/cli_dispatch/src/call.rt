@@ -7,7 +7,8 @@ ghost use Rattle.cli_dispatch.specs.Choice as spec;
 ghost use Rattle.cli_dispatch.specs.Answers.{MayAnswer, Owed};
 
 use crate::choice::{TopCall, top_call_of};
-use cli_live::secvisor_live;
+use cli_debug::secvisor_debug;
+use cli_live::{Host, secvisor_live};
 use cli_snap::resume::secvisor_resume;
 use cli_snap::secvisor_snap;
 use cli_snap::show::secvisor_show;
@@ -17,12 +18,10 @@ use cli_trials::sweep::{Progress, secvisor_sweep};
 use host_io::{Files, Sink};
 use live_keys::{Keys, Pace};
 use secvisor_cli::{Bench, Status, secvisor};
-use std::alloc::Global;
 use std::sync::Wait;
 use std::thread::Threads;
 
-/// Does all that the program does with these words: that of the command that the first of them names. Each parameter is a
-/// thing of its own outside of the program.
+/// Does all that the program does with these words: that of the command that the first of them names.
 pub fn answer<
     R: Threads + Wait + Sync,
     F: Files,
@@ -30,13 +29,11 @@ pub fn answer<
     O: Sink,
     P: Pace + Progress + Sync,
 >(
-    rt: &R,
-    alloc: Global,
+    host: &Host<'_, R, P>,
     words: &[String],
     files: &mut F,
     keys: &mut K,
     out: &mut O,
-    pace: &P,
     bench: &mut Bench,
 ) -> Status
     // Nothing but what the call that the words ask for may ask for may be asked for or saved.
@@ -57,8 +54,10 @@ pub fn answer<
     ensures saves { (F.state files.old).save_faults ≤ (F.state files.new).save_faults }
     ensures keys { (K.state keys.old).faults ≤ (K.state keys.new).faults }
 {
+    let Host { rt, alloc, pace } = *host;
     match top_call_of(words) {
         TopCall::Survey => secvisor_survey(rt, alloc, words, files, out, bench),
+        TopCall::Debug => secvisor_debug(rt, alloc, words, files, keys, out),
         TopCall::Live => secvisor_live(rt, alloc, words, files, keys, out, pace, bench),
         TopCall::Snap => secvisor_snap(rt, alloc, words, files, out, bench),
         TopCall::Sweep => secvisor_sweep(rt, alloc, words, files, out, pace),

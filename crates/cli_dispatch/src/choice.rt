@@ -9,6 +9,7 @@ use cli_plans::command_words::{CommandName, command_of_name};
 #[derive(Clone, Copy, Debug, PartialEq, Eq, Drop)]
 pub enum TopCall {
     Survey,
+    Debug,
     Live,
     Snap,
     Sweep,
@@ -34,6 +35,7 @@ fn call_of_name(name: &str) -> TopCall
 {
     match command_of_name(name) {
         Some(CommandName::Survey) => TopCall::Survey,
+        Some(CommandName::Debug) => TopCall::Debug,
         Some(CommandName::Live(_)) => TopCall::Live,
         Some(CommandName::Snap) => TopCall::Snap,
         Some(CommandName::Sweep) => TopCall::Sweep,

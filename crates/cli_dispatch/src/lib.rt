@@ -6,4 +6,5 @@ mod choice;
 
 pub use call::answer;
 pub use choice::{TopCall, top_call_of};
+pub use cli_live::Host;
 pub use cli_trials::sweep::Progress;

@@ -1,7 +1,9 @@
 -- The events that a script draws, one after another.
-use Rattle.std.proofs.Common.{◌≡◌, ℕ, zero, suc, ◌+◌, [], ◌∷◌, refl, ap, ◌∙◌, sym, arith, Some, Option, unwrap_or}
+use Rattle.std.proofs.Common.{if◌then◌else◌, Bool, true, false, subst, ◌≡◌, ℕ, zero, suc, ◌+◌, [], ◌∷◌, refl, ap, ◌∙◌, sym, arith, Some, Option, unwrap_or}
 use Rattle.sv_types.specs.declared.event.Event.{Event}
 use Rattle.sv_types.specs.Schedule.{Schedule, Listed, Rounds, Weave, Auto, Bursts, random_at, next_random, after_event, next_event, auto_event}
+use Rattle.sv_types.specs.declared.event.Event.TheVariants.{Turn, Beat, Tick}
+use Rattle.cli_live.specs.Coming.{IsKey}
 use Rattle.cli_live.specs.LiveRuns.{harts_of, HasDrawn}
 
 random_next : (n : ℕ) → next_random (random_at 0 n) ≡ random_at 0 (n + 1)
@@ -34,6 +36,15 @@ drawn_same n m script has same = has ∙ ap (λ (i : ℕ). Auto (harts_of script
 next_drawn : (n : ℕ) (script : Schedule) → HasDrawn n script → next_event script ≡ Some (auto_event (harts_of script) 0 n)
 unfolding random_at
 next_drawn n script has = ap next_event has
+
+no_key : (turn beat : Bool) (hart : ℕ) → IsKey (if turn then Turn hart else if beat then Beat else Tick 16) → ⊥
+no_key true beat hart is = is
+no_key false true hart is = is
+no_key false false hart is = is
+
+-- it is no key
+pub drawn_no_key : (harts n : ℕ) (event : Event) → event ≡ auto_event harts 0 n → IsKey event → ⊥
+drawn_no_key harts n event drawn is = no_key _ _ _ (subst (λ (e : Event). IsKey e) drawn is)
 
 -- the event that is drawn
 pub drawn_is : (n : ℕ) (script : Schedule) (event : Event) → HasDrawn n script → Some event ≡ next_event script → event ≡ auto_event (harts_of script) 0 n

@@ -3,6 +3,7 @@ use Rattle.std.proofs.Common.{◌≡◌, ◌≢◌, ◌≤◌, ◌+◌, ◌-◌,
 use Rattle.std.proofs.lemmas.List.{map-append, length-map}
 use Rattle.std.proofs.lemmas.Bool.{cases_Bool}
 use Rattle.sv_types.specs.ApprovedPages.{numbers_from}
+use Rattle.sv_types.proofs.PageNumbers.{numbers_length}
 use Rattle.sv_types.specs.Output.{run_status}
 use Rattle.sv_types.specs.Policies.{Rules}
 use Rattle.sv_types.specs.Schedule.{Schedule, auto_event, first_events, random_at}
@@ -28,8 +29,9 @@ use Rattle.live_keys.specs.Keys.{KeysState}
 use Rattle.live_keys.specs.Placed.{autos_between, events_between, keys_among, others_among}
 use Rattle.live_keys.specs.declared.live_key.LiveKey.{LiveKey}
 use Rattle.live_keys.proofs.Events.{numbers_join}
+use Rattle.cli_live.proofs.MadeEvents.{last_under, shown_early}
 use Rattle.cli_live.specs.Coming.{CameRunning}
-use Rattle.cli_live.specs.Drives.{BrokeOff, GoesOn, HasBroken, HasDriven, is_shown_early}
+use Rattle.cli_live.specs.Drives.{BrokeOff, GoesOn, HasBroken, HasDriven, IsShownEarly, MayShow}
 use Rattle.cli_live.specs.Inputs.{HasKeys}
 use Rattle.cli_live.specs.LiveRuns.{harts_of, events_made, IsUnderWay}
 use Rattle.cli_live.specs.declared.live_run.LiveRun.{LiveRun}
@@ -40,7 +42,7 @@ use Rattle.secvisor_cli.specs.Answers.{Writes}
 use Rattle.secvisor_cli.proofs.EndLemmas.{ran_writes, broken_writes}
 use Rattle.cli_live.specs.declared.ready.LiveReady.{LiveReady}
 use Rattle.cli_live.specs.LiveReady.{IsLiveFresh}
-use Rattle.cli_live.specs.LiveAnswers.{live_outside, IsScriptOf, SavesScript, StandsBehind, Reports, RunsLive}
+use Rattle.cli_live.specs.LiveAnswers.{live_outside, IsScriptOf, SavesScript, StandsBehind, BreaksLast, Reports, RunsLive}
 
 -- ---- the machine that is left
 
@@ -54,7 +56,7 @@ ran_stands first start events m old mid new is_new ran prefix = record {
   rest = subst (λ (k : SinkState). TookPrefix k new (machine_output m)) ran.taken prefix;
 }
 
-pub broken_stands : (early : Bool) (first : Machine) (start : State) (events : List Event) (m : Machine) (old new : SinkState) → IsNew first start → HasBroken early first start events m old new →
+pub broken_stands : (early : Type 0) (first : Machine) (start : State) (events : List Event) (m : Machine) (old new : SinkState) → IsNew first start → HasBroken early first start events m old new →
     StandsBehind start events m old new
 broken_stands early first start events m old new is_new b = record {
   cleared = b.cleared;
@@ -65,7 +67,7 @@ broken_stands early first start events m old new is_new b = record {
 }
 
 -- what the sink took before a write failed stands at the front of the output
-pub broken_prefix : (early : Bool) (first : Machine) (start : State) (events : List Event) (m : Machine) (old new : SinkState) → HasBroken early first start events m old new →
+pub broken_prefix : (early : Type 0) (first : Machine) (start : State) (events : List Event) (m : Machine) (old new : SinkState) → HasBroken early first start events m old new →
     TookPrefix old new (output (run start events))
 broken_prefix early first start events m old new b =
     let last : State = run start events in
@@ -141,7 +143,7 @@ ran_ends first start events m old mid new written is_new ran writes = record {
   bench = ran_stands first start events m old mid new is_new ran.run writes.prefix;
 }
 
-broken_ends : (early : Bool) (first : Machine) (start : State) (events : List Event) (m : Machine) (old new : SinkState) → IsNew first start → HasBroken early first start events m old new →
+broken_ends : (early : Type 0) (first : Machine) (start : State) (events : List Event) (m : Machine) (old new : SinkState) → IsNew first start → HasBroken early first start events m old new →
     EndsLive start events m old new (Err Write)
 broken_ends early first start events m old new is_new b = record {
   writes = broken_writes _ _ old new (broken_prefix early first start events m old new b) b.broke.faults;
@@ -164,16 +166,38 @@ ends_live live last ended start name f0 f1 old mid new result none is_new printe
 ends_live live last ended start name f0 f1 old mid new result none is_new printed drove r (inl broke) =
     subst (λ (s : SinkState). EndsLive start (events_made last) last.machine old s r.written) (sym (r.broke broke).1)
     (subst (λ (w : Result Status Trouble). EndsLive start (events_made last) last.machine old mid w) (sym (r.broke broke).0)
-    (broken_ends (is_shown_early last) live.machine start (events_made last) last.machine old mid is_new
+    (broken_ends (MayShow last) live.machine start (events_made last) last.machine old mid is_new
     ((drove.broke broke).broke live.machine start old (ran_none live.machine start old (events_made live) none is_new printed))))
+
+-- ---- the last event before a write that failed
+
+drawn_length : (harts n : ℕ) → length (first_events n (Schedule.Auto harts 0)) ≡ n
+drawn_length harts n =
+    ap (λ (es : List Event). length es) (first_drawn harts 0 n) ∙ length-map (numbers_from 0 n) (auto_event harts 0) ∙ numbers_length 0 n
+
+shown_as : (journal : List Event) (made n asked m : ℕ) (v w : Verdict) → made ≡ n → asked ≡ m → v ≡ w → IsShownEarly journal made asked v → IsShownEarly journal n m w
+shown_as journal made n asked m v w made_is asked_is is early =
+    subst (λ (x : Verdict). IsShownEarly journal n m x) is
+    (subst (λ (x : ℕ). IsShownEarly journal n x v) asked_is (subst (λ (x : ℕ). IsShownEarly journal x asked v) made_is early))
+
+broken_last : (early : Type 0) (first : Machine) (start : State) (journal asked : List Event) (m : Machine) (old new : SinkState) →
+    (early → IsShownEarly journal (length (others_among journal)) (length asked) (run start journal).journal.verdict) → HasBroken early first start journal m old new →
+    BreaksLast start journal asked old new
+broken_last early first start journal asked m old new shown b = record {
+  cleared = b.cleared;
+  rest = m.journal.printed;
+  printed = stands_printed m (run start journal) b.cleared b.stands;
+  broke = b.broke;
+  late = last_under early _ start journal b.cleared m.journal.printed shown b.late;
+}
 
 pub runs_live : (ready : LiveReady) (last : LiveRun) (ended : LiveEnd) (start : State) (f0 f1 : FilesState) (old mid new : SinkState) (k0 k1 : KeysState) (b0 : Option Machine)
     (result : Result Status Trouble) → IsLiveFresh ready → IsNew ready.live.machine start → DroveLive ready.live last ended old mid → HasKeys k0 k1 (keys_among (events_made last)) ended →
     others_among (events_made last) ≡ first_events last.journal.autos (Schedule.Auto (harts_of ready.live.script) 0) → last.journal.autos ≤ ready.live.events →
-    (ended.write_failed ≡ false → (last.journal.autos ≡ ready.live.events) ⊎ (last.machine.journal.verdict ≢ Running)) → harts_of last.script ≡ harts_of ready.live.script →
+    (ended.write_failed ≡ false → (last.journal.autos ≡ ready.live.events) ⊎ (last.machine.journal.verdict ≢ Running)) → harts_of last.script ≡ harts_of ready.live.script → last.events ≡ ready.live.events →
     Reports last ended ready.out.now f0 f1 mid new result →
     RunsLive start (first_events ready.live.events ready.live.script) ready.out.now (live_outside f0 old k0 b0) (live_outside f1 new k1 (Some last.machine)) result
-runs_live ready last ended start f0 f1 old mid new k0 k1 b0 result fresh is_new drove keys others most all same r =
+runs_live ready last ended start f0 f1 old mid new k0 k1 b0 result fresh is_new drove keys others most all same events r =
     let live : LiveRun = ready.live in
     let harts : ℕ = harts_of live.script in
     let ends : EndsLive start (events_made last) last.machine old new r.written =
@@ -191,6 +215,12 @@ runs_live ready last ended start f0 f1 old mid new k0 k1 b0 result fresh is_new 
       came = ends.came;
       written = r.written;
       broke = λ broke. (r.broke broke).0;
+      late = λ broke.
+          subst (λ (s : SinkState). BreaksLast start (events_made last) (first_events live.events live.script) old s) (sym (r.broke broke).1)
+          (broken_last (MayShow last) live.machine start (events_made last) (first_events live.events live.script) last.machine old mid
+          (λ shown. shown_as (events_made last) _ _ _ _ _ _ (sym (ap (λ (es : List Event). length es) others ∙ drawn_length harts last.journal.autos))
+          (events ∙ sym (ap (λ (s : Schedule). length (first_events live.events s)) (script_is live fresh.way fresh.autos) ∙ drawn_length harts live.events)) ends.verdict (shown_early last shown))
+          ((drove.broke broke).broke live.machine start old (ran_none live.machine start old (events_made live) (none_made live fresh.keys fresh.autos) is_new fresh.console)));
       writes = ends.writes;
       saved = r.saved;
       saves =

@@ -1,9 +1,8 @@
 -- Events that are made one after another, and what of the console is written.
-use Rattle.std.proofs.Common.{◌≡◌, ◌≤◌, ◌<◌, ◌+◌, ◌-◌, ◌^◌, ◌%◌, ◌==◌, ◌||◌, ◌≢◌, ℕ, ◌⊎◌, inl, inr, Bool, IsFalse, IsTrue, OnOk, OnErr}
+use Rattle.std.proofs.Common.{◌≡◌, ◌≤◌, ◌<◌, ◌+◌, ◌-◌, ◌^◌, ◌%◌, ◌≢◌, ℕ, ◌⊎◌, inl, inr, Bool, IsFalse, IsTrue, OnOk, OnErr}
 use Rattle.std.proofs.Common.{IsErr, Result, Ok, Err, true, false, List, [], ◌∷◌, ◌++◌, length, drop, refl, sym, ◌∙◌, ap, subst, arith}
 use Rattle.std.proofs.Common.{length-append}
 use Rattle.std.proofs.lemmas.List.{length-drop}
-use Rattle.std.proofs.lemmas.Bool.{eq-eqb}
 use Rattle.std.specs.Result.{is_err}
 use Rattle.sv_types.specs.Limits.{max_events, max_printed}
 use Rattle.sv_types.specs.declared.event.Event.{Event}
@@ -32,9 +31,10 @@ use Rattle.machine.specs.Limits.{max_counts}
 use Rattle.machine.specs.Repeats.{Makes}
 use Rattle.atomic_table.specs.Seated.{TableId}
 use Rattle.cli_live.specs.declared.live_run.LiveRun.{LiveRun}
+use Rattle.live_keys.specs.declared.line.Taker.{Taker}
 use Rattle.cli_live.specs.Coming.{CameRunning, IsKey, MayCome}
 use Rattle.cli_live.specs.LiveRuns.{harts_of, events_made, IsUnderWay, MayStep, count_of}
-use Rattle.cli_live.specs.Drives.{GoesOn, HasBroken, Breaks, BrokeOff, MayDrive, Driven, StaysUnderWay, Drives, has_ended, is_shown_early, shown_every}
+use Rattle.cli_live.specs.Drives.{GoesOn, ComesLast, EndsInScript, HasBroken, Breaks, BrokeOff, IsShownEarly, MayShow, shown_every, MayDrive, Driven, StaysUnderWay, Drives}
 use Rattle.cli_live.proofs.DrawnEvents.{same_harts}
 
 -- ---- printed bytes that are taken away twice
@@ -122,15 +122,15 @@ made_one m next flushed e s t may rest steps f made = record {
   };
 }
 
-pub broken_one : (m next : Machine) (e : Event) (s t : SinkState) → MayCome m.journal.verdict e → Makes m e next → BreaksOff s t next.journal.printed → (made : List Event) →
-    Breaks false made (made ++ e ∷ []) m next s t
-broken_one m next e s t may steps off made = record {
+pub broken_one : (m next : Machine) (e : Event) (s t : SinkState) → MayCome m.journal.verdict e → Makes m e next → BreaksOff s t next.journal.printed → IsTrue (flush_is_due next.journal.printed) → (made : List Event) →
+    Breaks ⊥ made (made ++ e ∷ []) m next s t
+broken_one m next e s t may steps off due made = record {
   broke = λ first start sink on. record {
     cleared = on.run.cleared;
     stands = stands_next start m next made e on.run.cleared on.run.stands steps;
     chain = reaches_more first start made m next next e on.run.chain steps.event (steps.stands (run start made) on.run.stands.stands) (cleared_none next);
     came = came_next start made m on.run.cleared e on.run.stands on.came may;
-    late = inl (record { front = made; last = e; split = refl; rest = ap flush_is_due (left_printed m (run start made) on.run.cleared on.run.stands) ∙ on.rest });
+    late = inl (record { front = made; last = e; split = refl; rest = ap flush_is_due (left_printed m (run start made) on.run.cleared on.run.stands) ∙ on.rest }, due);
     broke = subst (λ (k : SinkState). BreaksOff k t next.journal.printed) on.run.taken off;
   };
 }
@@ -150,14 +150,14 @@ shown m after s t none f made = record {
   };
 }
 
-pub broken_show : (m : Machine) (s t : SinkState) → BreaksOff s t m.journal.printed → (made : List Event) → Breaks true made made m m s t
+pub broken_show : (m : Machine) (s t : SinkState) → BreaksOff s t m.journal.printed → (made : List Event) → Breaks (Unit {0}) made made m m s t
 broken_show m s t off made = record {
   broke = λ first start sink on. record {
     cleared = on.run.cleared;
     stands = on.run.stands;
     chain = on.run.chain;
     came = on.came;
-    late = inr (refl, on.rest);
+    late = inr (tt, on.rest);
     broke = subst (λ (k : SinkState). BreaksOff k t m.journal.printed) on.run.taken off;
   };
 }
@@ -173,63 +173,59 @@ on_then {s = s} {t = t} {u = u} x y = record {
   ran = λ first start sink on. y.ran first start sink (x.ran first start sink on);
 }
 
-pub on_breaks : {early : Bool} {made more all : List Event} {a b c : Machine} {s t u : SinkState} → GoesOn made more a b s t → Breaks early more all b c t u → Breaks early made all a c s u
+pub on_breaks : {early : Type 0} {made more all : List Event} {a b c : Machine} {s t u : SinkState} → GoesOn made more a b s t → Breaks early more all b c t u → Breaks early made all a c s u
 on_breaks x y = record { broke = λ first start sink on. y.broke first start sink (x.ran first start sink on) }
 
 pub on_to : {made more all : List Event} {a b : Machine} {s t : SinkState} → GoesOn made more a b s t → more ≡ all → GoesOn made all a b s t
 on_to {made = made} {a = a} {b = b} {s = s} {t = t} x same = subst (λ (es : List Event). GoesOn made es a b s t) same x
 
-pub breaks_to : {early : Bool} {made more all : List Event} {a b : Machine} {s t : SinkState} → Breaks early made more a b s t → more ≡ all → Breaks early made all a b s t
+pub breaks_to : {early : Type 0} {made more all : List Event} {a b : Machine} {s t : SinkState} → Breaks early made more a b s t → more ≡ all → Breaks early made all a b s t
 breaks_to {early = early} {made = made} {a = a} {b = b} {s = s} {t = t} x same = subst (λ (es : List Event). Breaks early made es a b s t) same x
 
-late_under : (P Q : Type 0) (a b : Bool) → (IsTrue a → IsTrue b) → P ⊎ (IsTrue a × Q) → P ⊎ (IsTrue b × Q)
-late_under P Q a b over (inl due) = inl due
-late_under P Q a b over (inr it) = inr (over it.0, it.1)
+pub last_under : (early other : Type 0) (start : State) (events : List Event) (cleared rest : List ℕ) → (early → other) → ComesLast early start events cleared rest →
+    ComesLast other start events cleared rest
+last_under early other start events cleared rest over (inl due) = inl due
+last_under early other start events cleared rest over (inr it) = inr (over it.0, it.1)
 
-breaks_under : (a b : Bool) (made more : List Event) (old new : Machine) (s t : SinkState) → (IsTrue a → IsTrue b) → Breaks a made more old new s t → Breaks b made more old new s t
-breaks_under a b made more old new s t over x = record {
+pub breaks_under : {early other : Type 0} {made more : List Event} {a b : Machine} {s t : SinkState} → (early → other) → Breaks early made more a b s t → Breaks other made more a b s t
+breaks_under {early = early} {other = other} {more = more} {b = b} {t = t} over x = record {
   broke = λ first start sink on.
-      let it : HasBroken a first start more new sink t = x.broke first start sink on in
+      let it : HasBroken early first start more b sink t = x.broke first start sink on in
       record {
         cleared = it.cleared;
         stands = it.stands;
         chain = it.chain;
         came = it.came;
-        late = late_under (ComesDue start more it.cleared) (IsFalse (flush_is_due new.journal.printed)) a b over it.late;
+        late = last_under early other start more it.cleared b.journal.printed over it.late;
         broke = it.broke;
       };
 }
 
 -- what came due with the last event did so whatever is shown early
-pub breaks_due : {early : Bool} {made more : List Event} {a b : Machine} {s t : SinkState} → Breaks false made more a b s t → Breaks early made more a b s t
-breaks_due {early = early} {made = made} {more = more} {a = a} {b = b} {s = s} {t = t} x = breaks_under false early made more a b s t (λ never. absurd (cc never)) x
+pub breaks_due : {early : Type 0} {made more : List Event} {a b : Machine} {s t : SinkState} → Breaks ⊥ made more a b s t → Breaks early made more a b s t
+breaks_due x = breaks_under (λ never. absurd never) x
 
-pub breaks_shown : {early : Bool} {made more : List Event} {a b : Machine} {s t : SinkState} → IsTrue early → Breaks true made more a b s t → Breaks early made more a b s t
-breaks_shown {early = early} {made = made} {more = more} {a = a} {b = b} {s = s} {t = t} is x = breaks_under true early made more a b s t (λ _. is) x
+pub breaks_shown : {early : Type 0} {made more : List Event} {a b : Machine} {s t : SinkState} → early → Breaks (Unit {0}) made more a b s t → Breaks early made more a b s t
+breaks_shown is x = breaks_under (λ _. is) x
 
 -- ---- when the console is shown early
 
-or_left : (a b : Bool) → a ≡ true → (a || b) ≡ true
-or_left true b is = refl
-or_left false b is = absurd (cc is)
+pub shown_often : (l : LiveRun) → l.journal.autos % shown_every ≡ 0 → EndsInScript (events_made l) → MayShow l
+unfolding MayShow
+shown_often l often drawn = inl (often, drawn)
 
-or_right : (a b : Bool) → b ≡ true → (a || b) ≡ true
-or_right true b is = refl
-or_right false b is = is
+pub shown_last : (l : LiveRun) → (l.journal.autos ≡ l.events) ⊎ (l.machine.journal.verdict ≢ Running) → MayShow l
+unfolding MayShow
+shown_last l last = inr last
 
-is_over : (v : Verdict) → v ≢ Running → has_ended v ≡ true
-is_over Running over = absurd (over refl)
-is_over Shutdown over = refl
-is_over (Stopped rule hart turn) over = refl
+pub shown_early : (l : LiveRun) → MayShow l → IsShownEarly (events_made l) l.journal.autos l.events l.machine.journal.verdict
+unfolding MayShow
+shown_early l shown = shown
 
-pub shown_often : (l : LiveRun) → l.journal.autos % shown_every ≡ 0 → is_shown_early l ≡ true
-shown_often l is = or_left (l.journal.autos % shown_every == 0) _ (ap (λ (n : ℕ). n == 0) is)
-
-pub shown_last : (l : LiveRun) → (l.journal.autos ≡ l.events) ⊎ (l.machine.journal.verdict ≢ Running) → is_shown_early l ≡ true
-shown_last l (inl all) =
-    or_right (l.journal.autos % shown_every == 0) _ (or_left (l.journal.autos == l.events) _ (eq-eqb l.journal.autos l.events all))
-shown_last l (inr over) =
-    or_right (l.journal.autos % shown_every == 0) _ (or_right (l.journal.autos == l.events) _ (is_over l.machine.journal.verdict over))
+-- whatever was taken of the line
+pub broke_taken : (old mid : LiveRun) (taker : Taker) (s t : SinkState) → BrokeOff old mid s t → BrokeOff old (record mid { taker = taker }) s t
+unfolding MayShow
+broke_taken old mid taker s t off = off
 
 -- ---- what a sink keeps
 
@@ -257,9 +253,9 @@ pub err_map : {T E : Type 0} (r : Result T E) (P Q : Type 0) → (P → Q) → O
 err_map (Ok x) P Q f p = tt
 err_map (Err e) P Q f p = f p
 
-pub err_both : {T E : Type 0} (r : Result T E) (P Q S : Type 0) → (P → Q → S) → OnErr r P → OnErr r Q → OnErr r S
-err_both (Ok x) P Q S f p q = tt
-err_both (Err e) P Q S f p q = f p q
+pub err_three : {T E : Type 0} (r : Result T E) (P Q S U : Type 0) → (P → Q → S → U) → OnErr r P → OnErr r Q → OnErr r S → OnErr r U
+err_three (Ok x) P Q S U f p q s = tt
+err_three (Err e) P Q S U f p q s = f p q s
 
 -- ---- one drive after another, and what fails after it
 

@@ -1,10 +1,10 @@
 -- What becomes of a run while more events are made, and the console's bytes are written.
-use Rattle.std.specs.Prelude.{◌≡◌, ◌⊎◌, ◌<◌, ◌%◌, ◌==◌, ◌||◌, ℕ, List, length, Bool, true, false, IsTrue, IsFalse, Result, OnOk, OnErr}
+use Rattle.std.specs.Prelude.{◌≡◌, ◌≢◌, ◌⊎◌, ◌<◌, ◌%◌, ℕ, List, [], ◌∷◌, ◌++◌, length, IsTrue, IsFalse, Result, OnOk, OnErr}
 use Rattle.atomic_table.specs.Seated.{TableId}
 use Rattle.sv_types.specs.Limits.{max_printed}
 use Rattle.sv_types.specs.declared.event.Event.{Event}
 use Rattle.sv_types.specs.declared.event.Verdict.{Verdict}
-use Rattle.sv_types.specs.declared.event.Verdict.TheVariants.{Running, Shutdown, Stopped}
+use Rattle.sv_types.specs.declared.event.Verdict.TheVariants.{Running}
 use Rattle.spec_reference.specs.States.{State}
 use Rattle.spec_reference.specs.Run.{run}
 use Rattle.spec_hardware.specs.Machine.{Machine}
@@ -12,7 +12,7 @@ use Rattle.spec_hardware.specs.Reaches.{ReachesFrom}
 use Rattle.host_io.specs.Outside.{SinkState, MayWrite, after_taking, BreaksOff}
 use Rattle.machine.specs.Standing.{Stands}
 use Rattle.machine.specs.Console.{flush_is_due, ComesDue, HasTaken, HasRun}
-use Rattle.cli_live.specs.Coming.{CameRunning}
+use Rattle.cli_live.specs.Coming.{IsKey, CameRunning}
 use Rattle.cli_live.specs.LiveRuns.{harts_of, events_made, IsUnderWay, MayGoOn}
 use Rattle.cli_live.specs.declared.live_run.LiveRun.{LiveRun}
 
@@ -27,18 +27,38 @@ pub record GoesOn (made more : List Event) (old new : Machine) (before after : S
   pub taken : HasTaken before after
   pub ran : (first : Machine) (start : State) (sink : SinkState) → HasDriven first start made old sink before → HasDriven first start more new sink after
 
--- The events were made, each of them but keys while the machine ran, and a write of console bytes failed: they came due with the
--- last event, or aren't due yet, and were to be shown early.
-pub record HasBroken (early : Bool) (first : Machine) (start : State) (events : List Event) (machine : Machine) (old new : SinkState) : Type 0 where
+-- the last of these events is no key
+pub record EndsInScript (events : List Event) : Type 0 where
+  pub front : List Event
+  pub last : Event
+  pub split : front ++ last ∷ [] ≡ events
+  pub drawn : IsKey last → ⊥
+
+-- of so many events of the script one has the console shown after it, whether or not it is due
+abbrev pub shown_every : ℕ
+shown_every = 4096
+
+-- the console is shown early after such an event, before the next key, and once no more events of the script are made
+abbrev pub IsShownEarly : List Event → (made asked : ℕ) → Verdict → Type 0
+IsShownEarly events made asked verdict =
+    ((made % shown_every ≡ 0) × EndsInScript events) ⊎ ((made ≡ asked) ⊎ (verdict ≢ Running))
+
+-- These bytes of the console stand after the last of the events: they came due with it, or aren't due yet, and are shown early.
+abbrev pub ComesLast : (early : Type 0) → State → List Event → (cleared rest : List ℕ) → Type 0
+ComesLast early start events cleared rest =
+    (ComesDue start events cleared × IsTrue (flush_is_due rest)) ⊎ (early × IsFalse (flush_is_due rest))
+
+-- The events were made, each of them but keys while the machine ran, and then a write of the console's bytes failed.
+pub record HasBroken (early : Type 0) (first : Machine) (start : State) (events : List Event) (machine : Machine) (old new : SinkState) : Type 0 where
   pub cleared : List ℕ
   pub stands : Stands machine cleared (run start events)
   pub chain : ReachesFrom first start events machine
   pub came : CameRunning start events
-  pub late : ComesDue start events cleared ⊎ (IsTrue early × IsFalse (flush_is_due machine.journal.printed))
+  pub late : ComesLast early start events cleared machine.journal.printed
   pub broke : BreaksOff (after_taking old cleared) new machine.journal.printed
 
 -- whichever run had made the events so far has made these, and then a write failed
-pub record Breaks (early : Bool) (made more : List Event) (old new : Machine) (before after : SinkState) : Type 0 where
+pub record Breaks (early : Type 0) (made more : List Event) (old new : Machine) (before after : SinkState) : Type 0 where
   pub broke : (first : Machine) (start : State) (sink : SinkState) → HasDriven first start made old sink before →
       HasBroken early first start more new sink after
 
@@ -46,22 +66,13 @@ pub record Breaks (early : Bool) (made more : List Event) (old new : Machine) (b
 abbrev pub WentOn : (old new : LiveRun) (before after : SinkState) → Type 0
 WentOn old new before after = GoesOn (events_made old) (events_made new) old.machine new.machine before after
 
-abbrev pub has_ended : Verdict → Bool
-has_ended Running = false
-has_ended Shutdown = true
-has_ended (Stopped rule hart turn) = true
-
--- of so many events of the script one has the console shown after it, whether or not it is due
-abbrev pub shown_every : ℕ
-shown_every = 4096
-
--- the console is shown early after such an event, and once no more events of the script are made
-abbrev pub is_shown_early : LiveRun → Bool
-is_shown_early l = l.journal.autos % shown_every == 0 || (l.journal.autos == l.events || has_ended l.machine.journal.verdict)
+-- its console is shown early
+unfoldable pub MayShow : LiveRun → Type 0
+MayShow l = IsShownEarly (events_made l) l.journal.autos l.events l.machine.journal.verdict
 
 -- it has, and then a write failed
 abbrev pub BrokeOff : (old new : LiveRun) (before after : SinkState) → Type 0
-BrokeOff old new before after = Breaks (is_shown_early new) (events_made old) (events_made new) old.machine new.machine before after
+BrokeOff old new before after = Breaks (MayShow new) (events_made old) (events_made new) old.machine new.machine before after
 
 -- a live run may be driven: the sink may take its console, it may make events, and its keys come by this line
 pub record MayDrive (l : LiveRun) (id : TableId) (to : SinkState) : Type 0 where

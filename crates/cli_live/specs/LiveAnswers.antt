@@ -10,13 +10,14 @@ use Rattle.spec_reference.specs.Run.{run}
 use Rattle.spec_hardware.specs.Machine.{Machine}
 use Rattle.spec_hardware.specs.Reaches.{Reaches}
 use Rattle.script.specs.AutoScripts.{events_of_text, first_refused}
-use Rattle.host_io.specs.Outside.{FilesState, SinkState, after_taking, TookPrefix}
+use Rattle.host_io.specs.Outside.{FilesState, SinkState, after_taking, BreaksOff, TookPrefix}
 use Rattle.live_keys.specs.Keys.{KeysState}
 use Rattle.live_keys.specs.Placed.{keys_among, others_among}
 use Rattle.machine.specs.Standing.{Stands, machine_output}
 use Rattle.cli_live.specs.declared.threads.LiveEnd.{LiveEnd}
 use Rattle.cli_live.specs.declared.live_run.LiveRun.{LiveRun}
 use Rattle.cli_live.specs.Coming.{CameRunning}
+use Rattle.cli_live.specs.Drives.{ComesLast, IsShownEarly}
 use Rattle.cli_live.specs.Inputs.{HasKeys}
 use Rattle.cli_live.specs.LiveRuns.{harts_of, events_made}
 use Rattle.cli_plans.specs.declared.refusal.Refusal.{Refusal}
@@ -64,6 +65,16 @@ pub record StandsBehind (start : State) (events : List Event) (machine : Machine
   pub reaches : Reaches first start events machine
   pub rest : TookPrefix (after_taking old cleared) new (machine_output machine)
 
+-- A write failed, and no event was made after it: of the console's bytes the sink took some before, and broke off in the rest, which
+-- came due with the last event of the journal, or was shown early.
+pub record BreaksLast (start : State) (journal asked : List Event) (old new : SinkState) : Type 0 where
+  pub cleared : List ℕ
+  pub rest : List ℕ
+  pub printed : cleared ++ rest ≡ (run start journal).journal.printed
+  pub broke : BreaksOff (after_taking old cleared) new rest
+  pub late :
+      ComesLast (IsShownEarly journal (length (others_among journal)) (length asked) (run start journal).journal.verdict) start journal cleared rest
+
 -- ---- the answer
 
 -- where a read of the keys failed, the status says so
@@ -101,6 +112,8 @@ pub record RunsLive (start : State) (asked : List Event) (name : List ℕ) (old 
   -- how writing ended
   pub written : Result Status Trouble
   pub broke : ended.write_failed ≡ true → written ≡ Err Write
+  -- the machine's loop ended at the write that failed
+  pub late : ended.write_failed ≡ true → BreaksLast start journal asked old.sink new.sink
   pub writes : Writes (run_status (run start journal).journal.verdict) (output (run start journal)) old.sink new.sink written
   -- and how saving did
   pub saved : Result Status Trouble

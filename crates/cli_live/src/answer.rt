@@ -20,6 +20,7 @@ ghost use Rattle.cli_live.specs.Replays.{LiveLine, live_line, HasEnded, Replays}
 ghost use Rattle.host_io.specs.Outside.{MayWrite, MaySaveUnder};
 ghost use Rattle.spec_processor.specs.Counters.{CanCount};
 
+use crate::host::Host;
 use crate::live_run::LiveRun;
 use crate::ready::{LiveReady, prepare_live};
 use crate::threads::LiveEnd;
@@ -94,16 +95,13 @@ fn report<F: Files, O: Sink>(
     after_reading(end.read_failed, saved)
 }
 
-// The name for the script is tried; what is ready is run, with its keys, and the machine stands on the bench from then on. Each parameter is a thing of its own
-// outside of the program.
+// The name for the script is tried; what is ready is run, with its keys, and the machine stands on the bench from then on.
 fn carry_out<R: Threads + Wait + Sync, F: Files, K: Keys + Send, O: Sink, P: Pace + Sync>(
-    rt: &R,
-    alloc: Global,
+    host: &Host<'_, R, P>,
     ready: LiveReady<'_>,
     files: &mut F,
     keys: &mut K,
     out: &mut O,
-    pace: &P,
     bench: &mut Bench,
 ) -> Result<Status, Trouble>
     requires fresh { IsLiveFresh ready }
@@ -123,22 +121,20 @@ fn carry_out<R: Threads + Wait + Sync, F: Files, K: Keys + Send, O: Sink, P: Pac
         source,
         out: name,
     } = ready;
-    let end = live.run(rt, source, keys, out, pace);
-    let result = report(alloc, &live, end, name, files, out);
+    let end = live.run(host, source, keys, out);
+    let result = report(host.alloc, &live, end, name, files, out);
     let LiveRun { machine, .. } = live;
     bench.machine = Some(machine);
     result
 }
 
-// What the words ask for is made ready and run, or refused. Each parameter is a thing of its own outside of the program.
+// What the words ask for is made ready and run, or refused.
 fn answer<R: Threads + Wait + Sync, F: Files, K: Keys + Send, O: Sink, P: Pace + Sync>(
-    rt: &R,
-    alloc: Global,
+    host: &Host<'_, R, P>,
     words: &[String],
     files: &mut F,
     keys: &mut K,
     out: &mut O,
-    pace: &P,
     bench: &mut Bench,
 ) -> Result<Status, Trouble>
     requires permitted { MayFollow (live_plan (live_judged (map string_bytes words.now))) (F.state files.old) }
@@ -151,9 +147,9 @@ fn answer<R: Threads + Wait + Sync, F: Files, K: Keys + Send, O: Sink, P: Pace +
         (live_outside (F.state files.old) (O.state out.old) (K.state keys.old) bench.old.machine)
         (live_outside (F.state files.new) (O.state out.new) (K.state keys.new) bench.new.machine) result }
 {
-    match prepare_live(rt, alloc, words, files) {
-        Ok(ready) => carry_out(rt, alloc, ready, files, keys, out, pace, bench),
-        Err(Stop::Refused(refusal)) => refuse(alloc, &refusal, out),
+    match prepare_live(host.rt, host.alloc, words, files) {
+        Ok(ready) => carry_out(host, ready, files, keys, out, bench),
+        Err(Stop::Refused(refusal)) => refuse(host.alloc, &refusal, out),
         Err(Stop::Memory) => Err(Trouble::Memory),
     }
 }
@@ -214,5 +210,6 @@ pub fn secvisor_live<R: Threads + Wait + Sync, F: Files, K: Keys + Send, O: Sink
     ensures unsaved { (is_refusal result ≡ true) ⊎ (result ≡ Status.Memory) →
         ((F.state files.new).held ≡ (F.state files.old).held) × ((F.state files.new).save_faults ≡ (F.state files.old).save_faults) }
 {
-    status_of_end(answer(rt, alloc, words, files, keys, out, pace, bench))
+    let host = Host { rt, alloc, pace };
+    status_of_end(answer(&host, words, files, keys, out, bench))
 }

@@ -3,8 +3,8 @@ ghost use Rattle.std.specs.Prelude.{◌≡◌, ◌≢◌, ◌<◌, ◌≤◌, �
 ghost use Rattle.sv_types.specs.Limits.{max_events};
 ghost use Rattle.sv_types.specs.declared.event.Verdict.TheVariants.{Running};
 ghost use Rattle.live_keys.specs.Line.{TookAllOf};
-ghost use Rattle.cli_live.specs.LiveRuns.{MakesFew, MayGoOn};
-ghost use Rattle.cli_live.specs.Drives.{Drives, MayDrive};
+ghost use Rattle.cli_live.specs.LiveRuns.{MakesFew, MayGoOn, events_made};
+ghost use Rattle.cli_live.specs.Drives.{EndsInScript, Drives, MayDrive};
 ghost use Rattle.host_io.specs.Outside.{MayWrite};
 
 use crate::live_run::LiveRun;
@@ -21,6 +21,7 @@ const SHOWN_EVERY: u64 = 4096;
 fn show_often<O: Sink>(live: &mut LiveRun, out: &mut O) -> Result<(), Failed>
     requires sink { MayWrite (O.state out.old) }
     requires on { MayGoOn live.old }
+    requires drawn { EndsInScript (events_made live.old) }
     ensures drives { Drives result live.old live.new (O.state out.old) (O.state out.new) }
     ensures taker { live.new.taker ≡ live.old.taker }
     ensures script { live.new.script ≡ live.old.script }

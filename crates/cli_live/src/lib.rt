@@ -3,6 +3,7 @@
 
 mod answer;
 mod driving;
+mod host;
 mod laws;
 mod live_run;
 mod making;
@@ -10,4 +11,5 @@ mod ready;
 mod threads;
 
 pub use answer::secvisor_live;
+pub use host::Host;
 pub use laws::law_live_ends;

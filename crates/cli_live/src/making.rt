@@ -1,5 +1,5 @@
 // Events that are made at once, each with its place in the journal, and the console.
-ghost use Rattle.std.specs.Prelude.{◌≡◌, ◌<◌, ◌≤◌, ◌+◌, ◌-◌, ◌++◌, ◌∷◌, ℕ, List, [], length, vec_len, true, false, OnOk, OnErr};
+ghost use Rattle.std.specs.Prelude.{◌≡◌, ◌<◌, ◌≤◌, ◌+◌, ◌-◌, ◌++◌, ◌∷◌, ℕ, List, [], length, vec_len, OnOk, OnErr};
 ghost use Rattle.sv_types.specs.Limits.{max_printed, max_events};
 ghost use Rattle.sv_types.specs.declared.event.Event.{Event as Made};
 ghost use Rattle.sv_types.specs.declared.event.Verdict.TheVariants.{Running};
@@ -9,8 +9,8 @@ ghost use Rattle.live_keys.specs.Line.{max_keys, TookAllOf};
 ghost use Rattle.live_keys.specs.Journal.{events_of, key_bytes, HasRoom};
 ghost use Rattle.machine.specs.Standing.{HasState};
 ghost use Rattle.cli_live.specs.Coming.{IsKey, MayCome};
-ghost use Rattle.cli_live.specs.LiveRuns.{MayGoOn, MayStep};
-ghost use Rattle.cli_live.specs.Drives.{GoesOn, Breaks, Drives, MayDrive};
+ghost use Rattle.cli_live.specs.LiveRuns.{MayGoOn, MayStep, events_made};
+ghost use Rattle.cli_live.specs.Drives.{GoesOn, Breaks, EndsInScript, Drives, MayDrive};
 ghost use Rattle.host_io.specs.Outside.{MayWrite};
 
 use crate::live_run::LiveRun;
@@ -24,7 +24,7 @@ use sv_types::Event;
 pub fn show_console<O: Sink>(machine: &mut Machine, out: &mut O) -> Result<(), Failed>
     requires sink { MayWrite (O.state out.old) }
     ensures on { OnOk result ((made : List Made) → GoesOn made made machine.old machine.new (O.state out.old) (O.state out.new)) }
-    ensures broke { OnErr result ((made : List Made) → Breaks true made made machine.old machine.new (O.state out.old) (O.state out.new)) }
+    ensures broke { OnErr result ((made : List Made) → Breaks (Unit {0}) made made machine.old machine.new (O.state out.old) (O.state out.new)) }
     ensures none { OnOk result (machine.new.journal.printed ≡ []) }
     ensures cleared { Cleared machine.old machine.new }
 {
@@ -39,7 +39,7 @@ fn make<O: Sink>(machine: &mut Machine, out: &mut O, event: Event) -> Result<(),
     requires may { MayStep machine.old }
     requires came { MayCome machine.old.journal.verdict event }
     ensures on { OnOk result ((made : List Made) → GoesOn made (made ++ event ∷ []) machine.old machine.new (O.state out.old) (O.state out.new)) }
-    ensures broke { OnErr result ((made : List Made) → Breaks false made (made ++ event ∷ []) machine.old machine.new (O.state out.old) (O.state out.new)) }
+    ensures broke { OnErr result ((made : List Made) → Breaks ⊥ made (made ++ event ∷ []) machine.old machine.new (O.state out.old) (O.state out.new)) }
     ensures room { OnOk result (length machine.new.journal.printed < max_printed) }
     ensures state { HasState machine.new }
     ensures counts { (n : ℕ) → CountsAtMost n machine.old.journal.counts → CountsAtMost (n + 1) machine.new.journal.counts }
@@ -63,7 +63,7 @@ fn make_key<O: Sink>(
     ensures on { OnOk result ((harts : ℕ) →
         GoesOn (events_of harts journal.old) (events_of harts journal.new) machine.old machine.new (O.state out.old) (O.state out.new)) }
     ensures broke { OnErr result ((harts : ℕ) →
-        Breaks false (events_of harts journal.old) (events_of harts journal.new) machine.old machine.new (O.state out.old) (O.state out.new)) }
+        Breaks ⊥ (events_of harts journal.old) (events_of harts journal.new) machine.old machine.new (O.state out.old) (O.state out.new)) }
     ensures keys { key_bytes journal.new ≡ key_bytes journal.old ++ byte ∷ [] }
     ensures places { HasRoom journal.new }
     ensures autos { journal.new.autos ≡ journal.old.autos }
@@ -105,6 +105,7 @@ pub fn make_auto<O: Sink>(live: &mut LiveRun, out: &mut O) -> Result<(), Failed>
     requires autos { live.old.journal.autos < max_events }
     requires running { live.old.machine.journal.verdict ≡ Running }
     ensures drives { Drives result live.old live.new (O.state out.old) (O.state out.new) }
+    ensures drawn { EndsInScript (events_made live.new) }
     ensures taker { live.new.taker ≡ live.old.taker }
     ensures autos { live.new.journal.autos ≡ live.old.journal.autos + 1 }
 {

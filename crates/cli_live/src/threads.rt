@@ -12,6 +12,7 @@ ghost use Rattle.cli_live.specs.Inputs.{HasKeys};
 ghost use Rattle.host_io.specs.Outside.{MayWrite};
 ghost use Rattle.spec_processor.specs.Counters.{CanCount};
 
+use crate::host::Host;
 use crate::live_run::LiveRun;
 use host_io::{Failed, Sink};
 use live_keys::{Fed, Feeder, KeyLine, Keys, Pace, law_journal_events};
@@ -66,12 +67,11 @@ impl LiveRun {
     // Two threads, if a second one can be made, and else one after the other. The line's ends are parameters of their own.
     fn feed_and_drive<R: Threads + Wait + Sync, K: Keys + Send, O: Sink, P: Pace + Sync>(
         &mut self,
-        rt: &R,
+        host: &Host<'_, R, P>,
         line: &KeyLine,
         feeder: Feeder,
         keys: &mut K,
         out: &mut O,
-        pace: &P,
     ) -> (Fed, Result<(), Failed>)
         requires feeder { (feeder.line ≡ line.now) × (feeder.bytes ≡ []) }
         requires reads { CanCount (K.state keys.old).faults }
@@ -82,6 +82,8 @@ impl LiveRun {
         ensures console { OnOk result.1 (self.new.machine.journal.printed ≡ []) }
         ensures autos { self.new.journal.autos ≤ self.old.events }
     {
+        let rt = host.rt;
+        let pace = host.pace;
         line.feed_beside(
             rt,
             feeder,
@@ -95,11 +97,10 @@ impl LiveRun {
     /// made, all keys are read first. It returns when the keys have ended and the machine has made its events.
     pub fn run<R: Threads + Wait + Sync, K: Keys + Send, O: Sink, P: Pace + Sync>(
         &mut self,
-        rt: &R,
+        host: &Host<'_, R, P>,
         source: KeySource,
         keys: &mut K,
         out: &mut O,
-        pace: &P,
     ) -> LiveEnd
         requires source { (source.feeder.line ≡ source.line) × (source.feeder.bytes ≡ []) }
         requires reads { CanCount (K.state keys.old).faults }
@@ -117,12 +118,13 @@ impl LiveRun {
         ensures end { result.write_failed ≡ false → (self.new.journal.autos ≡ self.old.events) ⊎ (self.new.machine.journal.verdict ≢ Running) }
         ensures way { IsUnderWay self.new }
         ensures harts { harts_of self.new.script ≡ harts_of self.old.script }
+        ensures events { self.new.events ≡ self.old.events }
     {
         let KeySource { line, feeder } = source;
-        let (fed, driven) = self.feed_and_drive(rt, &line, feeder, keys, out, pace);
+        let (fed, driven) = self.feed_and_drive(host, &line, feeder, keys, out);
         let read_failed = fed.failed;
         line.settle(fed, &mut self.taker);
-        let ended = self.drive_again(rt, out, &line, pace, driven);
+        let ended = self.drive_again(host.rt, out, &line, host.pace, driven);
         self.taker.law_taken();
         law_journal_events();
         LiveEnd {

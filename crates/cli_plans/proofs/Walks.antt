@@ -262,6 +262,8 @@ words_read (command.Run kind) words known plain =
     let it = run_read kind words known plain in record { taken = it.taken; has = it.has; finds = λ rows e. it.is rows _ e refl }
 words_read command.Survey words known plain =
     let it = survey_read words known plain in record { taken = it.taken; has = it.has; finds = λ rows e. it.is rows _ e refl }
+words_read command.Debug words known plain =
+    let it = survey_read words known plain in record { taken = it.taken; has = it.has; finds = λ rows e. it.is rows _ e refl }
 words_read (command.Live kind) words known plain =
     let it = live_read kind words known plain in record { taken = it.taken; has = it.has; finds = λ rows e. it.is rows _ e refl }
 words_read command.Snap words known plain =

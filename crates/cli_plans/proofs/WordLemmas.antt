@@ -33,7 +33,7 @@ use Rattle.cli_plans.specs.CommandLine.{drawn_order_of, resume_words, resume_of,
 use Rattle.cli_plans.specs.CommandLine.{terms_judged, making_words, making_judged, flat_judged, gen_judged, run_judged, split_judged}
 use Rattle.cli_plans.specs.CommandLine.{command_after, live_after, snap_after, sweep_after, shrink_after, resume_after, show_after}
 use Rattle.cli_plans.specs.CommandLine.{named_judged, judgement_of_words, live_judged, snap_judged, sweep_judged, shrink_judged}
-use Rattle.cli_plans.specs.CommandLine.{resume_judged, show_judged}
+use Rattle.cli_plans.specs.CommandLine.{resume_judged, show_judged, survey_words, survey_of, debug_after, debug_judged}
 
 -- ---- so many words are of no command
 
@@ -270,6 +270,12 @@ snap_no_fault image policy disk out None events = λ e. cc e
 snap_no_fault image policy disk out (Some script) None = λ e. cc e
 snap_no_fault image policy disk out (Some script) (Some events) = tt
 
+survey_no_fault : (image policy disk : List ℕ) (script : Option Source) (events : Option ℕ) → NoReadFault (survey_words image policy disk script events)
+unfolding survey_words
+survey_no_fault image policy disk None events = λ e. cc e
+survey_no_fault image policy disk (Some script) None = λ e. cc e
+survey_no_fault image policy disk (Some script) (Some events) = tt
+
 sweep_with_no_fault : (w : SweepSplit) (order : DrawnOrder) (first : ℕ) (count events : Option ℕ) → NoReadFault (sweep_with w order first count events)
 unfolding sweep_with
 sweep_with_no_fault w order first None events = λ e. cc e
@@ -313,6 +319,7 @@ command_no_fault command.Snap rest = λ e. cc e
 command_no_fault command.Resume rest = λ e. cc e
 command_no_fault command.Show rest = λ e. cc e
 command_no_fault command.Survey rest = λ e. cc e
+command_no_fault command.Debug rest = λ e. cc e
 
 pub words_no_read_fault : (words : List (List ℕ)) → NoReadFault (judgement_of_words words)
 unfolding judgement_of_words
@@ -329,6 +336,7 @@ live_after_no_fault command.Snap rest = λ e. cc e
 live_after_no_fault command.Resume rest = λ e. cc e
 live_after_no_fault command.Show rest = λ e. cc e
 live_after_no_fault command.Survey rest = λ e. cc e
+live_after_no_fault command.Debug rest = λ e. cc e
 live_after_no_fault command.Measure rest = λ e. cc e
 live_after_no_fault command.Convert rest = λ e. cc e
 
@@ -347,6 +355,7 @@ snap_after_no_fault command.Shrink rest = λ e. cc e
 snap_after_no_fault command.Resume rest = λ e. cc e
 snap_after_no_fault command.Show rest = λ e. cc e
 snap_after_no_fault command.Survey rest = λ e. cc e
+snap_after_no_fault command.Debug rest = λ e. cc e
 snap_after_no_fault command.Measure rest = λ e. cc e
 snap_after_no_fault command.Convert rest = λ e. cc e
 
@@ -365,6 +374,7 @@ sweep_after_no_fault command.Shrink rest = λ e. cc e
 sweep_after_no_fault command.Resume rest = λ e. cc e
 sweep_after_no_fault command.Show rest = λ e. cc e
 sweep_after_no_fault command.Survey rest = λ e. cc e
+sweep_after_no_fault command.Debug rest = λ e. cc e
 sweep_after_no_fault command.Measure rest = λ e. cc e
 sweep_after_no_fault command.Convert rest = λ e. cc e
 
@@ -381,6 +391,7 @@ shrink_after_no_fault (command.Live kind) rest = λ e. cc e
 shrink_after_no_fault command.Snap rest = λ e. cc e
 shrink_after_no_fault command.Sweep rest = λ e. cc e
 shrink_after_no_fault command.Survey rest = λ e. cc e
+shrink_after_no_fault command.Debug rest = λ e. cc e
 shrink_after_no_fault command.Resume rest = λ e. cc e
 shrink_after_no_fault command.Show rest = λ e. cc e
 shrink_after_no_fault command.Measure rest = λ e. cc e
@@ -389,6 +400,25 @@ shrink_after_no_fault command.Convert rest = λ e. cc e
 pub shrink_no_read_fault : (words : List (List ℕ)) → NoReadFault (shrink_judged words)
 unfolding shrink_judged
 shrink_no_read_fault words = named_no_fault shrink_after (named_words words) shrink_after_no_fault
+
+debug_after_no_fault : (name : CommandName) (rest : List (List ℕ)) → NoReadFault (debug_after name rest)
+debug_after_no_fault command.Debug rest = split_no_fault survey_of (survey_split rest) (λ w. survey_no_fault w.image w.policy w.disk (source_of w.script) (number_within 0 max_events w.events))
+debug_after_no_fault command.Flat rest = λ e. cc e
+debug_after_no_fault command.Generated rest = λ e. cc e
+debug_after_no_fault (command.Run kind) rest = λ e. cc e
+debug_after_no_fault (command.Live kind) rest = λ e. cc e
+debug_after_no_fault command.Snap rest = λ e. cc e
+debug_after_no_fault command.Sweep rest = λ e. cc e
+debug_after_no_fault command.Shrink rest = λ e. cc e
+debug_after_no_fault command.Survey rest = λ e. cc e
+debug_after_no_fault command.Resume rest = λ e. cc e
+debug_after_no_fault command.Show rest = λ e. cc e
+debug_after_no_fault command.Measure rest = λ e. cc e
+debug_after_no_fault command.Convert rest = λ e. cc e
+
+pub debug_no_read_fault : (words : List (List ℕ)) → NoReadFault (debug_judged words)
+unfolding debug_judged
+debug_no_read_fault words = named_no_fault debug_after (named_words words) debug_after_no_fault
 
 resume_after_no_fault : (name : CommandName) (rest : List (List ℕ)) → NoReadFault (resume_after name rest)
 resume_after_no_fault command.Resume rest = split_no_fault resume_of (resume_split rest) (λ w. resume_no_fault w.saved w.policy w.save (source_of w.script) (number_within 0 max_events w.events))
@@ -401,6 +431,7 @@ resume_after_no_fault command.Shrink rest = λ e. cc e
 resume_after_no_fault command.Snap rest = λ e. cc e
 resume_after_no_fault command.Show rest = λ e. cc e
 resume_after_no_fault command.Survey rest = λ e. cc e
+resume_after_no_fault command.Debug rest = λ e. cc e
 resume_after_no_fault command.Measure rest = λ e. cc e
 resume_after_no_fault command.Convert rest = λ e. cc e
 

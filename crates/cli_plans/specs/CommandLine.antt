@@ -89,7 +89,7 @@ pub record ResumeWords : Type 0 where
   -- where the disk is saved after the report, if it is
   pub save : Option (List ℕ)
 
--- a command of the top call. `survey`, `live`, `snap`, `sweep`, `shrink`, `resume` and `show` have calls of their own
+-- a command of the top call. `survey`, `debug`, `live`, `snap`, `sweep`, `shrink`, `resume` and `show` have calls of their own
 pub data Command : Type 0 where
   Flat : (file wanted : List ℕ) → (events : ℕ) → Command
   -- the generated guest, which calls its kernel so many times
@@ -321,6 +321,11 @@ abbrev pub survey_after : CommandName → List (List ℕ) → Result RunWords Re
 survey_after command.Survey rest = split_judged survey_of (survey_split rest)
 survey_after _ rest = Err NoCommand
 
+-- the words of `survey`
+abbrev pub debug_after : CommandName → List (List ℕ) → Result RunWords Refusal
+debug_after command.Debug rest = split_judged survey_of (survey_split rest)
+debug_after _ rest = Err NoCommand
+
 abbrev pub live_after : CommandName → List (List ℕ) → Result LiveWords Refusal
 live_after (command.Live kind) rest = split_judged live_of (live_split kind rest)
 live_after _ rest = Err NoCommand
@@ -359,6 +364,9 @@ judgement_of_words words = named_judged command_after (named_words words)
 -- the same of each command that has a call of its own, which refuses the words of all others
 unfoldable pub survey_judged : List (List ℕ) → Result RunWords Refusal
 survey_judged words = named_judged survey_after (named_words words)
+
+unfoldable pub debug_judged : List (List ℕ) → Result RunWords Refusal
+debug_judged words = named_judged debug_after (named_words words)
 
 unfoldable pub live_judged : List (List ℕ) → Result LiveWords Refusal
 live_judged words = named_judged live_after (named_words words)

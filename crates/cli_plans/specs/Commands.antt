@@ -23,7 +23,7 @@ pub record RunSplit : Type 0 where
   pub events : List ℕ
   pub save : List ℕ
 
--- survey IMAGE POLICY DISK SCRIPT EVENTS
+-- survey IMAGE POLICY DISK SCRIPT EVENTS, or debug with the same words
 pub record SurveySplit : Type 0 where
   pub image : List ℕ
   pub policy : List ℕ
@@ -94,6 +94,7 @@ name_of name =
     else if bytes_eq name (codes "run") then Some (command.Run DiskKind.Block)
     else if bytes_eq name (codes "vrun") then Some (command.Run DiskKind.Virtio)
     else if bytes_eq name (codes "survey") then Some command.Survey
+    else if bytes_eq name (codes "debug") then Some command.Debug
     else if bytes_eq name (codes "live") then Some (command.Live DiskKind.Block)
     else if bytes_eq name (codes "vlive") then Some (command.Live DiskKind.Virtio)
     else if bytes_eq name (codes "snap") then Some command.Snap

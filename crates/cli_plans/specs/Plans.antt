@@ -248,7 +248,7 @@ image_plan words rules = image_part rules words.image (boot_plan words rules)
 unfoldable pub run_plan : RunWords → Plan
 run_plan words = policy_part words.policy (image_plan words)
 
--- ---- survey, live and snap: what `run` reads and judges for the same words
+-- ---- survey, debug, live and snap: what `run` reads and judges for the same words
 
 unfoldable pub survey_plan : Result RunWords Refusal → Plan
 survey_plan (Err refusal) = End (Refuse refusal)

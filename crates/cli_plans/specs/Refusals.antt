@@ -83,6 +83,27 @@ refusal_status (File fault) = Status.Refused
 refusal_status (Measure found wanted) = Status.Refused
 refusal_status (Entry entry) = Status.Refused
 
+-- lines that are put together in memory; each of the others is one of a few texts
+abbrev pub is_formatted_fault : FileFault → Bool
+is_formatted_fault (Longer part) = true
+is_formatted_fault FlatPages = true
+is_formatted_fault (FileFault.Policy fault) = true
+is_formatted_fault (FileFault.Image fault) = true
+is_formatted_fault (FileFault.Module fault) = true
+is_formatted_fault DiskSectors = true
+is_formatted_fault (ScriptLine line) = true
+is_formatted_fault (FileFault.Convert fault) = true
+is_formatted_fault (FileFault.Snapshot refusal) = false
+is_formatted_fault (FileFault.Resume refusal) = true
+
+abbrev pub is_formatted : Refusal → Bool
+is_formatted NoCommand = false
+is_formatted (OutOfRange word) = false
+is_formatted (ReadFault part) = false
+is_formatted (File fault) = is_formatted_fault fault
+is_formatted (Measure found wanted) = true
+is_formatted (Entry entry) = true
+
 -- memory may be asked for on the way to a refusal. Words are refused without
 abbrev pub takes_memory : Refusal → Bool
 takes_memory NoCommand = false

@@ -8,6 +8,7 @@ ghost use Rattle.cli_plans.specs.CommandLine.{Convert, split_judged, flat_judged
 ghost use Rattle.cli_plans.specs.CommandLine.{resume_of, making_judged, command_after, live_after, snap_after, sweep_after, shrink_after};
 ghost use Rattle.cli_plans.specs.CommandLine.{resume_after, show_after, judgement_of_words, live_judged, snap_judged, sweep_judged};
 ghost use Rattle.cli_plans.specs.CommandLine.{shrink_judged, resume_judged, show_judged, survey_of, survey_after, survey_judged};
+ghost use Rattle.cli_plans.specs.CommandLine.{debug_after, debug_judged};
 ghost use Rattle.cli_plans.specs.Words.{IsAsked, IsInRange, IsDrawnRun, IsBlockRun, AreNumbers, command_of, live_value, snap_value};
 ghost use Rattle.cli_plans.specs.Words.{sweep_value, resume_value, IsSurveyRun, run_value};
 ghost use Rattle.cli_plans.specs.declared.asking.Unread.TheVariants.{Refused, Memory};
@@ -79,6 +80,7 @@ fn ask_after<'a>(
         CommandName::Measure => ask_measure(alloc, rest),
         CommandName::Convert => ask_convert(alloc, rest),
         CommandName::Survey
+        | CommandName::Debug
         | CommandName::Live(_)
         | CommandName::Snap
         | CommandName::Sweep
@@ -155,7 +157,6 @@ pub fn ask_survey<'a>(alloc: Global, words: &'a [String]) -> Result<Run<'a>, Unr
     }
 }
 
-#[tactic(auto, using(crate::proofs::WordLemmas::split_is_some))]
 fn survey_after<'a>(
     alloc: Global,
     command: CommandName,
@@ -168,9 +169,46 @@ fn survey_after<'a>(
     let CommandName::Survey = command else {
         return Err(Unread::Refused(Refusal::NoCommand));
     };
+    ask_unsaved(alloc, rest)
+}
+
+// A run whose disk isn't saved.
+#[tactic(auto, using(crate::proofs::WordLemmas::split_is_some))]
+fn ask_unsaved<'a>(alloc: Global, rest: &'a [String]) -> Result<Run<'a>, Unread>
+    requires plain { list_any has_dash (map string_bytes rest.now) ≡ false }
+    ensures asked { IsAsked run_value (split_judged survey_of (survey_split (map string_bytes rest.now))) result }
+    ensures run { IfOk result IsSurveyRun }
+{
     judge_survey(rest)?;
     let words = split_survey(alloc, rest)?;
     Ok(read_survey(&words)?)
+}
+
+/// What words ask `debug` for: those of `survey`.
+#[tactic(auto, unfolding(crate::specs::CommandLine::debug_judged))]
+pub fn ask_debug<'a>(alloc: Global, words: &'a [String]) -> Result<Run<'a>, Unread>
+    ensures asked { IsAsked run_value (debug_judged (map string_bytes words.now)) result }
+    ensures run { IfOk result IsSurveyRun }
+{
+    match named(words) {
+        Some(naming) => debug_after(alloc, naming.command, naming.rest),
+        None => Err(Unread::Refused(Refusal::NoCommand)),
+    }
+}
+
+fn debug_after<'a>(
+    alloc: Global,
+    command: CommandName,
+    rest: &'a [String],
+) -> Result<Run<'a>, Unread>
+    requires plain { list_any has_dash (map string_bytes rest.now) ≡ false }
+    ensures asked { IsAsked run_value (debug_after command (map string_bytes rest.now)) result }
+    ensures run { IfOk result IsSurveyRun }
+{
+    let CommandName::Debug = command else {
+        return Err(Unread::Refused(Refusal::NoCommand));
+    };
+    ask_unsaved(alloc, rest)
 }
 
 /// What words ask `live` or `vlive` for.

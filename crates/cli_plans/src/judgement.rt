@@ -26,7 +26,7 @@ pub fn judge(words: &[String]) -> Result<(), Refusal> {
         CommandName::Flat => judge_flat(naming.rest),
         CommandName::Generated => judge_generated(naming.rest),
         CommandName::Run(kind) => judge_run(kind, naming.rest),
-        CommandName::Survey => judge_survey(naming.rest),
+        CommandName::Survey | CommandName::Debug => judge_survey(naming.rest),
         CommandName::Live(kind) => judge_live(kind, naming.rest),
         CommandName::Snap | CommandName::Shrink => judge_snap(naming.rest),
         CommandName::Sweep => judge_sweep(naming.rest),

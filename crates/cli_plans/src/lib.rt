@@ -10,7 +10,8 @@ mod words;
 
 pub use crate::command_words::DiskKind;
 pub use asking::{
-    Unread, ask, ask_live, ask_resume, ask_show, ask_shrink, ask_snap, ask_survey, ask_sweep,
+    Unread, ask, ask_debug, ask_live, ask_resume, ask_show, ask_shrink, ask_snap, ask_survey,
+    ask_sweep,
 };
 pub use file_fault::{FileFault, Part};
 pub use judgement::judge;

@@ -1,10 +1,13 @@
 // Why a command isn't carried out.
-ghost use Rattle.std.specs.Prelude.{◌≡◌, ◌<◌, ◌-◌, IsTrue, IsErrOf, OnOk, IfOk, string_bytes};
+ghost use Rattle.std.specs.Prelude.{◌≡◌, ◌<◌, ◌-◌, IsTrue, IsErrOf, OnOk, IfOk, None, true, string_bytes};
+ghost use Rattle.std.specs.Option.{ForSome};
+ghost use Rattle.cli_plans.specs.declared.file_fault.FileFault.TheVariants as Fault;
 ghost use Rattle.host_io.specs.Outside.{after_taking, BreaksOff, MayWrite};
-ghost use Rattle.cli_plans.specs.Refusals.{refusal_line, refusal_status, takes_memory, word_name};
+ghost use Rattle.cli_plans.specs.Refusals.{is_formatted, is_formatted_fault, refusal_line, refusal_status, takes_memory, word_name};
 
 use crate::file_fault::{FileFault, Part};
 use host_io::{Sink, Trouble, write_all};
+use snapshot_format::SnapRefusal;
 use std::alloc::{AllocError, Global};
 use sv_types::{Digest, Status};
 use text_numbers::{address_text, digest_text};
@@ -103,25 +106,22 @@ impl Refusal {
         }
     }
 
-    /// Writes the line. Words are refused without asking for memory.
+    /// Writes the line. It asks for memory only where the line is put together, and never for words.
     pub fn write_line<O: Sink>(&self, alloc: Global, out: &mut O) -> Result<(), Trouble>
         requires sink { MayWrite (O.state out.old) }
         ensures whole { OnOk result (O.state out.new ≡ after_taking (O.state out.old) (refusal_line self.now)) }
         ensures failed { IsErrOf result Trouble.Write → BreaksOff (O.state out.old) (O.state out.new) (refusal_line self.now) }
         ensures wants { IsErrOf result Trouble.Memory → IsTrue (takes_memory self.now) }
+        ensures formatted { IsErrOf result Trouble.Memory → IsTrue (is_formatted self.now) }
         ensures quiet { IsErrOf result Trouble.Memory → O.state out.new ≡ O.state out.old }
     {
         match self {
             Refusal::NoCommand => Ok(write_all(out, usage_line().as_bytes())?),
             Refusal::OutOfRange { word } => Ok(write_all(out, word.line().as_bytes())?),
             Refusal::ReadFault { part } => {
-                let line = read_fault_line(alloc, *part)?;
-                Ok(write_all(out, line.as_str().as_bytes())?)
+                Ok(write_all(out, read_fault_line(*part).as_bytes())?)
             }
-            Refusal::File { fault } => {
-                let line = file_line(alloc, *fault)?;
-                Ok(write_all(out, line.as_str().as_bytes())?)
-            }
+            Refusal::File { fault } => write_file_line(alloc, *fault, out),
             Refusal::Measure { found, wanted } => {
                 let line = measure_line(alloc, found, wanted)?;
                 Ok(write_all(out, line.as_str().as_bytes())?)
@@ -142,11 +142,66 @@ fn usage_line() -> &'static str
 }
 
 #[tactic(auto, unfolding(crate::specs::Refusals::refusal_line))]
-fn read_fault_line(alloc: Global, part: Part) -> Result<String, AllocError>
-    ensures { IfOk result (λ t. string_bytes t ≡ refusal_line (Refusal.ReadFault part)) }
+fn read_fault_line(part: Part) -> &'static str
+    ensures { result.now ≡ refusal_line (Refusal.ReadFault part) }
 {
-    let name = part.name();
-    format!(in alloc; "read fault {name}\n")
+    match part {
+        Part::Flat => "read fault flat\n",
+        Part::Policy => "read fault policy\n",
+        Part::Image => "read fault image\n",
+        Part::Disk => "read fault disk\n",
+        Part::Script => "read fault script\n",
+        Part::Module => "read fault module\n",
+        Part::Convert => "read fault convert\n",
+        Part::Snapshot => "read fault snapshot\n",
+    }
+}
+
+fn write_file_line<O: Sink>(alloc: Global, fault: FileFault, out: &mut O) -> Result<(), Trouble>
+    requires sink { MayWrite (O.state out.old) }
+    ensures whole { OnOk result (O.state out.new ≡ after_taking (O.state out.old) (refusal_line (Refusal.File fault))) }
+    ensures failed { IsErrOf result Trouble.Write → BreaksOff (O.state out.old) (O.state out.new) (refusal_line (Refusal.File fault)) }
+    ensures formatted { IsErrOf result Trouble.Memory → IsTrue (is_formatted_fault fault) }
+    ensures quiet { IsErrOf result Trouble.Memory → O.state out.new ≡ O.state out.old }
+{
+    match short_line(fault) {
+        Some(line) => Ok(write_all(out, line.as_bytes())?),
+        None => {
+            let line = file_line(alloc, fault)?;
+            Ok(write_all(out, line.as_str().as_bytes())?)
+        }
+    }
+}
+
+// The whole line of a file that is no snapshot.
+fn short_line(fault: FileFault) -> Option<&'static str>
+    ensures line { ForSome result (λ line. line.now ≡ refusal_line (Refusal.File fault)) }
+    ensures none { result ≡ None → is_formatted_fault fault ≡ true }
+{
+    match fault {
+        FileFault::Snapshot(refusal) => Some(no_snapshot_line(refusal)),
+        FileFault::Longer { part: _ }
+        | FileFault::FlatPages
+        | FileFault::Policy(_)
+        | FileFault::Image(_)
+        | FileFault::Module(_)
+        | FileFault::DiskSectors
+        | FileFault::ScriptLine { line: _ }
+        | FileFault::Convert(_)
+        | FileFault::Resume(_) => None,
+    }
+}
+
+#[tactic(auto, unfolding(crate::specs::Refusals::refusal_line))]
+fn no_snapshot_line(refusal: SnapRefusal) -> &'static str
+    ensures { result.now ≡ refusal_line (Refusal.File (Fault.Snapshot refusal)) }
+{
+    match refusal {
+        SnapRefusal::TooLong => "refused snapshot 0\n",
+        SnapRefusal::OtherLength => "refused snapshot 1\n",
+        SnapRefusal::OtherBeginning => "refused snapshot 2\n",
+        SnapRefusal::OutOfRange => "refused snapshot 3\n",
+    }
 }
 
 #[tactic(auto, unfolding(crate::specs::Refusals::refusal_line))]

@@ -263,7 +263,7 @@ pub fn read_snap<'a>(words: &SnapWords<'a>) -> Result<Snap<'a>, Refusal>
     })
 }
 
-/// The words of `survey`: a run whose disk isn't saved.
+/// The words of `survey`, or of `debug`: a run whose disk isn't saved.
 #[tactic(auto, unfolding(crate::specs::CommandLine::survey_words))]
 pub fn read_survey<'a>(words: &SurveyWords<'a>) -> Result<Run<'a>, Refusal>
     ensures read { IsRead run_value (survey_of (survey_split_of words.now)) result }

@@ -9,7 +9,7 @@ use Rattle.snapshot_format.specs.Forms.{is_word}
 use Rattle.snapshot_format.specs.HartForms.{harts}
 use Rattle.snapshot_format.specs.JournalForms.{count, event_counts, hart_counts, rule_counts, counts, journal}
 use Rattle.snapshot_format.specs.PageForms.{pages, gate}
-use Rattle.snapshot_format.specs.Snapshots.{Contents, magic_form, events_made, magic, header, body, whole_header, whole_body, snapshot}
+use Rattle.snapshot_format.specs.Snapshots.{Contents, magic_form, events_made, header, body, whole_header, whole_body, snapshot}
 use Rattle.snapshot_format.proofs.FormLaws.{first_true, second_true}
 use Rattle.laws_resume.proofs.FormParts.{max_is}
 use Rattle.machine.proofs.Repeated.{counts_within}
@@ -59,12 +59,12 @@ counted s h =
     let h0 = whole_header s in
     let b = whole_body s in
     let head = first_true (header.has h0) ((body h0).has b) h in
-    let events = first_true (events_made.has h0.events) _ (second_true (magic_form.has magic) _ head) in
+    let events = first_true (events_made.has h0.events) _ (second_true (magic_form.has h0.kind) _ head) in
     let few = max_is h0.events max_events (second_true (is_word h0.events) (nat_le h0.events max_events) events) in
     let whole = second_true (header.has h0) ((body h0).has b) h in
     let behind = second_true ((harts h0.ram_pages h0.harts).has b.0) _ whole in
     let after_pages = second_true ((pages h0.ram_pages).has b.1.0) _ behind in
     let after_gate = second_true ((gate b.0).has b.1.1.0) _ after_pages in
-    let after_devices = second_true (devices.has b.1.1.1.0) _ after_gate in
+    let after_devices = second_true ((devices h0.kind).has b.1.1.1.0) _ after_gate in
     let journal_parts = first_true ((journal h0.events h0.harts).has b.1.1.1.1.0) _ after_devices in
     counts_within s.events (2 ^ 32) s.counts few (counts_are s.events s.counts (first_true ((counts h0.events).has s.counts) _ journal_parts))

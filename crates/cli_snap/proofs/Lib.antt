@@ -1,11 +1,12 @@
 pub mod AcceptedLemmas
 pub mod AnswerLemmas
 pub mod BlockStays
+pub mod VirtioStays
+pub mod DevicesHave
 pub mod ClauseLemmas
 pub mod CountsRise
 pub mod DisksStay
 pub mod EndLemmas
-pub mod FileForms
 pub mod FileHolds
 pub mod ReadyLemmas
 pub mod RunLemmas

@@ -3,12 +3,13 @@ use Rattle.std.proofs.Common.{◌≡◌, ℕ, zero, suc, ◌≤◌, List, ◌∷
 use Rattle.sv_types.specs.Schedule.{Schedule, next_event, after_event, begun_with, first_events}
 use Rattle.sv_types.specs.declared.event.Event.{Event}
 use Rattle.spec_reference.specs.Run.{run}
-use Rattle.spec_reference.specs.Start.{boot_start}
 use Rattle.spec_reference.specs.States.{State}
 use Rattle.spec_reference.specs.SavedStates.{IsSaved}
 use Rattle.snapshot_format.specs.Snapshots.{contents}
 use Rattle.snapshot_format.specs.ResumedStates.{resumed_state}
 use Rattle.laws_resume.specs.Continues.{Continues, draw_count}
+use Rattle.laws_resume.specs.SnapLaws.{Boot}
+use Rattle.laws_resume.proofs.BootDigests.{IsBoot}
 use Rattle.laws_resume.proofs.SnapHolds.{snap_continues_law}
 use Rattle.cli_snap.specs.SnapAndResume.{IsOneRun, SnapAndResumeLaw}
 
@@ -37,12 +38,12 @@ one_run start resumed script k made events front is drawn_is taken continues =
       disk = rw left continues.disk;
     }
 
-pub snap_and_resume_law : SnapAndResumeLaw
-snap_and_resume_law rules file disk script k events s boot few snap =
-    let start = boot_start rules file disk in
+pub snap_and_resume_law : (boot : Boot) → IsBoot boot → SnapAndResumeLaw boot
+snap_and_resume_law boot b rules file disk script k events s measured few snap =
+    let start = boot rules file disk in
     let taken : first_events k script ≡ take k (first_events events script) = sym (first_of_first k events script few) in
     one_run start (resumed_state rules (contents s)) script k s.events events (first_events k script) refl snap.made taken
-    (snap_continues_law rules file disk (first_events events script) k s boot (record {
+    (snap_continues_law boot b rules file disk (first_events events script) k s measured (record {
       state = subst (λ (es : List Event). IsSaved (run start es) s.«machine») taken snap.state;
       text = snap.text;
     }))

@@ -2,26 +2,21 @@
 use Rattle.std.proofs.Common.{◌≡◌, ℕ, List, true, refl, sym, ◌∙◌, ap, inl, inr, Some, Result, Ok, Err, IfOk, Vec}
 use Rattle.std.specs.declared.alloc.Global.{Global}
 use Rattle.sv_types.specs.declared.event.Event.{Event}
-use Rattle.sv_types.specs.declared.port.PortState.{PortState}
 use Rattle.sv_types.specs.declared.status.Status.{Status}
 use Rattle.spec_reference.specs.Counting.{CountsAtMost}
 use Rattle.spec_reference.specs.Run.{run}
 use Rattle.spec_reference.specs.States.{State}
 use Rattle.spec_hardware.specs.Machine.{Machine}
 use Rattle.spec_hardware.specs.Reaches.{IsNew}
-use Rattle.spec_hardware.specs.StandsFor.{StandsFor, machine_of}
-use Rattle.spec_reference.specs.SavedStates.{disk_of, IsSaved}
-use Rattle.spec_reference.specs.declared.saved_machine.whole.Saved.{Saved}
-use Rattle.snapshot_format.specs.DeviceForms.{is_block}
+use Rattle.spec_hardware.specs.StandsFor.{StandsFor}
+use Rattle.spec_reference.specs.SavedStates.{IsSaved}
 use Rattle.snapshot_format.specs.Snapshots.{contents, snapshot}
 use Rattle.snapshot_format.specs.Typed.{IsTyped}
 use Rattle.snapshot_format.specs.declared.whole.Snapshot.{Snapshot}
 use Rattle.snapshot_format.specs.declared.whole.TextPage.{TextPage}
 use Rattle.laws_resume.specs.SnapLaws.{IsSnapshotOf}
 use Rattle.laws_resume.specs.TextPages.{digested_text}
-use Rattle.laws_resume.specs.DiskKinds.{is_block_disk}
 use Rattle.host_io.specs.Outside.{FilesState, SinkState}
-use Rattle.machine.specs.Standing.{HasState}
 use Rattle.secvisor_cli.specs.Answers.{Writes}
 use Rattle.host_io.specs.declared.trouble.Trouble.{Trouble}
 use Rattle.host_io.specs.declared.trouble.Trouble.TheVariants.{Memory}
@@ -30,19 +25,6 @@ use Rattle.secvisor_cli.proofs.EndLemmas.{wanting_writes}
 use Rattle.cli_snap.specs.SnapAnswers.{saving_of, SavesMade, StandsAfter, SnapsTo}
 use Rattle.cli_snap.specs.Encoding.{IsMachineSnapshot, EncodesMachine, SavesMachine}
 use Rattle.cli_snap.proofs.RunLemmas.{stands_all, counts_drawn, new_stands}
-
--- ---- the port
-
-port_by : (port : PortState) (bytes : List ℕ) → is_block_disk (disk_of port bytes) ≡ true → is_block port ≡ true
-port_by (PortState.Block block) bytes is = refl
-port_by (PortState.Virtio state) bytes is = absurd (cc is)
-
-disk_same : (m : Machine) (r : State) → StandsFor m r → is_block_disk r.devices.disk ≡ is_block_disk m.devices.disk
-unfolding machine_of
-disk_same m r stands = sym (ap (λ (x : Machine). is_block_disk x.devices.disk) stands.same)
-
-pub port_is_block : (m : Machine) (s : Saved) → (h : HasState m) → is_block_disk m.devices.disk ≡ true → IsSaved h.state s → is_block s.port ≡ true
-port_is_block m s h kind saved = port_by s.port s.disk.items (ap is_block_disk saved.disk ∙ disk_same m h.state h.stands ∙ kind)
 
 -- ---- the bytes
 
@@ -62,6 +44,7 @@ snapshot_of_run first m start events text s is_new few stands text_is it = recor
   made = it.made ∙ counts_drawn first m start events is_new few stands;
   text = it.text_is ∙ text_is;
   typed = it.typed;
+  port = it.port;
 }
 
 -- what a run that was written comes to, by how saving ended

@@ -15,12 +15,14 @@ use Rattle.cli_snap.specs.Showing.{Due, due_of_bytes, held_shown, name_of}
 use Rattle.cli_snap.specs.Answers.{Answers, Ends, EndsAfter, Refuses, ShowEnds, ShowsFile, Shows, MayAsk}
 use Rattle.host_io.specs.declared.trouble.Trouble.{Trouble}
 use Rattle.host_io.specs.declared.trouble.Trouble.TheVariants.{Write, Memory}
-use Rattle.cli_snap.specs.declared.show.refusal.ShowRefusal.TheVariants.{NoCommand, ReadFault, NoSnapshot}
+use Rattle.cli_plans.specs.declared.file_fault.FileFault.{FileFault}
+use Rattle.cli_plans.specs.declared.file_fault.Part.{Part}
+use Rattle.cli_plans.specs.declared.refusal.Refusal.TheVariants.{NoCommand, ReadFault, File}
 
 -- ---- what is due for what the name holds
 
 -- more bytes than a snapshot has are none
-too_long : (bytes : List ℕ) → max_snapshot_bytes < length bytes → due_of_bytes bytes ≡ Err (NoSnapshot SnapRefusal.TooLong)
+too_long : (bytes : List ℕ) → max_snapshot_bytes < length bytes → due_of_bytes bytes ≡ Err (File (FileFault.Snapshot SnapRefusal.TooLong))
 unfolding due_of_bytes snapshot_read
 too_long bytes longer =
     let is : nat_lt max_snapshot_bytes (length bytes) ≡ true = grind (arith, nat_tests) in
@@ -84,9 +86,9 @@ ends_writes due old new (Err Memory) ends = let same : new.faults ≡ old.faults
 
 after_writes : (found : Result (Vec ℕ Global) FileRefusal) (old new : SinkState) (result : Result Status Trouble) → EndsAfter found old new result → old.faults ≤ new.faults
 after_writes (Ok bytes) old new result ends = ends_writes (due_of_bytes bytes.items) old new result ends
-after_writes (Err Absent) old new result ends = ends_writes (Err ReadFault) old new result ends.ends
-after_writes (Err Failed) old new result ends = ends_writes (Err ReadFault) old new result ends.ends
-after_writes (Err TooLong) old new result ends = ends_writes (Err (NoSnapshot SnapRefusal.TooLong)) old new result ends.ends
+after_writes (Err Absent) old new result ends = ends_writes (Err (ReadFault Part.Snapshot)) old new result ends.ends
+after_writes (Err Failed) old new result ends = ends_writes (Err (ReadFault Part.Snapshot)) old new result ends.ends
+after_writes (Err TooLong) old new result ends = ends_writes (Err (File (FileFault.Snapshot SnapRefusal.TooLong))) old new result ends.ends
 after_writes (Err ReadMemory) old new result ends = let same : new.faults ≡ old.faults = ap (λ s. s.faults) ends.1 in omega (arith, same)
 
 pub writes : (asked : Option (List ℕ)) (files read : FilesState) (old new : SinkState) (result : Result Status Trouble) → Shows asked files read old new result → old.faults ≤ new.faults

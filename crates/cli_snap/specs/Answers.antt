@@ -11,8 +11,10 @@ use Rattle.cli_snap.specs.Showing.{Due, due_of_bytes, bytes_due, status_due}
 use Rattle.host_io.specs.declared.trouble.Trouble.{Trouble}
 use Rattle.host_io.specs.declared.trouble.Trouble.TheVariants.{Write, Memory}
 use Rattle.host_io.specs.Endings.{status_of_end}
-use Rattle.cli_snap.specs.declared.show.refusal.ShowRefusal.{ShowRefusal}
-use Rattle.cli_snap.specs.declared.show.refusal.ShowRefusal.TheVariants.{NoCommand, ReadFault, NoSnapshot}
+use Rattle.cli_plans.specs.declared.file_fault.FileFault.{FileFault}
+use Rattle.cli_plans.specs.declared.file_fault.Part.{Part}
+use Rattle.cli_plans.specs.declared.refusal.Refusal.{Refusal}
+use Rattle.cli_plans.specs.declared.refusal.Refusal.TheVariants.{NoCommand, ReadFault, File}
 
 -- All bytes that are due were written, and the status is theirs; or a write failed before; or memory ran out, and nothing
 -- was written.
@@ -22,16 +24,16 @@ Ends due old new (Err Write) = BreaksOff old new (bytes_due due)
 Ends due old new (Err Memory) = new ≡ old
 
 -- a refusal, for which no memory is taken
-pub record Refuses (refusal : ShowRefusal) (old new : SinkState) (result : Result Status Trouble) : Type 0 where
+pub record Refuses (refusal : Refusal) (old new : SinkState) (result : Result Status Trouble) : Type 0 where
   pub ends : Ends (Err refusal) old new result
   pub spares : IsErrOf result Memory → ⊥
 
 -- what is owed to what a read found
 abbrev pub EndsAfter : Result (Vec ℕ Global) FileRefusal → SinkState → SinkState → Result Status Trouble → Type 0
 EndsAfter (Ok bytes) old new result = Ends (due_of_bytes bytes.items) old new result
-EndsAfter (Err Absent) old new result = Refuses ReadFault old new result
-EndsAfter (Err Failed) old new result = Refuses ReadFault old new result
-EndsAfter (Err TooLong) old new result = Refuses (NoSnapshot SnapRefusal.TooLong) old new result
+EndsAfter (Err Absent) old new result = Refuses (ReadFault Part.Snapshot) old new result
+EndsAfter (Err Failed) old new result = Refuses (ReadFault Part.Snapshot) old new result
+EndsAfter (Err TooLong) old new result = Refuses (File (FileFault.Snapshot SnapRefusal.TooLong)) old new result
 EndsAfter (Err ReadMemory) old new result = IsErrOf result Memory × (new ≡ old)
 
 -- the name's file was read, once and up to the most bytes of a snapshot, and what was found is answered

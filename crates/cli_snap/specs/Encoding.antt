@@ -4,6 +4,7 @@ use Rattle.spec_reference.specs.States.{State}
 use Rattle.spec_hardware.specs.Machine.{Machine}
 use Rattle.spec_hardware.specs.StandsFor.{StandsFor}
 use Rattle.spec_reference.specs.SavedStates.{IsSaved}
+use Rattle.hw_devices.specs.Ports.{IsSoundPort}
 use Rattle.snapshot_format.specs.Snapshots.{contents, snapshot}
 use Rattle.snapshot_format.specs.Typed.{IsTyped}
 use Rattle.snapshot_format.specs.declared.whole.Snapshot.{Snapshot}
@@ -21,6 +22,7 @@ pub record IsMachineSnapshot (m : Machine) (text : List TextPage) (s : Snapshot)
   pub made : s.events ≡ events_counted m.journal.counts
   pub text_is : s.text.items ≡ text
   pub typed : IsTyped (contents s)
+  pub port : IsSoundPort s.«machine».port s.«machine».disk.items
 
 pub record EncodesMachine (m : Machine) (text : List TextPage) (bytes : List ℕ) : Type 0 where
   pub it : Snapshot

@@ -26,7 +26,7 @@ use Rattle.cli_snap.specs.SnapReady.{out_of}
 
 -- ---- the snapshot
 
--- exactly its spelling, under a name
+-- exactly its encoding, under a name
 abbrev pub saving_of : (name : List ℕ) → Snapshot → Saving
 saving_of name s = record { name = name; content = Exactly (snapshot.encode (contents s)) }
 

@@ -50,7 +50,7 @@ pub fn secvisor_snap<R: Threads + Sync, F: Files, O: Sink>(
     requires saves { CanCount (F.state files.old).save_faults }
 
     // For every file, words and number of events, the console's bytes are those of the reference machine's run, and what is saved
-    // is exactly the spelling of a snapshot of its state, with the number of events that were made.
+    // is exactly the encoding of a snapshot of its state, with the number of events that were made.
     ensures headline { SnapHeadline (snap_judged (map string_bytes words.now))
         (outside (F.state files.old) (O.state out.old) bench.old.machine)
         (outside (F.state files.new) (O.state out.new) bench.new.machine) result }
@@ -150,33 +150,49 @@ fn run_on_bench<F: Files, O: Sink>(
         events,
         ..
     } = ready;
-    let result = run_and_save(alloc, &mut machine, script, events, name, files, out);
+    let order = SnapOrder {
+        script,
+        events,
+        name,
+    };
+    let result = run_and_save(alloc, &mut machine, order, files, out);
     bench.machine = Some(machine);
     result
 }
 
-// The run of a booted machine, and then its snapshot. The digests of its text are taken before the first event. Seven parameters,
-// since each is another value of the caller's: what is run, for how long, where it is saved, and the outside world.
+// The events that a machine is to make, the first `events` of the script, and the name under which its snapshot is saved then.
+#[derive(Drop)]
+struct SnapOrder<'a> {
+    script: Script,
+    events: u64,
+    name: &'a str,
+}
+
+// The run of a booted machine, and then its snapshot. The digests of its text are taken before the first event.
 fn run_and_save<F: Files, O: Sink>(
     alloc: Global,
     machine: &mut Machine,
-    script: Script,
-    events: u64,
-    name: &str,
+    order: SnapOrder<'_>,
     files: &mut F,
     out: &mut O,
 ) -> Result<Status, Trouble>
     requires sink { MayWrite (O.state out.old) }
     requires saves { CanCount (F.state files.old).save_faults }
-    requires events { events ≤ max_events }
+    requires events { order.events ≤ max_events }
     requires state { HasState machine.old }
     requires counts { CountsAtMost 0 machine.old.journal.counts }
     requires console { machine.old.journal.printed ≡ [] }
     requires starts { StartsBlock machine.old }
-    requires snapshot { MaySaveUnder name.now (F.state files.old) }
-    ensures { (start : State) → IsNew machine.old start → SnapsTo start (first_events events script) name.now machine.new
+    requires snapshot { MaySaveUnder order.name.now (F.state files.old) }
+    ensures { (start : State) → IsNew machine.old start →
+        SnapsTo start (first_events order.entry.events order.entry.script) order.entry.name.now machine.new
         (F.state files.old) (F.state files.new) (O.state out.old) (O.state out.new) result }
 {
+    let SnapOrder {
+        script,
+        events,
+        name,
+    } = order;
     let text = machine.text(alloc)?;
     let status = run_and_print(machine, script, events, out)?;
     save_snapshot(alloc, machine, text, name, files)?;

@@ -1,4 +1,5 @@
 // Laws of the command. A law takes no argument and does nothing; its clause is the theorem.
+ghost use Rattle.spec_reference.specs.Start.{boot_start, virtio_start};
 ghost use Rattle.cli_snap.specs.BlockRuns.{BlockLaw};
 ghost use Rattle.cli_snap.specs.CountRuns.{CountsLaw};
 ghost use Rattle.cli_snap.specs.SnapEnds.{SnapEndsLaw};
@@ -11,8 +12,8 @@ pub fn law_snap_ends()
     ensures { SnapEndsLaw }
 {}
 
-/// In every run the disk keeps its length, the block device's registers keep their ranges, and a transfer under way lies on the
-/// disk.
+/// In every run the disk keeps its length, the block device's registers keep their ranges, and a transfer or a request under way
+/// lies on the disk.
 pub fn law_block()
     ensures { BlockLaw }
 {}
@@ -22,7 +23,8 @@ pub fn law_counts()
     ensures { CountsLaw }
 {}
 
-/// The bytes that `snap` saves of a run from a measured boot are read again as they were.
+/// The bytes that are saved of a run from a measured boot are read again as they were, whichever device its disk is behind.
 pub fn law_snap_file()
-    ensures { SnapFileLaw }
+    ensures block { SnapFileLaw boot_start }
+    ensures virtio { SnapFileLaw virtio_start }
 {}

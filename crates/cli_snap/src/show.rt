@@ -7,7 +7,6 @@ mod laws;
 mod lines;
 mod modules;
 mod pages;
-mod refusal;
 mod whole;
 
 pub use answer::secvisor_show;

@@ -5,3 +5,4 @@ mod Chunks
 mod Outcomes
 pub mod ShrinkAnswerLemmas
 pub mod ClauseLemmas
+mod SmallScripts

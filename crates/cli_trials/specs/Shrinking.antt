@@ -1,12 +1,12 @@
 -- A script under which a run stops as another did, and from which no line can be taken away. This project's own.
-use Rattle.std.specs.Prelude.{◌≡◌, ℕ, Bool, true, false, List, Option, Some, None, string_bytes}
+use Rattle.std.specs.Prelude.{◌≡◌, ◌≤◌, ℕ, Bool, true, false, List, Option, Some, None, string_bytes}
 use Rattle.script_lines.specs.Lines.{text_of}
 use Rattle.script_lines.specs.Minimal.{IsOneMinimal}
 use Rattle.script_lines.specs.declared.tally.outcome.Outcome.{Outcome}
 use Rattle.script_lines.specs.Tallies.{same}
 use Rattle.script_lines.specs.TallyLines.{is_stop}
-use Rattle.cli_trials.specs.declared.machine.files.RunFiles.{RunFiles}
-use Rattle.cli_trials.specs.declared.machine.order.Order.{Order}
+use Rattle.cli_trials.specs.declared.trial.files.RunFiles.{RunFiles}
+use Rattle.cli_trials.specs.declared.trial.order.Order.{Order}
 use Rattle.cli_trials.specs.Trials.{outcome_in, text_outcome}
 use Rattle.cli_trials.specs.declared.shrink.shrinking.Script.{Script}
 use Rattle.cli_trials.specs.declared.shrink.shrinking.Shrunk.{Shrunk}
@@ -28,11 +28,7 @@ pub record IsSmall (wanted : Outcome) (ends : (text : List ℕ) → Option Outco
   pub stops : is_outcome wanted (ends (string_bytes script.text)) ≡ true
   pub minimal : script.minimal ≡ true → IsOneMinimal (λ lines. is_outcome wanted (ends (text_of lines))) script.lines.items
   pub spent : script.minimal ≡ false → script.runs ≡ max_runs
-
--- small, where a script was made
-abbrev pub AreShrunk : (wanted : Outcome) → (ends : (text : List ℕ) → Option Outcome) → Shrunk → Type 0
-AreShrunk wanted ends NothingStopped = ⊥
-AreShrunk wanted ends (Made script) = IsSmall wanted ends script
+  pub few : script.runs ≤ max_runs
 
 -- nothing stopped where the run ends in another way; and else the script stops as the run does
 abbrev pub IsShrunkAs : Outcome → (ends : (text : List ℕ) → Option Outcome) → Shrunk → Type 0

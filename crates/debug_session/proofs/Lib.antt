@@ -1,4 +1,5 @@
 pub mod SeenBytes
+pub mod Watching
 pub mod Motions
 pub mod Threads
 pub mod ServingSteps

@@ -1,14 +1,19 @@
 -- A run under way: forwards to a halt, and once more up to a place.
-use Rattle.std.proofs.Common.{◌≡◌, ℕ, zero, suc, ◌+◌, ◌-◌, ◌<◌, ◌≤◌, Bool, true, false, if◌then◌else◌, List, length, refl, sym, ◌∙◌, ap, Option, Some, None, arith}
-use Rattle.std.specs.Prelude.{unwrap_or}
-use Rattle.debug_session.specs.Runs.{Run, after, events_left, next_turn, halts, halts_after, first_halt, is_target, last_below}
+use Rattle.std.proofs.Common.{◌≡◌, ℕ, zero, suc, ◌+◌, ◌-◌, ◌<◌, ◌≤◌, Bool, true, false, ◌||◌, if◌then◌else◌, List, length, refl, sym, ◌∙◌, ap, ap₂, Option, Some, None, arith}
+use Rattle.std.specs.Prelude.{unwrap_or, option_map, is_some, nat_lt}
+use Rattle.std.proofs.lemmas.Bool.{lt-ltb, le-ltb}
+use Rattle.debug_session.specs.Runs.{Run, after, events_left, next_turn, halts, halts_after, first_halt, is_met, is_target, last_below, change_at, last_change, found_at, number_in}
+use Rattle.debug_session.specs.declared.motion.Change.{Change}
+use Rattle.debug_session.specs.declared.motion.Found.{Found}
+use Rattle.debug_session.specs.declared.watches.Watch.{Watch}
 
--- n events more are made of at most so many that were left, and the halt is still ahead
-pub record Underway {T : Type 0} (stands : T → Run → Type 0) (breaks : List ℕ) (steps : Option ℕ) (first : T) (most n : ℕ) (now : T) : Type 0 where
+-- n events more are made of at most so many that were left, the halt is still ahead, and what the last event changed is known
+pub record Underway {T : Type 0} (stands : T → Run → Type 0) (breaks : List ℕ) (watches : List Watch) (steps : Option ℕ) (first : T) (most n : ℕ) (now : T) (change : Option Change) : Type 0 where
   pub few : (run : Run) → stands first run → events_left run ≤ most
   pub here : (run : Run) → stands first run → stands now (after run (run.made + n))
   pub still : (run : Run) → stands first run →
-      first_halt (halts_after breaks steps run) run.made (events_left run) ≡ first_halt (halts_after breaks steps run) (run.made + n) (events_left run - n)
+      first_halt (halts_after breaks watches steps run) run.made (events_left run) ≡ first_halt (halts_after breaks watches steps run) (run.made + n) (events_left run - n)
+  pub last : (run : Run) → stands first run → change ≡ last_change watches run (run.made + n)
 
 pub first_halt_none : (h : ℕ → Bool) (n left : ℕ) → left ≡ 0 → first_halt h n left ≡ n
 unfolding first_halt
@@ -26,23 +31,35 @@ first_halt_here h n left some is = first_halt_step h n left some ∙ ap (λ b. i
 pub first_halt_later : (h : ℕ → Bool) (n left : ℕ) → 0 < left → h n ≡ false → first_halt h n left ≡ first_halt h (n + 1) (left - 1)
 first_halt_later h n left some is = first_halt_step h n left some ∙ ap (λ b. if b then n + 1 else first_halt h (n + 1) (left - 1)) is
 
--- whether it halts after an event more, by the turn that was next
-pub halts_by : (breaks : List ℕ) (steps turn : Option ℕ) (run : Run) (n : ℕ) → turn ≡ next_turn (after run n) →
-    halts_after breaks steps run n ≡ halts breaks steps turn (after run (n + 1))
+-- whether it halts after an event more, by the turn that was next and what it changed
+pub halts_by : (breaks : List ℕ) (watches : List Watch) (steps turn : Option ℕ) (change : Option Change) (run : Run) (n : ℕ) → turn ≡ next_turn (after run n) →
+    change ≡ change_at watches run n → halts_after breaks watches steps run n ≡ halts breaks steps turn change (after run (n + 1))
 unfolding halts_after
-halts_by breaks steps turn run n is = ap (λ t. halts breaks steps t (after run (n + 1))) (sym is)
+halts_by breaks watches steps turn change run n is changed =
+    ap (λ t. halts breaks steps t (change_at watches run n) (after run (n + 1))) (sym is) ∙ ap (λ c. halts breaks steps turn c (after run (n + 1))) (sym changed)
+
+-- the change of the event after n others doesn't depend on how many are made
+pub same_change : (watches : List Watch) (run : Run) (m n : ℕ) → change_at watches (after run m) n ≡ change_at watches run n
+unfolding change_at
+same_change watches run m n = refl
+
+pub none_made : (watches : List Watch) (run : Run) → None ≡ last_change watches run (run.made + 0)
+none_made watches run =
+    let none : nat_lt run.made (run.made + 0) ≡ false = le-ltb run.made (run.made + 0) (omega arith) in
+    ap (λ b. if b then change_at watches run (run.made + 0 - 1) else None) (sym none)
+
+pub one_made : (watches : List Watch) (run : Run) (n : ℕ) (change : Option Change) → change ≡ change_at watches run (run.made + n) → change ≡ last_change watches run (run.made + (n + 1))
+one_made watches run n change is =
+    let more : nat_lt run.made (run.made + (n + 1)) ≡ true = lt-ltb run.made (run.made + (n + 1)) (omega arith) in
+    let place : run.made + (n + 1) - 1 ≡ run.made + n = omega arith in
+    is ∙ ap (change_at watches run) (sym place) ∙ ap (λ b. if b then change_at watches run (run.made + (n + 1) - 1) else None) (sym more)
 
 -- ---- backwards
 
 -- from the first event on: n events are made, and the last place below is known
-pub record Searched {T : Type 0} (stands : T → Run → Type 0) (breaks : List ℕ) (steps : Option ℕ) (first : T) (count n : ℕ) (last : Option ℕ) (now : T) : Type 0 where
+pub record Searched {T : Type 0} (stands : T → Run → Type 0) (breaks : List ℕ) (watches : List Watch) (steps : Option ℕ) (first : T) (count n : ℕ) (last : Option Found) (now : T) : Type 0 where
   pub here : (run : Run) → stands first (after run 0) → count ≤ length run.events → stands now (after run n)
-  pub known : (run : Run) → stands first (after run 0) → count ≤ length run.events → last ≡ last_below (is_target breaks steps run) n
-
-pub same_target : (breaks : List ℕ) (steps : Option ℕ) (run : Run) (n : ℕ) → is_target breaks steps (after run n) n ≡ is_target breaks steps run n
-unfolding is_target
-same_target breaks None run n = refl
-same_target breaks (Some hart) run n = refl
+  pub known : (run : Run) → stands first (after run 0) → count ≤ length run.events → last ≡ option_map (found_at watches run) (last_below (is_target breaks watches steps run) n)
 
 pub last_below_none : (p : ℕ → Bool) → last_below p 0 ≡ None
 unfolding last_below
@@ -63,3 +80,20 @@ last_small p (suc n) =
       | true ↦ omega arith
       | false ↦ omega (arith, below)
     ]
+
+pub number_found : (watches : List Watch) (run : Run) (number : Option ℕ) → number_in (option_map (found_at watches run) number) ≡ unwrap_or number 0
+number_found watches run None = refl
+number_found watches run (Some n) = refl
+
+-- whether a place is one to go back to, by what is met there and what the next event changes
+pub target_by : (breaks : List ℕ) (watches : List Watch) (steps : Option ℕ) (run : Run) (n : ℕ) (met : Bool) (change : Option Change) → met ≡ is_met breaks steps (after run n) →
+    change ≡ change_at watches run n → (met || is_some change) ≡ is_target breaks watches steps run n
+unfolding is_target
+target_by breaks watches steps run n met change is changed = ap₂ (λ (m : Bool) (c : Option Change). m || is_some c) is changed
+
+abbrev found_by : ℕ → Option Change → Option Found
+found_by n change = Some (record { made = n; change = change })
+
+pub found_here : (watches : List Watch) (run : Run) (n : ℕ) (change : Option Change) → change ≡ change_at watches run n →
+    ◌≡◌ {A = Option Found} (Some (record { made = n; change = change })) (option_map (found_at watches run) (Some n))
+found_here watches run n change changed = ap (λ (c : Option Change). found_by n c) changed

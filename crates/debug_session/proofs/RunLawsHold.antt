@@ -1,6 +1,6 @@
 -- Where a run halts.
 use Rattle.std.proofs.Common.{◌≡◌, ℕ, zero, suc, ◌+◌, ◌-◌, ◌<◌, ◌≤◌, inl, inr, Bool, true, false, if◌then◌else◌, length, refl, subst, Option, Some, None, arith}
-use Rattle.debug_session.specs.Runs.{ahead, events_left, first_halt, halts_after, back_number, is_target, last_below}
+use Rattle.debug_session.specs.Runs.{ahead, events_left, first_halt, halts_after, back_number, is_target, last_below, watches_back}
 use Rattle.debug_session.specs.RunLaws.{IsAhead, IsBehind, AheadLaw, BehindLaw}
 
 -- ---- forwards
@@ -33,7 +33,7 @@ is_ahead h n (suc left) all whole = ahead_by h n left all whole (h n) refl (is_a
 
 pub ahead_law : AheadLaw
 unfolding ahead
-ahead_law breaks steps run within = is_ahead (halts_after breaks steps run) run.made (events_left run) (length run.events) (omega (arith, within))
+ahead_law breaks watches steps run within = is_ahead (halts_after breaks watches steps run) run.made (events_left run) (length run.events) (omega (arith, within))
 
 -- ---- backwards
 
@@ -64,4 +64,4 @@ is_behind p (suc n) = behind_by p n (p n) refl (is_behind p n)
 
 pub behind_law : BehindLaw
 unfolding back_number
-behind_law breaks steps run = is_behind (is_target breaks steps run) run.made
+behind_law breaks watches steps run = is_behind (is_target breaks (watches_back steps watches) steps run) run.made

@@ -66,6 +66,7 @@ begins_without_memory stands first keys old = record {
   input = [];
   took = ap (λ l. record keys { left = l }) (no_front keys.left);
   some = λ run here. record { written = []; left = answered run []; whole = refl; taken = no_bytes old.taken };
+  faults = refl;
 }
 
 -- ---- the ends
@@ -89,6 +90,7 @@ pub serves_up_to_read : {T : Type 0} (stands : T → Run → Type 0) (first targ
 serves_up_to_read stands first target keys left next old new desk reading u fails = record {
   input = u.input;
   took = ap (λ (k : KeysState). k.left) u.took ∙ ap (with_front u.input) (sym fails.left);
+  faults = subst (λ (k : KeysState). k.faults < next.faults) (sym u.took) fails.faults;
   wrote = λ run here. u.wrote ∙ ap (after_taking old) (all_written stands run target desk reading u.input u.bytes (u.goes run here));
 }
 
@@ -137,6 +139,7 @@ serves_some stands first target keys left next old new desk reading byte u one =
         whole = sym (at.still (byte ∷ []));
         taken = ap (λ (s : SinkState). s.taken) u.wrote;
       };
+  faults = ap (λ (s : SinkState). s.faults) u.wrote;
 }
 
 -- a write failed on a byte

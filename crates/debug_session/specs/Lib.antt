@@ -1,4 +1,5 @@
 pub mod Memory
+pub mod Watches
 pub mod Looks
 pub mod Runs
 pub mod Description

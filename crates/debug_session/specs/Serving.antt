@@ -1,5 +1,5 @@
 -- What a session owes to the bytes that come in, whatever they are. This project's own.
-use Rattle.std.specs.Prelude.{◌≡◌, ℕ, List, ◌∷◌, ◌++◌, Result, Ok, Err}
+use Rattle.std.specs.Prelude.{◌≡◌, ◌<◌, ℕ, List, ◌∷◌, ◌++◌, Result, Ok, Err}
 use Rattle.host_io.specs.Outside.{SinkState, after_taking, BreaksOff, TookPrefix}
 use Rattle.live_keys.specs.Keys.{KeysState, before_taking, with_front}
 use Rattle.gdb_protocol.specs.Reading.{Reading, arrivals}
@@ -25,6 +25,7 @@ pub record ServesAll {T : Type 0} (stands : T → Run → Type 0) (first : T) (k
 pub record ServesUpToRead {T : Type 0} (stands : T → Run → Type 0) (first : T) (keys left : KeysState) (old new : SinkState) : Type 0 where
   pub input : List ℕ
   pub took : keys.left ≡ with_front input left.left
+  pub faults : keys.faults < left.faults
   pub wrote : (run : Run) → stands first run → new ≡ after_taking old (answered run input)
 
 -- a write failed before all of them were written
@@ -38,6 +39,7 @@ pub record ServesSome {T : Type 0} (stands : T → Run → Type 0) (first : T) (
   pub input : List ℕ
   pub took : keys ≡ before_taking input left
   pub some : (run : Run) → stands first run → TookPrefix old new (answered run input)
+  pub faults : new.faults ≡ old.faults
 
 abbrev pub Serves : {T : Type 0} (stands : T → Run → Type 0) (first : T) (keys left : KeysState) (old new : SinkState) → Result (Unit {0}) Breakdown → Type 0
 Serves stands first keys left old new (Ok done) = ServesAll stands first keys left old new

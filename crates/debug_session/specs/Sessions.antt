@@ -1,6 +1,6 @@
 -- A debugging session: what each packet does, and what it is answered. This project's own, over GDB's remote serial protocol.
 use Rattle.std.specs.Prelude.{ℕ, zero, suc, ◌+◌, ◌-◌, ◌%◌, max, Bool, true, false, not, ◌&&◌, ◌==◌, nat_lt, nat_le, if◌then◌else◌, List, []}
-use Rattle.std.specs.Prelude.{◌∷◌, ◌++◌, length, drop, filter, flat_map, codes, is_some, unwrap_or, option_map, slice_get, Option, Some}
+use Rattle.std.specs.Prelude.{◌∷◌, ◌++◌, length, drop, filter, flat_map, codes, is_some, unwrap_or, option_map, option_and_then, slice_get, Option, Some}
 use Rattle.std.specs.Prelude.{None}
 use Rattle.sv_types.specs.declared.event.Verdict.{Verdict}
 use Rattle.sv_types.specs.declared.event.Verdict.TheVariants.{Running, Shutdown, Stopped}
@@ -26,7 +26,11 @@ use Rattle.gdb_protocol.specs.declared.stop.Stop.TheVariants as by
 use Rattle.debug_session.specs.Description.{description, supported_text}
 use Rattle.debug_session.specs.Looks.{error_text, hart_words, register_text, registers_text}
 use Rattle.debug_session.specs.Memory.{seen_bytes}
-use Rattle.debug_session.specs.Runs.{Run, state, ahead, behind, back_number, meets_break, next_turn}
+use Rattle.debug_session.specs.Runs.{Run, state, ahead, behind, found_behind, last_change, meets_break, next_turn}
+use Rattle.debug_session.specs.Watches.{watch_of, with_watch, without_watch}
+use Rattle.debug_session.specs.declared.motion.Change.{Change}
+use Rattle.debug_session.specs.declared.motion.Found.{Found}
+use Rattle.debug_session.specs.declared.watches.Watch.{Watch}
 
 -- what is kept between packets
 pub record Desk : Type 0 where
@@ -34,6 +38,7 @@ pub record Desk : Type 0 where
   pub looks : ℕ
   pub moves : ℕ
   pub breaks : List ℕ
+  pub watches : List Watch
   -- how many of the console's bytes were told
   pub told : ℕ
   -- whether packets are acknowledged
@@ -44,7 +49,7 @@ pub record Desk : Type 0 where
 
 -- nothing is set, and packets are acknowledged
 abbrev pub first_desk : Desk
-first_desk = record { looks = 0; moves = 0; breaks = []; told = 0; acks = true; last = []; goes_on = true }
+first_desk = record { looks = 0; moves = 0; breaks = []; watches = []; told = 0; acks = true; last = []; goes_on = true }
 
 -- ---- harts
 
@@ -82,14 +87,19 @@ abbrev pub running_halt : (breaks : List ℕ) → (hart : ℕ) → Run → Halt
 running_halt breaks hart run =
     if meets_break breaks run then record { stop = by.Break; hart = unwrap_or (next_turn run) hart } else record { stop = by.Step; hart = hart }
 
--- a broken rule is the fault of the hart that broke it
-abbrev pub halt_by : Verdict → (breaks : List ℕ) → (hart : ℕ) → Run → Halt
-halt_by Running breaks hart run = running_halt breaks hart run
-halt_by Shutdown breaks hart run = record { stop = by.End; hart = hart }
-halt_by (Stopped rule broke turn) breaks hart run = record { stop = by.Fault; hart = broke }
+-- by a change of what is watched, where there is one
+abbrev pub changed_halt : Option Change → (breaks : List ℕ) → (hart : ℕ) → Run → Halt
+changed_halt None breaks hart run = running_halt breaks hart run
+changed_halt (Some change) breaks hart run = record { stop = by.Write change.address; hart = unwrap_or change.turn hart }
 
-unfoldable pub halt_of : (breaks : List ℕ) → (hart : ℕ) → Run → Halt
-halt_of breaks hart run = halt_by (state run).journal.verdict breaks hart run
+-- a broken rule is the fault of the hart that broke it
+abbrev pub halt_by : Verdict → Option Change → (breaks : List ℕ) → (hart : ℕ) → Run → Halt
+halt_by Running change breaks hart run = changed_halt change breaks hart run
+halt_by Shutdown change breaks hart run = record { stop = by.End; hart = hart }
+halt_by (Stopped rule broke turn) change breaks hart run = record { stop = by.Fault; hart = broke }
+
+unfoldable pub halt_of : Option Change → (breaks : List ℕ) → (hart : ℕ) → Run → Halt
+halt_of change breaks hart run = halt_by (state run).journal.verdict change breaks hart run
 
 abbrev pub halt_text : Halt → List ℕ
 halt_text halt = stop_text halt.stop (thread_of_hart halt.hart)
@@ -137,15 +147,20 @@ at_most most n = if nat_lt n most then n else most
 unfoldable pub memory_text : List ℕ → Range → SavedHart → List ℕ
 memory_text ram range hart = bytes_text (seen_bytes ram hart.satp range.start (at_most max_bytes range.length))
 
+-- the watch that is asked for, of the memory that the chosen hart sees
+abbrev pub watch_in : Run → Desk → Range → Option Watch
+watch_in run desk range = option_and_then (watch_of (state run).ram range) (hart_at run desk.looks)
+
 -- about the harts of a run
 abbrev pub reply_about : Run → Desk → Packet → List ℕ
-reply_about run desk asks.StopReason = halt_text (halt_of desk.breaks desk.looks run)
+reply_about run desk asks.StopReason = halt_text (halt_of None desk.breaks desk.looks run)
 reply_about run desk asks.Registers = of_hart registers_text (hart_at run desk.looks)
 reply_about run desk (asks.Register number) = of_hart (λ hart. register_text hart number) (hart_at run desk.looks)
 reply_about run desk (asks.Memory range) = of_hart (memory_text (state run).ram range) (hart_at run desk.looks)
 reply_about run desk (asks.Choose thread) = ok_or_error (is_some (hart_of (hart_count run) desk.looks thread))
 reply_about run desk (asks.ChooseToMove thread) = ok_or_error (is_some (hart_of (hart_count run) desk.moves thread))
 reply_about run desk (asks.IsAlive thread) = ok_or_error (is_some (hart_of (hart_count run) desk.looks thread))
+reply_about run desk (asks.SetWatch range) = ok_or_error (is_some (watch_in run desk range))
 reply_about run desk asks.FirstThreads = threads_text (hart_count run)
 reply_about run desk (asks.ThreadText thread) =
     of_thread (λ hart. of_hart (λ h. byte_digits (hart_words h)) (hart_at run hart)) (hart_of (hart_count run) desk.looks thread)
@@ -164,6 +179,7 @@ reply run desk asks.IsAttached = codes "1"
 reply run desk asks.StartNoAcks = ok_text
 reply run desk (asks.SetBreak place) = ok_text
 reply run desk (asks.ClearBreak place) = ok_text
+reply run desk (asks.ClearWatch range) = ok_text
 reply run desk asks.Detach = ok_text
 reply run desk asks.MotionsAsked = codes "vCont;c;C;s;S"
 reply run desk packet = reply_about run desk packet
@@ -174,6 +190,8 @@ desk_after run desk (asks.Choose thread) = record desk { looks = unwrap_or (hart
 desk_after run desk (asks.ChooseToMove thread) = record desk { moves = unwrap_or (hart_of (hart_count run) desk.moves thread) desk.moves }
 desk_after run desk (asks.SetBreak place) = record desk { breaks = with_break desk.breaks place.start }
 desk_after run desk (asks.ClearBreak place) = record desk { breaks = without_break desk.breaks place.start }
+desk_after run desk (asks.SetWatch range) = record desk { watches = with_watch desk.watches (watch_in run desk range) }
+desk_after run desk (asks.ClearWatch range) = record desk { watches = without_watch desk.watches range.start }
 desk_after run desk asks.StartNoAcks = record desk { acks = false }
 desk_after run desk asks.Detach = record desk { goes_on = false }
 desk_after run desk asks.Kill = record desk { goes_on = false }
@@ -182,22 +200,30 @@ desk_after run desk _ = desk
 -- ---- packets that move a run
 
 -- where a motion of a hart leads
-abbrev pub moved : Motion → (breaks : List ℕ) → (hart : ℕ) → Run → Run
-moved Continue breaks hart run = ahead breaks None run
-moved Step breaks hart run = ahead breaks (Some hart) run
-moved ContinueBack breaks hart run = behind breaks None run
-moved StepBack breaks hart run = behind breaks (Some hart) run
+abbrev pub moved : Motion → (breaks : List ℕ) → List Watch → (hart : ℕ) → Run → Run
+moved Continue breaks watches hart run = ahead breaks watches None run
+moved Step breaks watches hart run = ahead breaks watches (Some hart) run
+moved ContinueBack breaks watches hart run = behind breaks watches None run
+moved StepBack breaks watches hart run = behind breaks watches (Some hart) run
 
-abbrev pub halt_back : Bool → (breaks : List ℕ) → (hart : ℕ) → Run → Halt
-halt_back true breaks hart run = halt_of breaks hart run
-halt_back false breaks hart run = record { stop = by.Beginning; hart = hart }
+-- why it halts there, forwards
+abbrev pub halt_ahead : (breaks : List ℕ) → List Watch → (steps : Option ℕ) → (hart : ℕ) → Run → Halt
+halt_ahead breaks watches steps hart run =
+    halt_of (last_change watches run (ahead breaks watches steps run).made) breaks hart (ahead breaks watches steps run)
 
--- why it halts there
-abbrev pub halt_after : Motion → (breaks : List ℕ) → (hart : ℕ) → Run → Halt
-halt_after Continue breaks hart run = halt_of breaks hart (ahead breaks None run)
-halt_after Step breaks hart run = halt_of breaks hart (ahead breaks (Some hart) run)
-halt_after ContinueBack breaks hart run = halt_back (is_some (back_number breaks None run)) breaks hart (behind breaks None run)
-halt_after StepBack breaks hart run = halt_back (is_some (back_number breaks (Some hart) run)) breaks hart (behind breaks (Some hart) run)
+-- and backwards
+abbrev pub halt_back : Option Found → (breaks : List ℕ) → (hart : ℕ) → Run → Halt
+halt_back None breaks hart run = record { stop = by.Beginning; hart = hart }
+halt_back (Some found) breaks hart run = halt_of found.change breaks hart run
+
+abbrev pub halt_behind : (breaks : List ℕ) → List Watch → (steps : Option ℕ) → (hart : ℕ) → Run → Halt
+halt_behind breaks watches steps hart run = halt_back (found_behind breaks watches steps run) breaks hart (behind breaks watches steps run)
+
+abbrev pub halt_after : Motion → (breaks : List ℕ) → List Watch → (hart : ℕ) → Run → Halt
+halt_after Continue breaks watches hart run = halt_ahead breaks watches None hart run
+halt_after Step breaks watches hart run = halt_ahead breaks watches (Some hart) hart run
+halt_after ContinueBack breaks watches hart run = halt_behind breaks watches None hart run
+halt_after StepBack breaks watches hart run = halt_behind breaks watches (Some hart) hart run
 
 -- bytes of the console that weren't told yet
 abbrev pub told_now : (told : ℕ) → (printed : List ℕ) → List (List ℕ)
@@ -217,13 +243,17 @@ pub record Outcome : Type 0 where
 abbrev pub error_outcome : Run → Desk → Outcome
 error_outcome run desk = record { run = run; desk = desk; answers = error_text ∷ [] }
 
-abbrev pub motion_outcome : Motion → (hart : ℕ) → Run → Desk → Outcome
-motion_outcome motion hart run desk = record {
-  run = moved motion desk.breaks hart run;
-  desk = standing (halt_after motion desk.breaks hart run) (moved motion desk.breaks hart run) desk;
-  answers =
-      told_now desk.told (state (moved motion desk.breaks hart run)).journal.printed ++ halt_text (halt_after motion desk.breaks hart run) ∷ [];
+-- a run stands there, and tells why
+abbrev pub halted_outcome : Run → Halt → Desk → Outcome
+halted_outcome run halt desk = record {
+  run = run;
+  desk = standing halt run desk;
+  answers = told_now desk.told (state run).journal.printed ++ halt_text halt ∷ [];
 }
+
+abbrev pub motion_outcome : Motion → (hart : ℕ) → Run → Desk → Outcome
+motion_outcome motion hart run desk =
+    halted_outcome (moved motion desk.breaks desk.watches hart run) (halt_after motion desk.breaks desk.watches hart run) desk
 
 abbrev pub by_motion : Motion → Option ℕ → Run → Desk → Outcome
 by_motion motion None run desk = error_outcome run desk
@@ -248,7 +278,7 @@ abbrev pub by_arrival : Arrival → (payload : List ℕ) → Run → Desk → Ou
 by_arrival kind.Packet payload run desk = by_packet (packet_of payload) run desk
 by_arrival kind.Broken payload run desk = with_answers (if desk.acks then [] else error_text ∷ []) run desk
 by_arrival kind.TooLong payload run desk = with_answers (error_text ∷ []) run desk
-by_arrival kind.Interrupt payload run desk = with_answers (halt_text (halt_of desk.breaks desk.looks run) ∷ []) run desk
+by_arrival kind.Interrupt payload run desk = with_answers (halt_text (halt_of None desk.breaks desk.looks run) ∷ []) run desk
 by_arrival kind.Received payload run desk = with_answers [] run desk
 by_arrival kind.Again payload run desk = with_answers (desk.last ∷ []) run desk
 

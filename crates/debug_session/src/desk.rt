@@ -1,8 +1,10 @@
 // What a session keeps between packets.
 ghost use Rattle.std.specs.Prelude.{◌≡◌, [], true, false, OnOk, IfOk, unwrap_or, max};
 ghost use Rattle.debug_session.specs.Sessions as spec;
+ghost use Rattle.debug_session.specs.Watches.{with_watch, without_watch};
 
 use crate::breaks::{clear_break, set_break};
+use crate::watches::{Watch, clear_watch, set_watch};
 use std::alloc::{AllocError, Global};
 use std::marker::Model;
 
@@ -14,6 +16,7 @@ pub struct Desk {
     /// The hart that goes on.
     pub moves: u8,
     pub breaks: Vec<u64>,
+    pub watches: Vec<Watch>,
     /// How many of the console's bytes were told.
     pub told: usize,
     /// Whether packets are acknowledged.
@@ -42,6 +45,7 @@ impl Desk {
             looks: 0,
             moves: 0,
             breaks: Vec::new(alloc),
+            watches: Vec::new(alloc),
             told: 0,
             acks: true,
             last: Vec::new(alloc),
@@ -71,6 +75,22 @@ impl Desk {
         ensures { self.new ≡ record self.old { breaks = spec.without_break self.old.breaks place } }
     {
         clear_break(&mut self.breaks, place);
+    }
+
+    // None where there is no word to watch.
+    pub(crate) fn set_watch(&mut self, watch: Option<Watch>) -> Result<(), AllocError>
+        ensures { OnOk result (self.new ≡ record self.old { watches = with_watch self.old.watches watch }) }
+    {
+        match watch {
+            Some(watch) => set_watch(&mut self.watches, watch),
+            None => Ok(()),
+        }
+    }
+
+    pub(crate) fn clear_watch(&mut self, address: u64)
+        ensures { self.new ≡ record self.old { watches = without_watch self.old.watches address } }
+    {
+        clear_watch(&mut self.watches, address);
     }
 
     pub(crate) fn stop_acks(&mut self)

@@ -16,12 +16,15 @@ mod serving;
 mod target;
 #[cfg(test)]
 mod tests;
+mod watches;
 
 pub use breakdown::Breakdown;
 pub use desk::Desk;
 pub use harts::hart_words;
 pub use laws::{law_ahead, law_behind};
 pub use memory::push_seen_bytes;
+pub use motion::{Change, Found};
 pub use registers::{push_register, push_registers};
 pub use serving::serve;
 pub use target::Target;
+pub use watches::{Watch, Width};

@@ -96,7 +96,7 @@ fn is_canonical(va: u64) -> bool
 
 /// The guest-physical address of a virtual one, by the loads of kernel mode under a root. None where they fault.
 #[tactic(auto, unfolding(crate::specs::Memory::seen_address, spec_processor::specs::Translation::place, spec_processor::specs::Translation::first_stage))]
-fn seen_address(ram: &[u8], satp: u64, va: u64) -> Option<u64>
+pub(crate) fn seen_address(ram: &[u8], satp: u64, va: u64) -> Option<u64>
     ensures { result ≡ spec.seen_address ram.now satp va }
 {
     if satp >> ROOT_MODE_SHIFT == BARE {

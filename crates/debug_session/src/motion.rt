@@ -1,11 +1,26 @@
 // How a run goes on.
-ghost use Rattle.std.specs.Prelude.{◌≡◌, ◌<◌, ◌≤◌, ◌+◌, OnOk, IfOk, is_some, length};
+ghost use Rattle.std.specs.Prelude.{◌≡◌, ◌<◌, ◌≤◌, ◌+◌, ◌||◌, OnOk, IfOk, is_some, length, option_map};
 ghost use Rattle.spec_reference.specs.States.{has_number};
 ghost use Rattle.debug_session.specs.Runs as spec;
 
 use crate::target::Target;
+use crate::watches::{Watch, all_watched, first_changed};
 use std::alloc::{AllocError, Global};
 use sv_types::Verdict;
+
+/// A change of what is watched by an event: the address of the watch, and the hart whose turn the event is.
+#[derive(Clone, Copy, Debug, PartialEq, Eq, Drop)]
+pub struct Change {
+    pub address: u64,
+    pub turn: Option<u8>,
+}
+
+/// A place to go back to: the number of events that are made there, and what the next one changes of what is watched.
+#[derive(Clone, Copy, Debug, PartialEq, Eq, Drop)]
+pub struct Found {
+    pub made: u64,
+    pub change: Option<Change>,
+}
 
 pub(crate) fn has_number(numbers: &[u64], number: u64) -> bool
     ensures { result ≡ has_number numbers.now number }
@@ -18,6 +33,9 @@ pub(crate) fn has_number(numbers: &[u64], number: u64) -> bool
 pub(crate) fn meets_break<T: Target>(target: &T, breaks: &[u64]) -> bool
     ensures { (run : spec.Run) → T.stands target.now run → result ≡ spec.meets_break breaks.now run }
 {
+    if breaks.is_empty() {
+        return false;
+    }
     let Some(hart) = target.next_turn() else {
         return false;
     };
@@ -45,44 +63,90 @@ fn is_running(verdict: Verdict) -> bool
     }
 }
 
-// A run halts here after a turn.
-fn halts<T: Target>(target: &T, breaks: &[u64], steps: Option<u8>, turn: Option<u8>) -> bool
-    ensures { (run : spec.Run) → T.stands target.now run → result ≡ spec.halts breaks.now steps turn run }
-{
-    !is_running(target.verdict()) || is_step(steps, turn) || meets_break(target, breaks)
-}
-
-/// A run goes on to where it halts.
-pub(crate) fn go_ahead<T: Target>(
-    target: &mut T,
+// A run halts here after an event.
+fn halts<T: Target>(
+    target: &T,
     breaks: &[u64],
     steps: Option<u8>,
-) -> Result<(), AllocError>
-    ensures { OnOk result ((run : spec.Run) → T.stands target.old run → T.stands target.new (spec.ahead breaks.now steps run)) }
+    turn: Option<u8>,
+    change: Option<Change>,
+) -> bool
+    ensures { (run : spec.Run) → T.stands target.now run → result ≡ spec.halts breaks.now steps turn change run }
 {
-    let most = target.most_left();
-    'events: for _ in 0..most {
-        if !target.is_left() {
-            return Ok(());
-        }
-        let turn = target.next_turn();
-        target.advance()?;
-        if halts(target, breaks, steps, turn) {
-            return Ok(());
-        }
-    }
-    Ok(())
+    change.is_some()
+        || !is_running(target.verdict())
+        || is_step(steps, turn)
+        || meets_break(target, breaks)
 }
 
-// A place to go back to.
-#[tactic(auto, unfolding(crate::specs::Runs::is_target))]
-fn is_target<T: Target>(target: &T, breaks: &[u64], steps: Option<u8>) -> bool
-    ensures { (run : spec.Run) → T.stands target.now run → result ≡ spec.is_target breaks.now steps run run.made }
+fn change_of(turn: Option<u8>, address: Option<u64>) -> Option<Change>
+    ensures { result ≡ spec.change_of turn address }
+{
+    match address {
+        Some(address) => Some(Change { address, turn }),
+        None => None,
+    }
+}
+
+// Makes one event more, and answers what it changed of what is watched.
+#[tactic(auto, unfolding(crate::specs::Runs::change_at))]
+fn advance_watching<T: Target>(
+    target: &mut T,
+    alloc: Global,
+    watches: &[Watch],
+) -> Result<Option<Change>, AllocError>
+    ensures moved { OnOk result ((run : spec.Run) → T.stands target.old run → run.made < length run.events → T.stands target.new (spec.after run (run.made + 1))) }
+    ensures change { IfOk result (λ change. (run : spec.Run) → T.stands target.old run → run.made < length run.events →
+        change ≡ spec.change_at watches.now run run.made) }
+{
+    let turn = target.next_turn();
+    let before = all_watched(alloc, watches, target.ram())?;
+    target.advance()?;
+    Ok(change_of(turn, first_changed(watches, &before, target.ram())))
+}
+
+/// A run goes on to where it halts. Answers what the last event changed of what is watched.
+pub(crate) fn go_ahead<T: Target>(
+    target: &mut T,
+    alloc: Global,
+    breaks: &[u64],
+    watches: &[Watch],
+    steps: Option<u8>,
+) -> Result<Option<Change>, AllocError>
+    ensures moved { OnOk result ((run : spec.Run) → T.stands target.old run → T.stands target.new (spec.ahead breaks.now watches.now steps run)) }
+    ensures change { IfOk result (λ change. (run : spec.Run) → T.stands target.old run →
+        change ≡ spec.last_change watches.now run (spec.ahead breaks.now watches.now steps run).made) }
+{
+    let most = target.most_left();
+    let mut change = None;
+    'events: for _ in 0..most {
+        if !target.is_left() {
+            return Ok(change);
+        }
+        let turn = target.next_turn();
+        change = advance_watching(target, alloc, watches)?;
+        if halts(target, breaks, steps, turn, change) {
+            return Ok(change);
+        }
+    }
+    Ok(change)
+}
+
+// A break is met, or a hart that steps has the next turn.
+#[tactic(auto, unfolding(crate::specs::Runs::is_met))]
+fn is_met<T: Target>(target: &T, breaks: &[u64], steps: Option<u8>) -> bool
+    ensures { (run : spec.Run) → T.stands target.now run → result ≡ spec.is_met breaks.now steps run }
 {
     match steps {
         None => meets_break(target, breaks),
         Some(hart) => is_step(Some(hart), target.next_turn()),
     }
+}
+
+fn is_hit(is_met: bool, change: Option<Change>) -> bool
+    ensures { result ≡ (is_met || is_some change) }
+{
+    is_met || change.is_some()
 }
 
 // So many events more are made.
@@ -99,41 +163,64 @@ fn advance_by<T: Target>(target: &mut T, count: u64) -> Result<(), AllocError>
 // The last place to go back to before so many events, from the first event on. These events are made.
 fn last_target<T: Target>(
     target: &mut T,
+    alloc: Global,
     breaks: &[u64],
+    watches: &[Watch],
     steps: Option<u8>,
     count: u64,
-) -> Result<Option<u64>, AllocError>
-    ensures found { IfOk result (λ number. (run : spec.Run) → T.stands target.old (spec.after run 0) → count ≤ length run.events →
-        number ≡ spec.last_below (spec.is_target breaks.now steps run) count) }
+) -> Result<Option<Found>, AllocError>
+    ensures found { IfOk result (λ found. (run : spec.Run) → T.stands target.old (spec.after run 0) → count ≤ length run.events →
+        found ≡ option_map (spec.found_at watches.now run) (spec.last_below (spec.is_target breaks.now watches.now steps run) count)) }
     ensures moved { OnOk result ((run : spec.Run) → T.stands target.old (spec.after run 0) → count ≤ length run.events →
         T.stands target.new (spec.after run count)) }
 {
     let mut last = None;
     'events: for n in 0..count {
-        if is_target(target, breaks, steps) {
-            last = Some(n);
+        let is_met = is_met(target, breaks, steps);
+        let change = advance_watching(target, alloc, watches)?;
+        if is_hit(is_met, change) {
+            last = Some(Found { made: n, change });
         }
-        target.advance()?;
     }
     Ok(last)
 }
 
-/// A run goes back to the last place before, and says whether there is one; else it begins anew. It is made once up to where it
-/// was, and once more up to that place.
-#[tactic(auto, unfolding(crate::specs::Runs::behind, crate::specs::Runs::back_number))]
+fn watches_back(steps: Option<u8>, watches: &[Watch]) -> &[Watch]
+    ensures { result.now ≡ spec.watches_back steps watches.now }
+{
+    match steps {
+        None => watches,
+        Some(_) => &[],
+    }
+}
+
+fn number_of(found: Option<Found>) -> u64
+    ensures { result ≡ spec.number_in found }
+{
+    match found {
+        Some(found) => found.made,
+        None => 0,
+    }
+}
+
+/// A run goes back to the last place before, and says what is found there; else it begins anew. It is made once up to where it was,
+/// and once more up to that place.
+#[tactic(auto, unfolding(crate::specs::Runs::behind, crate::specs::Runs::back_number, crate::specs::Runs::found_behind))]
 pub(crate) fn go_back<T: Target>(
     target: &mut T,
     alloc: Global,
     breaks: &[u64],
+    watches: &[Watch],
     steps: Option<u8>,
-) -> Result<bool, AllocError>
-    ensures moved { OnOk result ((run : spec.Run) → T.stands target.old run → T.stands target.new (spec.behind breaks.now steps run)) }
-    ensures found { IfOk result (λ found. (run : spec.Run) → T.stands target.old run → found ≡ is_some (spec.back_number breaks.now steps run)) }
+) -> Result<Option<Found>, AllocError>
+    ensures moved { OnOk result ((run : spec.Run) → T.stands target.old run → T.stands target.new (spec.behind breaks.now watches.now steps run)) }
+    ensures found { IfOk result (λ found. (run : spec.Run) → T.stands target.old run → found ≡ spec.found_behind breaks.now watches.now steps run) }
 {
     let made = target.events_made();
+    let watches = watches_back(steps, watches);
     target.restart(alloc)?;
-    let number = last_target(target, breaks, steps, made)?;
+    let found = last_target(target, alloc, breaks, watches, steps, made)?;
     target.restart(alloc)?;
-    advance_by(target, number.unwrap_or(0))?;
-    Ok(number.is_some())
+    advance_by(target, number_of(found))?;
+    Ok(found)
 }

@@ -5,14 +5,15 @@ ghost use Rattle.gdb_protocol.specs.Packets.{packet_of};
 ghost use Rattle.debug_session.specs.Halts.{halt_value};
 ghost use Rattle.debug_session.specs.Looks.{error_text};
 ghost use Rattle.debug_session.specs.Performing.{Performs};
-ghost use Rattle.debug_session.specs.Runs.{Run};
+ghost use Rattle.debug_session.specs.Runs.{Run, ahead, behind};
 ghost use Rattle.debug_session.specs.Sessions as spec;
 
 use crate::desk::Desk;
-use crate::motion::{go_ahead, go_back};
+use crate::motion::{Found, go_ahead, go_back};
 use crate::registers::ERROR;
-use crate::replies::{Halt, halt_of, hart_of, push_halt, push_reply};
+use crate::replies::{Halt, halt_of, hart_of, push_halt, push_reply, watch_in};
 use crate::target::Target;
+use crate::watches::Watch;
 use gdb_protocol::{Arrival, Motion, Packet, Stop, Thread, packet_of, push_console, push_frame};
 use std::alloc::{AllocError, Global};
 
@@ -44,6 +45,8 @@ fn set<T: Target>(target: &T, desk: &mut Desk, packet: Packet) -> Result<(), All
         Packet::ChooseToMove(thread) => choose_to_move(desk, harts, thread),
         Packet::SetBreak(place) => desk.set_break(place.start)?,
         Packet::ClearBreak(place) => desk.clear_break(place.start),
+        Packet::SetWatch(range) => desk.set_watch(watch_in(target, desk, range))?,
+        Packet::ClearWatch(range) => desk.clear_watch(range.start),
         Packet::StartNoAcks => desk.stop_acks(),
         Packet::Detach | Packet::Kill => desk.end(),
         _ => {}
@@ -53,17 +56,50 @@ fn set<T: Target>(target: &T, desk: &mut Desk, packet: Packet) -> Result<(), All
 
 // ---- motions
 
-fn halt_back<T: Target>(is_found: bool, target: &T, breaks: &[u64], hart: u8) -> Halt
-    ensures { (run : Run) → T.stands target.now run → halt_value result ≡ spec.halt_back is_found breaks.now hart run }
+fn halt_back<T: Target>(target: &T, found: Option<Found>, breaks: &[u64], hart: u8) -> Halt
+    ensures { (run : Run) → T.stands target.now run → halt_value result ≡ spec.halt_back found breaks.now hart run }
 {
-    if is_found {
-        halt_of(target, breaks, hart)
-    } else {
-        Halt {
+    match found {
+        Some(found) => halt_of(target, found.change, breaks, hart),
+        None => Halt {
             stop: Stop::Beginning,
             hart,
-        }
+        },
     }
+}
+
+// Forwards.
+fn move_ahead<T: Target>(
+    alloc: Global,
+    target: &mut T,
+    breaks: &[u64],
+    watches: &[Watch],
+    steps: Option<u8>,
+    hart: u8,
+) -> Result<Halt, AllocError>
+    ensures moved { OnOk result ((run : Run) → T.stands target.old run → T.stands target.new (ahead breaks.now watches.now steps run)) }
+    ensures halt { IfOk result (λ halt. (run : Run) → T.stands target.old run →
+        halt_value halt ≡ spec.halt_ahead breaks.now watches.now steps hart run) }
+{
+    let change = go_ahead(target, alloc, breaks, watches, steps)?;
+    Ok(halt_of(target, change, breaks, hart))
+}
+
+// Backwards.
+fn move_back<T: Target>(
+    alloc: Global,
+    target: &mut T,
+    breaks: &[u64],
+    watches: &[Watch],
+    steps: Option<u8>,
+    hart: u8,
+) -> Result<Halt, AllocError>
+    ensures moved { OnOk result ((run : Run) → T.stands target.old run → T.stands target.new (behind breaks.now watches.now steps run)) }
+    ensures halt { IfOk result (λ halt. (run : Run) → T.stands target.old run →
+        halt_value halt ≡ spec.halt_behind breaks.now watches.now steps hart run) }
+{
+    let found = go_back(target, alloc, breaks, watches, steps)?;
+    Ok(halt_back(target, found, breaks, hart))
 }
 
 // A run goes on by a hart, and halts.
@@ -71,29 +107,20 @@ fn move_run<T: Target>(
     alloc: Global,
     target: &mut T,
     breaks: &[u64],
+    watches: &[Watch],
     motion: Motion,
     hart: u8,
 ) -> Result<Halt, AllocError>
-    ensures moved { OnOk result ((run : Run) → T.stands target.old run → T.stands target.new (spec.moved motion breaks.now hart run)) }
-    ensures halt { IfOk result (λ halt. (run : Run) → T.stands target.old run → halt_value halt ≡ spec.halt_after motion breaks.now hart run) }
+    ensures moved { OnOk result ((run : Run) → T.stands target.old run →
+        T.stands target.new (spec.moved motion breaks.now watches.now hart run)) }
+    ensures halt { IfOk result (λ halt. (run : Run) → T.stands target.old run →
+        halt_value halt ≡ spec.halt_after motion breaks.now watches.now hart run) }
 {
     match motion {
-        Motion::Continue => {
-            go_ahead(target, breaks, None)?;
-            Ok(halt_of(target, breaks, hart))
-        }
-        Motion::Step => {
-            go_ahead(target, breaks, Some(hart))?;
-            Ok(halt_of(target, breaks, hart))
-        }
-        Motion::ContinueBack => {
-            let is_found = go_back(target, alloc, breaks, None)?;
-            Ok(halt_back(is_found, target, breaks, hart))
-        }
-        Motion::StepBack => {
-            let is_found = go_back(target, alloc, breaks, Some(hart))?;
-            Ok(halt_back(is_found, target, breaks, hart))
-        }
+        Motion::Continue => move_ahead(alloc, target, breaks, watches, None, hart),
+        Motion::Step => move_ahead(alloc, target, breaks, watches, Some(hart), hart),
+        Motion::ContinueBack => move_back(alloc, target, breaks, watches, None, hart),
+        Motion::StepBack => move_back(alloc, target, breaks, watches, Some(hart), hart),
     }
 }
 
@@ -150,6 +177,22 @@ fn give_halt(
 
 // ---- what arrives
 
+// A run stands where it was moved to, and tells why.
+fn stand<T: Target>(
+    alloc: Global,
+    target: &T,
+    desk: &mut Desk,
+    halt: Halt,
+    out: &mut Vec<u8>,
+) -> Result<(), AllocError>
+    ensures { OnOk result ((run : Run) → T.stands target.now run →
+        Performs T.stands (spec.halted_outcome run (halt_value halt) desk.old) out.old.items target.now desk.new out.new.items) }
+{
+    tell_console(alloc, desk.told, target.console(), out)?;
+    desk.stand_at(halt.hart, target.console().len());
+    give_halt(alloc, desk, halt, out)
+}
+
 fn answer_motion<T: Target>(
     alloc: Global,
     target: &mut T,
@@ -161,10 +204,8 @@ fn answer_motion<T: Target>(
     ensures { OnOk result ((run : Run) → T.stands target.old run →
         Performs T.stands (spec.motion_outcome motion hart run desk.old) out.old.items target.new desk.new out.new.items) }
 {
-    let halt = move_run(alloc, target, &desk.breaks, motion, hart)?;
-    tell_console(alloc, desk.told, target.console(), out)?;
-    desk.stand_at(halt.hart, target.console().len());
-    give_halt(alloc, desk, halt, out)
+    let halt = move_run(alloc, target, &desk.breaks, &desk.watches, motion, hart)?;
+    stand(alloc, target, desk, halt, out)
 }
 
 fn answer_still<T: Target>(
@@ -231,7 +272,7 @@ fn answer<T: Target>(
         Arrival::Broken if desk.acks => Ok(()),
         Arrival::Broken | Arrival::TooLong => give_error(alloc, desk, out),
         Arrival::Interrupt => {
-            let halt = halt_of(target, &desk.breaks, desk.looks);
+            let halt = halt_of(target, None, &desk.breaks, desk.looks);
             give_halt(alloc, desk, halt, out)
         }
         Arrival::Received => Ok(()),

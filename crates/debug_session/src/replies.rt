@@ -10,9 +10,10 @@ use crate::description::{SUPPORTED, description};
 use crate::desk::Desk;
 use crate::harts::hart_words;
 use crate::memory::push_seen_bytes;
-use crate::motion::meets_break;
+use crate::motion::{Change, meets_break};
 use crate::registers::{ERROR, push_register, push_registers};
 use crate::target::Target;
+use crate::watches::{Watch, watch_of};
 use gdb_protocol::{Packet, Range, Stop, Thread, push_digits, push_part, push_stop};
 use spec_reference::saved_machine::SavedHart;
 use std::alloc::{AllocError, Global};
@@ -49,11 +50,16 @@ pub(crate) fn hart_of(harts: u8, chosen: u8, thread: Thread) -> Option<u8>
 
 /// Why a run stands where it does.
 #[tactic(auto, unfolding(crate::specs::Sessions::halt_of))]
-pub(crate) fn halt_of<T: Target>(target: &T, breaks: &[u64], hart: u8) -> Halt
-    ensures { (run : Run) → T.stands target.now run → halt_value result ≡ spec.halt_of breaks.now hart run }
+pub(crate) fn halt_of<T: Target>(
+    target: &T,
+    change: Option<Change>,
+    breaks: &[u64],
+    hart: u8,
+) -> Halt
+    ensures { (run : Run) → T.stands target.now run → halt_value result ≡ spec.halt_of change breaks.now hart run }
 {
     match target.verdict() {
-        Verdict::Running => running_halt(target, breaks, hart),
+        Verdict::Running => changed_halt(target, change, breaks, hart),
         Verdict::Shutdown => Halt {
             stop: Stop::End,
             hart,
@@ -62,6 +68,19 @@ pub(crate) fn halt_of<T: Target>(target: &T, breaks: &[u64], hart: u8) -> Halt
             stop: Stop::Fault,
             hart: broke,
         },
+    }
+}
+
+// By a change of what is watched, where there is one.
+fn changed_halt<T: Target>(target: &T, change: Option<Change>, breaks: &[u64], hart: u8) -> Halt
+    ensures { (run : Run) → T.stands target.now run → halt_value result ≡ spec.changed_halt change breaks.now hart run }
+{
+    match change {
+        Some(change) => Halt {
+            stop: Stop::Write(change.address),
+            hart: change.turn.unwrap_or(hart),
+        },
+        None => running_halt(target, breaks, hart),
     }
 }
 
@@ -227,6 +246,14 @@ fn push_thread_text<T: Target>(
     }
 }
 
+/// The watch that is asked for, of the memory that the chosen hart sees.
+pub(crate) fn watch_in<T: Target>(target: &T, desk: &Desk, range: Range) -> Option<Watch>
+    ensures { (run : Run) → T.stands target.now run → result ≡ spec.watch_in run desk.now range }
+{
+    let hart = target.hart(desk.looks)?;
+    watch_of(target.ram(), range, &hart)
+}
+
 // Answers about the harts of a run.
 #[tactic(auto)]
 fn push_about_run<T: Target>(
@@ -240,7 +267,7 @@ fn push_about_run<T: Target>(
 {
     let harts = target.hart_count();
     match packet {
-        Packet::StopReason => push_halt(out, halt_of(target, &desk.breaks, desk.looks)),
+        Packet::StopReason => push_halt(out, halt_of(target, None, &desk.breaks, desk.looks)),
         Packet::Registers => push_all_registers(out, target.hart(desk.looks)),
         Packet::Register(number) => push_one_register(out, target.hart(desk.looks), number),
         Packet::Memory(range) => push_memory(
@@ -254,6 +281,7 @@ fn push_about_run<T: Target>(
             push_if(out, hart_of(harts, desk.looks, thread).is_some())
         }
         Packet::ChooseToMove(thread) => push_if(out, hart_of(harts, desk.moves, thread).is_some()),
+        Packet::SetWatch(range) => push_if(out, watch_in(target, desk, range).is_some()),
         Packet::FirstThreads => push_threads(out, harts),
         Packet::ThreadText(thread) => {
             push_thread_text(alloc, out, target, hart_of(harts, desk.looks, thread))
@@ -279,9 +307,11 @@ pub(crate) fn push_reply<T: Target>(
         Packet::CurrentThread => push_current(out, desk.looks),
         Packet::NextThreads => out.extend_from_slice(b"l"),
         Packet::IsAttached => out.extend_from_slice(b"1"),
-        Packet::StartNoAcks | Packet::SetBreak(_) | Packet::ClearBreak(_) | Packet::Detach => {
-            out.extend_from_slice(OK)
-        }
+        Packet::StartNoAcks
+        | Packet::SetBreak(_)
+        | Packet::ClearBreak(_)
+        | Packet::ClearWatch(_)
+        | Packet::Detach => out.extend_from_slice(OK),
         Packet::MotionsAsked => out.extend_from_slice(b"vCont;c;C;s;S"),
         _ => push_about_run(alloc, out, target, desk, packet),
     }

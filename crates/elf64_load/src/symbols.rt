@@ -3,9 +3,7 @@
 mod kernel;
 mod printed;
 mod symbols;
-#[cfg(test)]
-mod tests;
 
 pub use kernel::{KernelNames, kernel_names};
-pub use printed::location_text;
-pub use symbols::{CodeSymbol, Location};
+pub use printed::{location_text, push_name};
+pub use symbols::{CodeSymbol, Location, location_of};

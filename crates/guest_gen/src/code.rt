@@ -108,7 +108,7 @@ fn csrw(csr: Csr, rs1: u8) -> Instr
 }
 
 /// The kernel's begin, for so many calls.
-#[tactic(auto, unfolding(crate::specs::GuestCode::setup, spec_processor::specs::Encoding::fits, spec_processor::specs::Encoding::is_shift, spec_processor::specs::Encoding::is_shift_32))]
+#[tactic(auto, unfolding(crate::proofs::FieldBytes::setup_words))]
 pub fn setup(calls: u64) -> [Instr; 16]
     requires { calls ≤ spec.max_calls }
     ensures code { result ≡ spec.setup calls }

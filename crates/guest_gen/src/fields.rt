@@ -18,7 +18,7 @@ pub enum Field {
     Double(u64),
 }
 
-#[tactic(auto, using(laws_processor::proofs::LibraryBytes::low_bytes_2, laws_processor::proofs::LibraryBytes::low_bytes_4, laws_processor::proofs::LibraryBytes::low_bytes_8))]
+#[tactic(auto, using(crate::proofs::FieldBytes::fields_low_first))]
 fn push_field(file: &mut Vec<u8>, field: Field) -> Result<(), AllocError>
     ensures { OnOk result (file.new.items ≡ file.old.items ++ spec.field_bytes field) }
 {

@@ -28,7 +28,7 @@ use rv64_exec::effect;
 use spec_processor::{Access, Cause, Effect, HRegs, INSTRUCTION_BYTES, Interrupt, Outcome};
 
 /// What `Cpu::attempt` does, without the count.
-#[tactic(auto, using(hw_tlb::specs::Fills::nothing_filled, hw_tlb::specs::Fills::filled_further), unfolding(spec_processor::specs::HardwareAttempt::attempt, spec_processor::specs::HardwareAttempt::after_pending))]
+#[tactic(auto, using(crate::proofs::AttemptStages::fills), unfolding(crate::proofs::AttemptStages::first_stage))]
 #[inline(always)]
 pub(crate) fn attempt<W: InterruptLines>(
     words: &mut DecodeCache,
@@ -66,7 +66,7 @@ fn interrupt_due<W: InterruptLines>(
 }
 
 // What the pc leads to, carried out.
-#[tactic(auto, using(hw_tlb::specs::Fills::nothing_filled, hw_tlb::specs::Fills::filled_further), unfolding(spec_processor::specs::HardwareAttempt::after_fetch))]
+#[tactic(auto, using(crate::proofs::AttemptStages::fills), unfolding(spec_processor::specs::HardwareAttempt::after_fetch))]
 #[inline(always)]
 fn fetch<W: InterruptLines>(
     words: &mut DecodeCache,
@@ -104,7 +104,7 @@ fn set(core: &mut Core, rd: u8, value: u64, next: u64) -> Outcome
 }
 
 // A word that was decoded, carried out.
-#[tactic(auto, using(hw_tlb::specs::Fills::nothing_filled, laws_processor::proofs::EffectRequests::is_request), unfolding(spec_processor::specs::HardwareAttempt::after_word, spec_processor::specs::HardwareAttempt::after_instruction, spec_processor::specs::HardwareAttempt::after_effect))]
+#[tactic(auto, using(crate::proofs::AttemptStages::fills_by_request), unfolding(crate::proofs::AttemptStages::word_stages))]
 #[inline(always)]
 fn carry_out<W: InterruptLines>(
     core: &mut Core,

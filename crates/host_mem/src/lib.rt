@@ -6,12 +6,13 @@ ghost use Rattle.spec_processor.specs.Bytes.{page_size, page_bytes, overwrite, i
 ghost use Rattle.spec_processor.specs.Regions.{Region, IsRegion, IsHostPlace, max_ram_pages, host_bytes, host_word, write_host};
 ghost use Rattle.spec_processor.specs.Translation.{entry_size};
 
+pub mod raw_bytes;
 mod steps;
 mod words;
 
+use crate::raw_bytes::RawBytes;
 pub use crate::steps::Steps;
 pub use crate::words::{put_word, word_at};
-use host_bytes::RawBytes;
 use spec_processor::{ENTRY_WIDTH, PAGE_BYTES, PAGE_SIZE, is_in_ram, ram_offset};
 use std::alloc::{AllocError, Global};
 use std::marker::Model;

@@ -73,7 +73,8 @@ impl Block {
 
     /// The registers and the transfer.
     pub fn state(&self) -> BlockState
-        ensures { result ≡ self.now.block }
+        ensures value { result ≡ self.now.block }
+        ensures sound { IsSound self.now }
     {
         self.block
     }

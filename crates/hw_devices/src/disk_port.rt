@@ -5,7 +5,7 @@ ghost use Rattle.spec_reference.specs.BlockDisk.{sector_size};
 ghost use Rattle.spec_reference.specs.Disk.{disk_bytes};
 ghost use Rattle.spec_reference.specs.Start.{block_disk, virtio_disk};
 ghost use Rattle.spec_reference.specs.SavedStates.{disk_of};
-ghost use Rattle.hw_devices.specs.Ports.{port_disk};
+ghost use Rattle.hw_devices.specs.Ports.{IsSoundPort, port_disk};
 
 use crate::block::Block;
 use dma_guard::{DiskPort, DmaGuard, DmaStep};
@@ -39,10 +39,22 @@ impl Port {
         Port::Virtio(Virtio::new(disk))
     }
 
+    /// A disk behind a device that goes on as its plain data says.
+    pub fn from_state(state: PortState, disk: Vec<u8>) -> Port
+        requires sound { IsSoundPort state disk.items }
+        ensures { port_disk result ≡ disk_of state disk.items }
+    {
+        match state {
+            PortState::Block(block) => Port::Block(Block::from_state(block, disk)),
+            PortState::Virtio(virtio) => Port::Virtio(Virtio::from_state(virtio, disk)),
+        }
+    }
+
     /// The device's registers and what it has under way, as plain data.
     #[tactic(auto, unfolding(spec_reference::specs::Disk::disk_bytes))]
     pub fn state(&self) -> PortState
-        ensures { disk_of result (disk_bytes (port_disk self.now)) ≡ port_disk self.now }
+        ensures value { disk_of result (disk_bytes (port_disk self.now)) ≡ port_disk self.now }
+        ensures sound { IsSoundPort result (disk_bytes (port_disk self.now)) }
     {
         match self {
             Port::Block(device) => PortState::Block(device.state()),

@@ -4,7 +4,7 @@ use Rattle.std.specs.Prelude.{None, Option, Some, if◌then◌else◌}
 use Rattle.spec_processor.specs.Bits.{bit}
 use Rattle.spec_processor.specs.Causes.{cause_number}
 use Rattle.spec_processor.specs.Effects.{effect_of}
-use Rattle.spec_processor.specs.Hardware.{Core, exit_of, guest_trap, leave, plain_exception, raise, with_region}
+use Rattle.spec_processor.specs.Hardware.{Attempted, Core, exit_of, guest_trap, leave, plain_exception, raise, with_region}
 use Rattle.spec_processor.specs.HardwareAttempt.{after_effect, after_instruction, after_sret, after_word, call_cause, virtual_instruction}
 use Rattle.spec_processor.specs.Instructions.{ecall_word, sret_word, instruction_of, rows}
 use Rattle.spec_processor.specs.Regions.{Region}
@@ -22,10 +22,11 @@ use Rattle.spec_processor.specs.declared.exit.Exit.{Exit}
 use Rattle.spec_processor.specs.declared.hregs.HRegs.{HRegs}
 use Rattle.hart.specs.Cores.{core_of}
 use Rattle.hart.specs.declared.hart.Core.{Core as Kept}
-use Rattle.hw_fast_path.proofs.Going.{Batch, still_none}
+use Rattle.hw_fast_path.proofs.Going.{Batch, batch_more, batch_starts, course_stays, still_none, was_not_made}
 use Rattle.hw_fast_path.specs.Ends.{with_leaving}
-use Rattle.hw_fast_path.specs.Quick.{GoesOn, SameCourse, Steers, is_made}
+use Rattle.hw_fast_path.specs.Quick.{Comes, Fetches, GoesOn, SameCourse, Steers, is_made}
 use Rattle.hw_fast_path.specs.Batches.{EndsBy, LeavesBy, call_exit, return_exit}
+use Rattle.hw_fast_path.specs.declared.batch.Batch.{Batch as Made}
 use Rattle.hw_fast_path.specs.declared.leaving.Leaving.{Leaving}
 use Rattle.hw_fast_path.specs.declared.leaving.Leaving.TheVariants.{Stays, Calls, Returns}
 use Rattle.hw_fast_path.specs.declared.tried.Tried.{Tried}
@@ -140,3 +141,36 @@ ends_there n r after core next batch = λ lines none. (next, (batch lines none, 
 pub ends_left : (left : Leaving) (n : ℕ) (r after : Region) (core last next : Core) → Batch n r core after last → SameCourse core.csrs last.csrs → last.hregs ≡ core.hregs
     → ((lines : Lines) → pending last.hregs last.csrs lines ≡ None → LeavesBy left (attempt after last lines) after last next) → Ends left n r core after next
 ends_left left n r after core last next batch course hregs one = λ lines none. (last, (batch lines none, one lines (still_none core last lines course hregs none)))
+
+-- a turn that isn't made leaves the hart as it was, and then it may leave the guest
+pub left_at_once : (left : Leaving) (t : Tried) (r after : Region) (core last next : Core) (word : ℕ) → is_made t ≡ false → Fetches r core word
+    → ((lines : Lines) → pending core.hregs core.csrs lines ≡ None → Comes t (attempt r core lines) r after core last)
+    → ((x : Region) (lines : Lines) → LeavesBy left (after_word x last lines word) x last next) → Ends left 0 r core after next
+left_at_once left t r after core last next word stopped fetched comes leaves = λ lines none.
+    let same = was_not_made t (attempt r core lines) r after core last stopped (comes lines none) in
+    let it : attempt after core lines ≡ after_word after core lines word =
+    subst (λ (x : Region). attempt x core lines ≡ after_word x core lines word) (sym same.0) (fetched lines none) in (
+      core,
+      (
+        (same.0, refl),
+        subst (λ (a : Attempted). LeavesBy left a after core next) (sym it)
+            (subst (λ (x : Core). LeavesBy left (after_word after x lines word) after x next) same.1 (leaves after lines)),
+      ),
+    )
+
+-- and one that is made is a row of one
+pub made_at_once : (t : Tried) (r after : Region) (core next : Core) → is_made t ≡ true
+    → ((lines : Lines) → pending core.hregs core.csrs lines ≡ None → Comes t (attempt r core lines) r after core next) → Ends Stays 1 r core after next
+made_at_once t r after core next made comes =
+    ends_there 1 r after core next (batch_more t 0 r r after core core next (course_stays core.csrs) refl (batch_starts r core) made comes)
+
+-- what comes of the word that was fetched comes of the attempt
+pub comes_fetched : (t : Tried) (r after : Region) (core next : Core) (word was : ℕ) → Fetches r core word → was ≡ word
+    → ((lines : Lines) → Comes t (after_word r core lines was) r after core next) → (lines : Lines) → pending core.hregs core.csrs lines ≡ None
+    → Comes t (attempt r core lines) r after core next
+comes_fetched t r after core next word was fetched is comes = λ lines none.
+    subst (λ (a : Attempted). Comes t a r after core next) (ap (after_word r core lines) is ∙ sym (fetched lines none)) (comes lines)
+
+-- a row of no turn
+pub none_made : (b : Made) (r : Region) (core : Core) → b ≡ record { made = 0; left = Stays } → Ends b.left b.made r core r core
+none_made b r core is = subst (λ (x : Made). Ends x.left x.made r core r core) (sym is) (λ lines none. (core, ((refl, refl), refl)))

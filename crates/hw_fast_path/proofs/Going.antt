@@ -1,15 +1,17 @@
 -- One turn, and a row of turns with one more.
 use Rattle.std.proofs.Common.{◌≡◌, ℕ, zero, ◌+◌, ◌/◌, ◌%◌, ◌^◌, ◌<◌, ◌≤◌, List, length, refl, sym, ◌∙◌, ap, subst, add-one, arith, inl, inr, true, false}
 use Rattle.spec_processor.specs.Bytes.{page_size}
-use Rattle.std.specs.Prelude.{Option, None}
+use Rattle.std.specs.Prelude.{Option, None, Ok}
 use Rattle.std.proofs.lemmas.Bool.Decides.{eqb_tells}
 use Rattle.spec_processor.specs.GStage.{WalksApart}
 use Rattle.spec_processor.specs.CachedWalks.{CacheAgrees, FilledUnder}
 use Rattle.spec_processor.specs.Hardware.{Core, Attempted}
 use Rattle.spec_processor.specs.HardwareAttempt.{attempt, after_pending, after_fetch, after_word}
+use Rattle.spec_processor.specs.HardwareMemory.{translation_result}
 use Rattle.spec_processor.specs.HypervisorRegisters.{HypervisorRegisters, pending, is_taken}
 use Rattle.spec_processor.specs.Regions.{Region, host_word, write_host, IsHostPlace}
 use Rattle.spec_processor.specs.Roots.{IsBare}
+use Rattle.spec_processor.specs.declared.access.Access.TheVariants.{Fetch}
 use Rattle.spec_processor.specs.declared.cached.CacheLine.{CacheLine}
 use Rattle.spec_processor.specs.declared.hregs.HRegs.{HRegs}
 use Rattle.spec_processor.specs.declared.lines.Lines.{Lines}
@@ -33,6 +35,12 @@ pub attempt_at : (r : Region) (core : Core) (lines : Lines) (page host : ℕ) �
     → Leads r core page host → attempt r core lines ≡ after_word r core lines (host_word r (host + core.pc % page_size) 4)
 unfolding attempt after_pending after_fetch
 attempt_at r core lines page host none small at leads = rw (none, leads.fetches core.pc small at) refl
+
+-- the same, where the pc's translation alone is known
+pub attempt_of : (r : Region) (core : Core) (lines : Lines) (hpa word : ℕ) → pending core.hregs core.csrs lines ≡ None → translation_result r core Fetch core.pc 0 ≡ Ok hpa
+    → word ≡ host_word r hpa 4 → attempt r core lines ≡ after_word r core lines word
+unfolding attempt after_pending after_fetch
+attempt_of r core lines hpa word none leads is = rw (none, leads, is) refl
 
 -- ---- the registers that decide
 
@@ -80,7 +88,7 @@ was_made Retired a before after core next made comes = comes.1
 was_made Stored a before after core next made comes = comes
 was_made ContextChanged a before after core next made comes = comes.1
 
-was_not_made : (t : Tried) (a : Attempted) (before after : Region) (core next : Core) → is_made t ≡ false → Comes t a before after core next
+pub was_not_made : (t : Tried) (a : Attempted) (before after : Region) (core next : Core) → is_made t ≡ false → Comes t a before after core next
     → (after ≡ before) × (next ≡ core)
 was_not_made Stopped a before after core next made comes = comes
 was_not_made Retired a before after core next made comes = absurd (cc)

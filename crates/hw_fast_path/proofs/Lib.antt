@@ -4,3 +4,4 @@ pub mod Going
 pub mod Reaching
 pub mod Exits
 pub mod Flats
+pub mod Stores

@@ -4,11 +4,13 @@ use Rattle.spec_processor.specs.Bytes.{page_size, instruction_size}
 use Rattle.spec_processor.specs.CachedWalks.{FilledUnder}
 use Rattle.spec_processor.specs.Hardware.{Core, Attempted}
 use Rattle.spec_processor.specs.HardwareMemory.{translation_result}
-use Rattle.spec_processor.specs.HypervisorRegisters.{HypervisorRegisters}
+use Rattle.spec_processor.specs.HardwareAttempt.{after_word, attempt}
+use Rattle.spec_processor.specs.HypervisorRegisters.{HypervisorRegisters, pending}
 use Rattle.spec_processor.specs.Regions.{Region, IsHostPlace}
 use Rattle.spec_processor.specs.declared.access.Access.TheVariants.{Fetch}
 use Rattle.spec_processor.specs.declared.cached.CacheLine.{CacheLine}
 use Rattle.spec_processor.specs.declared.hregs.HRegs.{HRegs}
+use Rattle.spec_processor.specs.declared.lines.Lines.{Lines}
 use Rattle.hw_tlb.specs.CacheWalks.{MayWalk, Walked}
 use Rattle.hw_tlb.specs.Kept.{ReachAgrees}
 use Rattle.hw_tlb.specs.declared.line.Line.{Line}
@@ -40,6 +42,10 @@ no_page = 2 ^ 64 - 1
 pub record Leads (r : Region) (core : Core) (page host : ℕ) : Type 0 where
   pub fetches : (va : ℕ) → va < 2 ^ 64 → va / page_size ≡ page → translation_result r core Fetch va 0 ≡ Ok (host + va % page_size)
   pub places : (va : ℕ) → va < 2 ^ 64 → va / page_size ≡ page → va % instruction_size ≡ 0 → IsHostPlace r (host + va % page_size) instruction_size
+
+-- where no interrupt is due, an attempt is of this word
+abbrev pub Fetches : Region → Core → ℕ → Type 0
+Fetches r core word = (lines : Lines) → pending core.hregs core.csrs lines ≡ None → attempt r core lines ≡ after_word r core lines word
 
 -- what became of a turn: it wasn't made and left all as it was, or its attempt carried out the instruction. Only a store
 -- changes the region

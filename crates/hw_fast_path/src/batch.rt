@@ -12,11 +12,11 @@ ghost use Rattle.hw_fast_path.specs.Batches.{EndsBy};
 ghost use Rattle.hw_tlb.specs.Kept.{ReachAgrees};
 ghost use Rattle.hw_fast_path.specs.declared.leaving.Leaving.TheVariants.{Stays};
 
-use crate::leaving::{Leaving, leave};
+use crate::leaving::{Leaving, leave, leave_by};
 use crate::micro_op_cache::{FlatWords, MicroOpCache};
 use crate::requests::carry_out;
 use crate::tried::Tried;
-use crate::window::{Window, at_pc};
+use crate::window::{Window, at_pc, word_at_pc};
 use hart::Core;
 use host_mem::HostMem;
 use hw_tlb::Reach;
@@ -138,6 +138,39 @@ fn batch_of_turns(
     }
 }
 
+// A turn by itself, after which nothing is kept for another one.
+#[inline(never)]
+fn one_turn(
+    words: &mut FlatWords,
+    core: &mut Core,
+    regs: &HRegs,
+    cache: &mut Cache,
+    reach: &mut Reach,
+    mem: &mut HostMem,
+) -> Batch
+    requires may { MayTurn mem.old core.old regs.now cache.old reach.old }
+    ensures ends { (lines : Lines) → pending regs.now core.old.csrs lines ≡ None →
+        EndsBy result.left result.made mem.old (core_of core.old regs.now) lines mem.new (core_of core.new regs.now) }
+    ensures most { turns_of result ≤ 1 }
+    ensures on { GoesOn mem.old mem.new core.old core.new regs.now cache.old cache.new }
+    ensures reach { ReachAgrees mem.new.tables reach.new }
+{
+    let Some(word) = word_at_pc(core, regs, cache, reach, mem) else {
+        return Batch::none();
+    };
+    let tried = carry_out(core, regs, cache, reach, mem, words.micro_op(core.pc, word));
+    if tried.is_made() {
+        return Batch {
+            made: 1,
+            left: Leaving::Stays,
+        };
+    }
+    Batch {
+        made: 0,
+        left: leave_by(core, regs, word),
+    }
+}
+
 /// Up to `most` turns of a hart in a row, each of whose attempts carries out its instruction, and one after them that leaves
 /// the guest. Answers how many were made: what isn't a computation, a load, a store, an atomic operation, or an access to a
 /// register whose value doesn't go by the wires, or is refused, or misaligned, stops the row before its turn. Where the row
@@ -167,7 +200,11 @@ pub fn quick_turns(
     ensures reach { ReachAgrees mem.new.tables reach.new }
     ensures count { words.new ≡ words.old + turns_of result }
 {
-    let batch = batch_of_turns(&mut words.micro_op, core, regs, cache, reach, mem, most);
+    let batch = if most == 1 {
+        one_turn(&mut words.micro_op, core, regs, cache, reach, mem)
+    } else {
+        batch_of_turns(&mut words.micro_op, core, regs, cache, reach, mem, most)
+    };
     words.count(batch);
     batch
 }

@@ -56,9 +56,9 @@ fn note_exit(core: &mut Core, cause: Cause, stval: u64)
     core.csrs.htinst = 0;
 }
 
-// The exit of an instruction's word, where it is one of the two.
+/// The exit of an instruction's word, where it is one of the two.
 #[inline(always)]
-fn leave_by(core: &mut Core, regs: &HRegs, word: u32) -> Leaving
+pub(crate) fn leave_by(core: &mut Core, regs: &HRegs, word: u32) -> Leaving
     requires ready { MayStep core.old regs.now }
     ensures comes { (r : Region) → (lines : Lines) →
         LeavesBy result (after_word r (core_of core.old regs.now) lines word) r (core_of core.old regs.now) (core_of core.new regs.now) }

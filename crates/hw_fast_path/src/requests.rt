@@ -81,7 +81,7 @@ struct Storing {
 }
 
 // A store, where its place is reached. No hart but this one, which has no reservation, is looked at.
-#[tactic(auto, using(hw_tlb::specs::Fills::nothing_filled, hw_tlb::proofs::WritesAndWalks::write_after, crate::proofs::Kept::apart_kept, crate::proofs::Kept::write_size), unfolding(spec_processor::specs::HardwareMemory::after_store, spec_processor::specs::Requests::after_write))]
+#[tactic(auto, using(crate::proofs::Stores::kept), unfolding(spec_processor::specs::HardwareMemory::after_store, spec_processor::specs::Requests::after_write))]
 #[inline(always)]
 fn store(
     core: &mut Core,
@@ -125,7 +125,7 @@ struct Operation {
 }
 
 // An atomic operation, where its place is reached. As with a store, no other hart is looked at.
-#[tactic(auto, using(hw_tlb::specs::Fills::nothing_filled, hw_tlb::proofs::WritesAndWalks::write_after, crate::proofs::Kept::apart_kept, crate::proofs::Kept::write_size), unfolding(spec_processor::specs::HardwareMemory::after_amo, spec_processor::specs::Requests::after_write))]
+#[tactic(auto, using(crate::proofs::Stores::kept), unfolding(spec_processor::specs::HardwareMemory::after_amo, spec_processor::specs::Requests::after_write))]
 #[inline(always)]
 fn atomic(
     core: &mut Core,

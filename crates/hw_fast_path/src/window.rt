@@ -5,7 +5,7 @@ ghost use Rattle.spec_processor.specs.Bytes.{page_size, instruction_size};
 ghost use Rattle.spec_processor.specs.Regions.{host_word};
 ghost use Rattle.spec_processor.specs.Roots.{IsBare};
 ghost use Rattle.hart.specs.Cores.{core_of};
-ghost use Rattle.hw_fast_path.specs.Quick.{Leads, MayTranslate, Translated, no_page};
+ghost use Rattle.hw_fast_path.specs.Quick.{Fetches, Leads, MayTranslate, Translated, no_page};
 
 use crate::memory::{Reference, place};
 use hart::Core;
@@ -88,6 +88,32 @@ pub(crate) fn at_pc(
         Some(window)
     } else {
         find_window(core, regs, cache, reach, mem)
+    }
+}
+
+/// The word of the instruction at the pc, by translation. None where the fetch is refused.
+#[inline(always)]
+pub(crate) fn word_at_pc(
+    core: &Core,
+    regs: &HRegs,
+    cache: &mut Cache,
+    reach: &mut Reach,
+    mem: &HostMem,
+) -> Option<u32>
+    requires may { MayTranslate mem.now regs.now.hgatp cache.old reach.old }
+    requires aligned { core.now.pc % instruction_size ≡ 0 }
+    ensures fetched { IfSome result (Fetches mem.now (core_of core.now regs.now)) }
+    ensures translated { Translated mem.now.tables regs.now.hgatp cache.old cache.new reach.new }
+{
+    let _table_bytes = mem.table_bytes();
+    let fetch = Reference {
+        access: Access::Fetch,
+        address: core.pc,
+        width: INSTRUCTION_BYTES as u8,
+    };
+    match place(core, regs, cache, reach, mem, fetch) {
+        Some(hpa) => Some(mem.read(hpa as usize, INSTRUCTION_BYTES as u8) as u32),
+        None => None,
     }
 }
 

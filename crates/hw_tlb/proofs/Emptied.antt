@@ -50,3 +50,5 @@ pub usable_after : {G : Type 0} (changed : Bool) (old new : Region) (before give
 usable_after true old new before given after is are kept usable same = usable refl new.tables
 usable_after false old new before given after is are kept usable same =
     subst (λ (r : Region). AreUsable r.tables after) (sym (kept refl).1) (subst (AreUsable old.tables) (sym (same refl ∙ is)) are)
+
+pub ruleset emptied_one_by_one = (none_emptied, next_emptied, all_usable, emptied_number)

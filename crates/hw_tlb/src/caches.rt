@@ -33,7 +33,7 @@ impl HartCaches {
 }
 
 // Empties all caches.
-#[tactic(auto, using(crate::proofs::Emptied::none_emptied, crate::proofs::Emptied::next_emptied, crate::proofs::Emptied::all_usable, crate::proofs::Emptied::emptied_number))]
+#[tactic(auto, using(crate::proofs::Emptied::emptied_one_by_one))]
 fn empty_all(caches: &mut [HartCaches])
     ensures usable { (tables : List ℕ) → AreUsable tables caches.new }
     ensures number { length caches.new ≡ length caches.old }

@@ -1,5 +1,5 @@
 -- What a word decodes to fits its fields.
-use Rattle.std.proofs.Common.{◌≡◌, ℕ, ◌+◌, ◌*◌, ◌/◌, ◌%◌, ◌^◌, ◌<◌, List, [], ◌∷◌, refl, Bool, true, false, cond, arith, IsTrue}
+use Rattle.std.proofs.Common.{◌≡◌, ℕ, ◌+◌, ◌*◌, ◌/◌, ◌%◌, ◌^◌, ◌<◌, List, [], ◌∷◌, drop, refl, Bool, true, false, cond, arith, IsTrue}
 use Rattle.std.specs.Prelude.{find, ◌&&◌, Some, IfSome}
 use Rattle.std.specs.Option.{option_map}
 use Rattle.std.proofs.lemmas.Int.{ints}
@@ -173,6 +173,230 @@ find_fits w (row ∷ rs) h = step (has_row w row) (find_fits w rs h.1)
     step true rest = h.0
     step false rest = rest
 
+rows-fit-from-80 : (w : ℕ) → AllFit w (drop 80 rows)
+unfolding rows fits is_shift is_shift_32 is_hyper_load
+rows-fit-from-80 w = (
+  amo-fits w Amo.Amomax 4 refl,
+  (
+    amo-fits w Amo.Amomax 8 refl,
+    (
+      amo-fits w Amo.Amominu 4 refl,
+      (
+        amo-fits w Amo.Amominu 8 refl,
+        (
+          amo-fits w Amo.Amomaxu 4 refl,
+          (
+            amo-fits w Amo.Amomaxu 8 refl,
+            (
+              refl,
+              (
+                refl,
+                (
+                  refl,
+                  (
+                    refl,
+                    (
+                      sfence-fits w,
+                      (
+                        hyper_store-fits w Hyper.HfenceVvma refl,
+                        (
+                          hyper_store-fits w Hyper.HfenceGvma refl,
+                          (
+                            csr-fits w Csr.Csrrw,
+                            (
+                              csr-fits w Csr.Csrrs,
+                              (
+                                csr-fits w Csr.Csrrc,
+                                (
+                                  csr-fits w Csr.Csrrwi,
+                                  (
+                                    csr-fits w Csr.Csrrsi,
+                                    (
+                                      csr-fits w Csr.Csrrci,
+                                      (
+                                        hyper_load-fits w Hyper.HlvB refl,
+                                        (
+                                          hyper_load-fits w Hyper.HlvBu refl,
+                                          (
+                                            hyper_load-fits w Hyper.HlvH refl,
+                                            (
+                                              hyper_load-fits w Hyper.HlvHu refl,
+                                              (
+                                                hyper_load-fits w Hyper.HlvxHu refl,
+                                                (
+                                                  hyper_load-fits w Hyper.HlvW refl,
+                                                  (
+                                                    hyper_load-fits w Hyper.HlvWu refl,
+                                                    (
+                                                      hyper_load-fits w Hyper.HlvxWu refl,
+                                                      (
+                                                        hyper_load-fits w Hyper.HlvD refl,
+                                                        (
+                                                          hyper_store-fits w Hyper.HsvB refl,
+                                                          (
+                                                            hyper_store-fits w Hyper.HsvH refl,
+                                                            (
+                                                              hyper_store-fits w Hyper.HsvW refl,
+                                                              (
+                                                                hyper_store-fits w Hyper.HsvD refl,
+                                                                tt,
+                                                              ),
+                                                            ),
+                                                          ),
+                                                        ),
+                                                      ),
+                                                    ),
+                                                  ),
+                                                ),
+                                              ),
+                                            ),
+                                          ),
+                                        ),
+                                      ),
+                                    ),
+                                  ),
+                                ),
+                              ),
+                            ),
+                          ),
+                        ),
+                      ),
+                    ),
+                  ),
+                ),
+              ),
+            ),
+          ),
+        ),
+      ),
+    ),
+  ),
+)
+
+rows-fit-from-40 : (w : ℕ) → AllFit w (drop 40 rows)
+unfolding rows fits is_shift is_shift_32 is_hyper_load
+rows-fit-from-40 w = (
+  op_op-fits w Op.Or,
+  (
+    op_op-fits w Op.And,
+    (
+      op_op-fits w Op.Sub,
+      (
+        op_op-fits w Op.Sra,
+        (
+          op_op-fits w Op.Mul,
+          (
+            op_op-fits w Op.Mulh,
+            (
+              op_op-fits w Op.Mulhsu,
+              (
+                op_op-fits w Op.Mulhu,
+                (
+                  op_op-fits w Op.Div,
+                  (
+                    op_op-fits w Op.Divu,
+                    (
+                      op_op-fits w Op.Rem,
+                      (
+                        op_op-fits w Op.Remu,
+                        (
+                          op_32-fits w Op32.Addw,
+                          (
+                            op_32-fits w Op32.Sllw,
+                            (
+                              op_32-fits w Op32.Srlw,
+                              (
+                                op_32-fits w Op32.Subw,
+                                (
+                                  op_32-fits w Op32.Sraw,
+                                  (
+                                    op_32-fits w Op32.Mulw,
+                                    (
+                                      op_32-fits w Op32.Divw,
+                                      (
+                                        op_32-fits w Op32.Divuw,
+                                        (
+                                          op_32-fits w Op32.Remw,
+                                          (
+                                            op_32-fits w Op32.Remuw,
+                                            (
+                                              refl,
+                                              (
+                                                refl,
+                                                (
+                                                  lr-fits w 4 refl,
+                                                  (
+                                                    lr-fits w 8 refl,
+                                                    (
+                                                      sc-fits w 4 refl,
+                                                      (
+                                                        sc-fits w 8 refl,
+                                                        (
+                                                          amo-fits w Amo.Amoswap 4 refl,
+                                                          (
+                                                            amo-fits w Amo.Amoswap 8 refl,
+                                                            (
+                                                              amo-fits w Amo.Amoadd 4 refl,
+                                                              (
+                                                                amo-fits w Amo.Amoadd 8 refl,
+                                                                (
+                                                                  amo-fits w Amo.Amoxor 4 refl,
+                                                                  (
+                                                                    amo-fits w Amo.Amoxor 8 refl,
+                                                                    (
+                                                                      amo-fits w Amo.Amoand 4 refl,
+                                                                      (
+                                                                        amo-fits w Amo.Amoand 8 refl,
+                                                                        (
+                                                                          amo-fits w Amo.Amoor 4 refl,
+                                                                          (
+                                                                            amo-fits w Amo.Amoor 8 refl,
+                                                                            (
+                                                                              amo-fits w Amo.Amomin 4 refl,
+                                                                              (
+                                                                                amo-fits w Amo.Amomin 8 refl,
+                                                                                rows-fit-from-80 w,
+                                                                              ),
+                                                                            ),
+                                                                          ),
+                                                                        ),
+                                                                      ),
+                                                                    ),
+                                                                  ),
+                                                                ),
+                                                              ),
+                                                            ),
+                                                          ),
+                                                        ),
+                                                      ),
+                                                    ),
+                                                  ),
+                                                ),
+                                              ),
+                                            ),
+                                          ),
+                                        ),
+                                      ),
+                                    ),
+                                  ),
+                                ),
+                              ),
+                            ),
+                          ),
+                        ),
+                      ),
+                    ),
+                  ),
+                ),
+              ),
+            ),
+          ),
+        ),
+      ),
+    ),
+  ),
+)
+
 rows-fit : (w : ℕ) → AllFit w rows
 unfolding rows fits is_shift is_shift_32 is_hyper_load
 rows-fit w = (
@@ -255,223 +479,7 @@ rows-fit w = (
                                                                               op_op-fits w Op.Xor,
                                                                               (
                                                                                 op_op-fits w Op.Srl,
-                                                                                (
-                                                                                  op_op-fits w Op.Or,
-                                                                                  (
-                                                                                    op_op-fits w Op.And,
-                                                                                    (
-                                                                                      op_op-fits w Op.Sub,
-                                                                                      (
-                                                                                        op_op-fits w Op.Sra,
-                                                                                        (
-                                                                                          op_op-fits w Op.Mul,
-                                                                                          (
-                                                                                            op_op-fits w Op.Mulh,
-                                                                                            (
-                                                                                              op_op-fits w Op.Mulhsu,
-                                                                                              (
-                                                                                                op_op-fits w Op.Mulhu,
-                                                                                                (
-                                                                                                  op_op-fits w Op.Div,
-                                                                                                  (
-                                                                                                    op_op-fits w Op.Divu,
-                                                                                                    (
-                                                                                                      op_op-fits w Op.Rem,
-                                                                                                      (
-                                                                                                        op_op-fits w Op.Remu,
-                                                                                                        (
-                                                                                                          op_32-fits w Op32.Addw,
-                                                                                                          (
-                                                                                                            op_32-fits w Op32.Sllw,
-                                                                                                            (
-                                                                                                              op_32-fits w Op32.Srlw,
-                                                                                                              (
-                                                                                                                op_32-fits w Op32.Subw,
-                                                                                                                (
-                                                                                                                  op_32-fits w Op32.Sraw,
-                                                                                                                  (
-                                                                                                                    op_32-fits w Op32.Mulw,
-                                                                                                                    (
-                                                                                                                      op_32-fits w Op32.Divw,
-                                                                                                                      (
-                                                                                                                        op_32-fits w Op32.Divuw,
-                                                                                                                        (
-                                                                                                                          op_32-fits w Op32.Remw,
-                                                                                                                          (
-                                                                                                                            op_32-fits w Op32.Remuw,
-                                                                                                                            (
-                                                                                                                              refl,
-                                                                                                                              (
-                                                                                                                                refl,
-                                                                                                                                (
-                                                                                                                                  lr-fits w 4 refl,
-                                                                                                                                  (
-                                                                                                                                    lr-fits w 8 refl,
-                                                                                                                                    (
-                                                                                                                                      sc-fits w 4 refl,
-                                                                                                                                      (
-                                                                                                                                        sc-fits w 8 refl,
-                                                                                                                                        (
-                                                                                                                                          amo-fits w Amo.Amoswap 4 refl,
-                                                                                                                                          (
-                                                                                                                                            amo-fits w Amo.Amoswap 8 refl,
-                                                                                                                                            (
-                                                                                                                                              amo-fits w Amo.Amoadd 4 refl,
-                                                                                                                                              (
-                                                                                                                                                amo-fits w Amo.Amoadd 8 refl,
-                                                                                                                                                (
-                                                                                                                                                  amo-fits w Amo.Amoxor 4 refl,
-                                                                                                                                                  (
-                                                                                                                                                    amo-fits w Amo.Amoxor 8 refl,
-                                                                                                                                                    (
-                                                                                                                                                      amo-fits w Amo.Amoand 4 refl,
-                                                                                                                                                      (
-                                                                                                                                                        amo-fits w Amo.Amoand 8 refl,
-                                                                                                                                                        (
-                                                                                                                                                          amo-fits w Amo.Amoor 4 refl,
-                                                                                                                                                          (
-                                                                                                                                                            amo-fits w Amo.Amoor 8 refl,
-                                                                                                                                                            (
-                                                                                                                                                              amo-fits w Amo.Amomin 4 refl,
-                                                                                                                                                              (
-                                                                                                                                                                amo-fits w Amo.Amomin 8 refl,
-                                                                                                                                                                (
-                                                                                                                                                                  amo-fits w Amo.Amomax 4 refl,
-                                                                                                                                                                  (
-                                                                                                                                                                    amo-fits w Amo.Amomax 8 refl,
-                                                                                                                                                                    (
-                                                                                                                                                                      amo-fits w Amo.Amominu 4 refl,
-                                                                                                                                                                      (
-                                                                                                                                                                        amo-fits w Amo.Amominu 8 refl,
-                                                                                                                                                                        (
-                                                                                                                                                                          amo-fits w Amo.Amomaxu 4 refl,
-                                                                                                                                                                          (
-                                                                                                                                                                            amo-fits w Amo.Amomaxu 8 refl,
-                                                                                                                                                                            (
-                                                                                                                                                                              refl,
-                                                                                                                                                                              (
-                                                                                                                                                                                refl,
-                                                                                                                                                                                (
-                                                                                                                                                                                  refl,
-                                                                                                                                                                                  (
-                                                                                                                                                                                    refl,
-                                                                                                                                                                                    (
-                                                                                                                                                                                      sfence-fits w,
-                                                                                                                                                                                      (
-                                                                                                                                                                                        hyper_store-fits w Hyper.HfenceVvma refl,
-                                                                                                                                                                                        (
-                                                                                                                                                                                          hyper_store-fits w Hyper.HfenceGvma refl,
-                                                                                                                                                                                          (
-                                                                                                                                                                                            csr-fits w Csr.Csrrw,
-                                                                                                                                                                                            (
-                                                                                                                                                                                              csr-fits w Csr.Csrrs,
-                                                                                                                                                                                              (
-                                                                                                                                                                                                csr-fits w Csr.Csrrc,
-                                                                                                                                                                                                (
-                                                                                                                                                                                                  csr-fits w Csr.Csrrwi,
-                                                                                                                                                                                                  (
-                                                                                                                                                                                                    csr-fits w Csr.Csrrsi,
-                                                                                                                                                                                                    (
-                                                                                                                                                                                                      csr-fits w Csr.Csrrci,
-                                                                                                                                                                                                      (
-                                                                                                                                                                                                        hyper_load-fits w Hyper.HlvB refl,
-                                                                                                                                                                                                        (
-                                                                                                                                                                                                          hyper_load-fits w Hyper.HlvBu refl,
-                                                                                                                                                                                                          (
-                                                                                                                                                                                                            hyper_load-fits w Hyper.HlvH refl,
-                                                                                                                                                                                                            (
-                                                                                                                                                                                                              hyper_load-fits w Hyper.HlvHu refl,
-                                                                                                                                                                                                              (
-                                                                                                                                                                                                                hyper_load-fits w Hyper.HlvxHu refl,
-                                                                                                                                                                                                                (
-                                                                                                                                                                                                                  hyper_load-fits w Hyper.HlvW refl,
-                                                                                                                                                                                                                  (
-                                                                                                                                                                                                                    hyper_load-fits w Hyper.HlvWu refl,
-                                                                                                                                                                                                                    (
-                                                                                                                                                                                                                      hyper_load-fits w Hyper.HlvxWu refl,
-                                                                                                                                                                                                                      (
-                                                                                                                                                                                                                        hyper_load-fits w Hyper.HlvD refl,
-                                                                                                                                                                                                                        (
-                                                                                                                                                                                                                          hyper_store-fits w Hyper.HsvB refl,
-                                                                                                                                                                                                                          (
-                                                                                                                                                                                                                            hyper_store-fits w Hyper.HsvH refl,
-                                                                                                                                                                                                                            (
-                                                                                                                                                                                                                              hyper_store-fits w Hyper.HsvW refl,
-                                                                                                                                                                                                                              (
-                                                                                                                                                                                                                                hyper_store-fits w Hyper.HsvD refl,
-                                                                                                                                                                                                                                tt,
-                                                                                                                                                                                                                              ),
-                                                                                                                                                                                                                            ),
-                                                                                                                                                                                                                          ),
-                                                                                                                                                                                                                        ),
-                                                                                                                                                                                                                      ),
-                                                                                                                                                                                                                    ),
-                                                                                                                                                                                                                  ),
-                                                                                                                                                                                                                ),
-                                                                                                                                                                                                              ),
-                                                                                                                                                                                                            ),
-                                                                                                                                                                                                          ),
-                                                                                                                                                                                                        ),
-                                                                                                                                                                                                      ),
-                                                                                                                                                                                                    ),
-                                                                                                                                                                                                  ),
-                                                                                                                                                                                                ),
-                                                                                                                                                                                              ),
-                                                                                                                                                                                            ),
-                                                                                                                                                                                          ),
-                                                                                                                                                                                        ),
-                                                                                                                                                                                      ),
-                                                                                                                                                                                    ),
-                                                                                                                                                                                  ),
-                                                                                                                                                                                ),
-                                                                                                                                                                              ),
-                                                                                                                                                                            ),
-                                                                                                                                                                          ),
-                                                                                                                                                                        ),
-                                                                                                                                                                      ),
-                                                                                                                                                                    ),
-                                                                                                                                                                  ),
-                                                                                                                                                                ),
-                                                                                                                                                              ),
-                                                                                                                                                            ),
-                                                                                                                                                          ),
-                                                                                                                                                        ),
-                                                                                                                                                      ),
-                                                                                                                                                    ),
-                                                                                                                                                  ),
-                                                                                                                                                ),
-                                                                                                                                              ),
-                                                                                                                                            ),
-                                                                                                                                          ),
-                                                                                                                                        ),
-                                                                                                                                      ),
-                                                                                                                                    ),
-                                                                                                                                  ),
-                                                                                                                                ),
-                                                                                                                              ),
-                                                                                                                            ),
-                                                                                                                          ),
-                                                                                                                        ),
-                                                                                                                      ),
-                                                                                                                    ),
-                                                                                                                  ),
-                                                                                                                ),
-                                                                                                              ),
-                                                                                                            ),
-                                                                                                          ),
-                                                                                                        ),
-                                                                                                      ),
-                                                                                                    ),
-                                                                                                  ),
-                                                                                                ),
-                                                                                              ),
-                                                                                            ),
-                                                                                          ),
-                                                                                        ),
-                                                                                      ),
-                                                                                    ),
-                                                                                  ),
-                                                                                ),
+                                                                                rows-fit-from-40 w,
                                                                               ),
                                                                             ),
                                                                           ),

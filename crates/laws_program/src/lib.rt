@@ -6,6 +6,7 @@ ghost use Rattle.laws_guarantee.specs.Reached.{ReachedLaw};
 ghost use Rattle.laws_program.specs.GuaranteedLaw.{GuaranteedLaw};
 ghost use Rattle.laws_program.specs.ProgramLaw.{ProgramLaw};
 ghost use Rattle.laws_program.specs.ResumeLaw.{ResumeLaw};
+ghost use Rattle.spec_reference.specs.Start.{boot_start, virtio_start};
 ghost use Rattle.laws_program.specs.SnapResumed.{SnapResumedLaw};
 ghost use Rattle.laws_program.specs.Starts.{MeasuredLaw, StartsLaw};
 
@@ -45,5 +46,6 @@ pub fn law_reached()
 /// What `snap` saves is what `resume` reads: with these bytes under SNAPSHOT, the policy of the run and its script, `resume` is due
 /// the run from the snapshot's state with the events that are left, and both together print and leave what the whole run does.
 pub fn law_snap_resumed()
-    ensures { SnapResumedLaw }
+    ensures block { SnapResumedLaw boot_start }
+    ensures virtio { SnapResumedLaw virtio_start }
 {}

@@ -10,7 +10,7 @@ use Rattle.sv_types.specs.Measure.{joined_digests, measure, page_digest, page_di
 use Rattle.sv_types.specs.Policies.{Rules}
 use Rattle.spec_reference.specs.Protections.{protection_at}
 use Rattle.spec_reference.specs.Soundness.{IsSound}
-use Rattle.spec_reference.specs.Start.{IsStart, block_disk, boot_start, start}
+use Rattle.spec_reference.specs.Start.{IsStart, block_disk, boot_start, image_start, start, virtio_disk, virtio_start}
 use Rattle.spec_reference.specs.States.{State, Disk, has_number, is_approved_in, protection_in, protections_of}
 use Rattle.snapshot_format.specs.declared.whole.TextPage.{TextPage}
 use Rattle.laws_processor.proofs.ByteLemmas.{length_part}
@@ -20,56 +20,15 @@ use Rattle.laws_resume.specs.Keepable.{AscendFrom}
 use Rattle.laws_resume.specs.Resumed.{KeepsDigests}
 use Rattle.laws_resume.proofs.KeepableStarts.{text_pages_ascend}
 use Rattle.laws_resume.proofs.ResumedPages.{approved_is}
-use Rattle.laws_resume.proofs.TakenPages.{AllBelow, or_true}
+use Rattle.laws_resume.proofs.TakenPages.{AllBelow}
+use Rattle.laws_resume.proofs.WholePages.{AreWhole, digest_at, digests_after, joined_after, whole_in}
 use Rattle.laws_simulation.proofs.StateLawsHold.{reached_sound}
 use Rattle.laws_simulation.proofs.Lookups.{same_number, length_pages}
-use Rattle.laws_resume.specs.SnapLaws.{BootDigestsLaw, IsMeasuredBoot}
+use Rattle.laws_resume.specs.SnapLaws.{Boot, BootDigestsLaw, IsMeasuredBoot}
 use Rattle.sv_types.specs.Protections.{is_approved}
 use Rattle.laws_resume.specs.TextPages.{approved_among, digest_in, digested_text, text_in}
 use Rattle.laws_resume.proofs.Ascending.{picked, picked_same}
 use Rattle.laws_simulation.proofs.ModulesMirrored.{approved_by}
-
--- ---- digests of pages
-
--- the pages are whole
-abbrev AreWhole : List ℕ → List ℕ → Type 0
-AreWhole ram pages = (page : ℕ) → has_number pages page ≡ true → length (page_bytes ram page) ≡ page_size
-
-first_whole : (ram : List ℕ) (page : ℕ) (pages : List ℕ) → AreWhole ram (page ∷ pages) → length (page_bytes ram page) ≡ page_size
-first_whole ram page pages whole = whole page (ap (λ (b : Bool). b || has_number pages page) (same_number page))
-
-rest_whole : (ram : List ℕ) (page : ℕ) (pages : List ℕ) → AreWhole ram (page ∷ pages) → AreWhole ram pages
-rest_whole ram page pages whole k there = whole k (ap (λ (b : Bool). (page == k) || b) there ∙ or_true (page == k))
-
-abbrev digest_at : List ℕ → ℕ → List ℕ
-digest_at ram page = page_digest (page_bytes ram page)
-
--- their digests where they lie one after the other
-digests_after : (ram pages : List ℕ) → AreWhole ram pages → page_digests (length pages) (flat_map (page_bytes ram) pages) ≡ map (digest_at ram) pages
-digests_after ram [] whole = refl
-digests_after ram (page ∷ pages) whole =
-    let size = first_whole ram page pages whole in
-    rw (take_at (page_bytes ram page) (flat_map (page_bytes ram) pages) page_size size, drop_at (page_bytes ram page) (flat_map (page_bytes ram) pages) page_size size)
-    (ap (◌∷◌ (digest_at ram page)) (digests_after ram pages (rest_whole ram page pages whole)))
-
-size_after : (ram pages : List ℕ) → AreWhole ram pages → length (flat_map (page_bytes ram) pages) ≡ page_size * length pages
-size_after ram [] whole = refl
-size_after ram (page ∷ pages) whole =
-    let one = first_whole ram page pages whole in
-    let rest = size_after ram pages (rest_whole ram page pages whole) in
-    length-append (page_bytes ram page) (flat_map (page_bytes ram) pages) ∙ sum (length (page_bytes ram page)) (length (flat_map (page_bytes ram) pages)) (length pages) one rest
-  where
-    sum : (a b n : ℕ) → a ≡ page_size → b ≡ page_size * n → a + b ≡ page_size * suc n
-    sum a b n s t = omega (arith, s, t)
-
-pages_in : (size n : ℕ) → size ≡ page_size * n → size / page_size ≡ n
-pages_in size n e = omega (arith, e)
-
-measured : (ram pages : List ℕ) → AreWhole ram pages → measure (flat_map (page_bytes ram) pages) ≡ joined_digests (map (digest_at ram) pages)
-unfolding measure
-measured ram pages whole =
-    ap (λ (n : ℕ). joined_digests (page_digests n (flat_map (page_bytes ram) pages))) (pages_in (length (flat_map (page_bytes ram) pages)) (length pages) (size_after ram pages whole))
-    ∙ ap joined_digests (digests_after ram pages whole)
 
 -- ---- the list of a machine's text
 
@@ -112,12 +71,6 @@ text_is rules ram text entry disk up inside =
     from_none : (page pages : ℕ) → page < pages → page < 0 + pages
     from_none page pages less = omega (arith, less)
 
-whole_in : (ram : List ℕ) (page pages : ℕ) → length ram ≡ page_size * pages → page < pages → length (page_bytes ram page) ≡ page_size
-whole_in ram page pages size below = length_part ram (page_size * page) page_size (rw size (room page pages below))
-  where
-    room : (page pages : ℕ) → page < pages → page_size * page + page_size ≤ page_size * pages
-    room page pages below = omega (arith, below)
-
 text_inside : (rules : Rules) (ram text : List ℕ) (entry : ℕ) (disk : Disk) → IsSound (start rules ram text entry disk) → AllBelow rules.ram_pages text
 unfolding start
 text_inside rules ram text entry disk sound page there = sound.pages.inside page (approved_is ram text page ∙ there)
@@ -139,7 +92,7 @@ start_digests rules ram text entry disk up kernel sound = record {
   pages = numbers_back ram text;
   each = λ i t at kept. digest_is ram text i t at;
   joined = ap joined_digests (digests_back ram text)
-      ∙ sym (measured ram text (λ page there. whole_in ram page rules.ram_pages (ram_size rules ram text entry disk sound) (text_inside rules ram text entry disk sound page there)))
+      ∙ sym (joined_after ram text (λ page there. whole_in ram page rules.ram_pages (ram_size rules ram text entry disk sound) (text_inside rules ram text entry disk sound page there)))
       ∙ kernel;
 }
 
@@ -152,8 +105,24 @@ of_start rules ram text entry disk up kernel sound =
 
 -- ---- the laws
 
-pub boot_is : (rules : Rules) (file disk : List ℕ) → IsMeasuredBoot rules file → IsStart (boot_start rules file disk)
-boot_is rules file disk k = inr (inl (record {
+digests_of_image : (rules : Rules) (file : List ℕ) (disk : Disk) → IsMeasuredBoot rules file → IsSound (image_start rules file disk)
+    → KeepsDigests (image_start rules file disk) (digested_text (image_start rules file disk))
+digests_of_image rules file disk k sound =
+    of_start rules (segments_ram (kernel_segments file) rules.ram_pages) (text_pages (kernel_segments file)) (header_entry file) disk
+    (text_pages_ascend (kernel_segments file)) (ap measure (sym (text_in_ram file rules.ram_pages k.bootable.accepted)) ∙ k.measured) sound
+
+rules_of_image : (rules : Rules) (file : List ℕ) (disk : Disk) → (image_start rules file disk).rules ≡ rules
+unfolding start
+rules_of_image rules file disk = refl
+
+-- a run begins with it
+pub record IsBoot (boot : Boot) : Type 0 where
+  pub starts : (rules : Rules) (file disk : List ℕ) → IsMeasuredBoot rules file → IsStart (boot rules file disk)
+  pub rules : (rules : Rules) (file disk : List ℕ) → (boot rules file disk).rules ≡ rules
+  pub digests : BootDigestsLaw boot
+
+block_starts : (rules : Rules) (file disk : List ℕ) → IsMeasuredBoot rules file → IsStart (boot_start rules file disk)
+block_starts rules file disk k = inr (inl (record {
   rules = rules;
   file = file;
   disk = disk;
@@ -161,12 +130,43 @@ boot_is rules file disk k = inr (inl (record {
   same = refl;
 }))
 
-digests_of_boot : (rules : Rules) (file disk : List ℕ) → IsMeasuredBoot rules file → IsSound (boot_start rules file disk)
+virtio_starts : (rules : Rules) (file disk : List ℕ) → IsMeasuredBoot rules file → IsStart (virtio_start rules file disk)
+virtio_starts rules file disk k = inr (inr (record {
+  rules = rules;
+  file = file;
+  disk = disk;
+  bootable = k.bootable;
+  same = refl;
+}))
+
+block_rules : (rules : Rules) (file disk : List ℕ) → (boot_start rules file disk).rules ≡ rules
+unfolding boot_start
+block_rules rules file disk = rules_of_image rules file (block_disk disk)
+
+virtio_rules : (rules : Rules) (file disk : List ℕ) → (virtio_start rules file disk).rules ≡ rules
+unfolding virtio_start
+virtio_rules rules file disk = rules_of_image rules file (virtio_disk disk)
+
+block_digests : (rules : Rules) (file disk : List ℕ) → IsMeasuredBoot rules file → IsSound (boot_start rules file disk)
     → KeepsDigests (boot_start rules file disk) (digested_text (boot_start rules file disk))
 unfolding boot_start
-digests_of_boot rules file disk k sound =
-    of_start rules (segments_ram (kernel_segments file) rules.ram_pages) (text_pages (kernel_segments file)) (header_entry file) (block_disk disk)
-    (text_pages_ascend (kernel_segments file)) (ap measure (sym (text_in_ram file rules.ram_pages k.bootable.accepted)) ∙ k.measured) sound
+block_digests rules file disk k sound = digests_of_image rules file (block_disk disk) k sound
 
-pub boot_digests_law : BootDigestsLaw
-boot_digests_law rules file disk k = digests_of_boot rules file disk k (reached_sound (boot_start rules file disk) [] (boot_is rules file disk k))
+virtio_digests : (rules : Rules) (file disk : List ℕ) → IsMeasuredBoot rules file → IsSound (virtio_start rules file disk)
+    → KeepsDigests (virtio_start rules file disk) (digested_text (virtio_start rules file disk))
+unfolding virtio_start
+virtio_digests rules file disk k sound = digests_of_image rules file (virtio_disk disk) k sound
+
+pub block_boot : IsBoot boot_start
+block_boot = record {
+  starts = block_starts;
+  rules = block_rules;
+  digests = λ rules file disk k. block_digests rules file disk k (reached_sound (boot_start rules file disk) [] (block_starts rules file disk k));
+}
+
+pub virtio_boot : IsBoot virtio_start
+virtio_boot = record {
+  starts = virtio_starts;
+  rules = virtio_rules;
+  digests = λ rules file disk k. virtio_digests rules file disk k (reached_sound (virtio_start rules file disk) [] (virtio_starts rules file disk k));
+}

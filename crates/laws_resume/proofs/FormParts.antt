@@ -9,12 +9,12 @@ use Rattle.sv_types.specs.declared.block.BlockCommand.{BlockCommand}
 use Rattle.sv_types.specs.declared.block.BlockState.{BlockState}
 use Rattle.sv_types.specs.declared.block.BlockStatus.{BlockStatus}
 use Rattle.spec_reference.specs.BlockDisk.{beat_size, beats_done, is_busy, is_under_way, sector_size}
-use Rattle.snapshot_format.specs.DeviceForms.{block, block_in, console, devices, disk, port, sectors, standing_status, transfer}
+use Rattle.snapshot_format.specs.DeviceForms.{block, console, devices, disk, kind_of, port, sectors, standing_status, transfer}
 use Rattle.snapshot_format.specs.Forms.{is_word}
 use Rattle.snapshot_format.specs.HartForms.{flag, harts}
 use Rattle.snapshot_format.specs.JournalForms.{counts, notes, verdict, journal}
 use Rattle.snapshot_format.specs.PageForms.{protections, text, pages, modules, load_under_way, gate}
-use Rattle.snapshot_format.specs.Snapshots.{Contents, magic_form, events_made, hart_count, magic, header, body, whole_header, whole_body, snapshot}
+use Rattle.snapshot_format.specs.Snapshots.{Contents, magic_form, events_made, hart_count, header, body, whole_header, whole_body, snapshot}
 use Rattle.snapshot_format.proofs.FormLaws.{first_true, second_true}
 
 -- the parts of a snapshot have their forms
@@ -24,9 +24,9 @@ pub record HasParts (s : Contents) : Type 0 where
   pub text : (text (length s.protection)).has s.text ≡ true
   pub modules : modules.has s.modules ≡ true
   pub loading : (load_under_way s.harts).has s.loading ≡ true
-  pub devices : devices.has (s.console, (s.port, s.disk)) ≡ true
+  pub devices : (devices (kind_of s.port)).has (s.console, (s.port, s.disk)) ≡ true
   pub console : console.has s.console ≡ true
-  pub port : port.has s.port ≡ true
+  pub port : (port (kind_of s.port)).has s.port ≡ true
   pub notes : (notes (length s.harts) s.counts.notes).has s.notes ≡ true
   pub verdict : (verdict (length s.harts)).has s.verdict ≡ true
   pub ram : length s.ram ≡ page_size * length s.protection
@@ -42,14 +42,14 @@ parts_of s h =
     let after_pages = second_true ((pages h0.ram_pages).has b.1.0) _ behind in
     let gate_parts = first_true ((gate b.0).has b.1.1.0) _ after_pages in
     let after_gate = second_true ((gate b.0).has b.1.1.0) _ after_pages in
-    let device_parts = first_true (devices.has b.1.1.1.0) _ after_gate in
-    let after_devices = second_true (devices.has b.1.1.1.0) _ after_gate in
+    let device_parts = first_true ((devices h0.kind).has b.1.1.1.0) _ after_gate in
+    let after_devices = second_true ((devices h0.kind).has b.1.1.1.0) _ after_gate in
     let journal_parts = first_true ((journal h0.events h0.harts).has b.1.1.1.1.0) _ after_devices in
     let ram_part = second_true ((journal h0.events h0.harts).has b.1.1.1.1.0) _ after_devices in
-    let blocks = second_true (console.has s.console) _ device_parts in
+    let from_port = second_true (console.has s.console) _ device_parts in
     let notes_on = second_true ((counts h0.events).has s.counts) _ journal_parts in
     let head = first_true (header.has h0) ((body h0).has b) h in
-    let head_events = second_true (magic_form.has magic) _ head in
+    let head_events = second_true (magic_form.has h0.kind) _ head in
     let head_harts = second_true (events_made.has h0.events) _ head_events in
     let hart_part = first_true (hart_count.has h0.harts) _ head_harts in
     record {
@@ -60,7 +60,7 @@ parts_of s h =
       loading = second_true (flag.has s.retired) _ (second_true (modules.has s.modules) _ gate_parts);
       devices = device_parts;
       console = first_true (console.has s.console) _ device_parts;
-      port = first_true (port.has s.port) ((disk (block_in s.port)).has s.disk) blocks;
+      port = first_true ((port h0.kind).has s.port) ((disk s.port).has s.disk) from_port;
       notes = first_true ((notes h0.harts s.counts.notes).has s.notes) _ notes_on;
       verdict = second_true ((notes h0.harts s.counts.notes).has s.notes) _ notes_on;
       ram = eqb-true (length s.ram) (page_size * h0.ram_pages) ram_part;

@@ -15,6 +15,7 @@ pub mod KindsStay
 pub mod ResumedHarts
 pub mod ResumedHolds
 pub mod ResumedPages
+pub mod RequestsStand
 pub mod ResumedSoundHolds
 pub mod SavedAccepted
 pub mod SavedForms
@@ -25,6 +26,7 @@ pub mod SavedResumes
 pub mod TakenAgain
 pub mod TakenPages
 pub mod Ascending
+pub mod WholePages
 pub mod BootDigests
 pub mod ResumedHw
 pub mod ResumedStands

@@ -23,7 +23,7 @@ use Rattle.spec_reference.specs.Protections.{protection_at}
 use Rattle.spec_reference.specs.States.{has_number, is_approved_in, protection_in, find_module, pages_in_rule, protections_of}
 use Rattle.spec_reference.specs.SavedStates.{disk_of}
 use Rattle.spec_reference.specs.declared.saved_machine.whole.SavedLoad.{SavedLoad}
-use Rattle.snapshot_format.specs.DeviceForms.{console, port}
+use Rattle.snapshot_format.specs.DeviceForms.{console, kind_of, port}
 use Rattle.snapshot_format.specs.Forms.{is_word}
 use Rattle.snapshot_format.specs.PageForms.{load_under_way}
 use Rattle.snapshot_format.specs.Snapshots.{Contents, snapshot}
@@ -38,6 +38,7 @@ use Rattle.snapshot_format.specs.declared.resume.refusal.ResumeRefusal.TheVarian
 use Rattle.laws_resume.specs.Keepable.{AreKeepable, IsKeepableJournal, IsKeepableClock, IsKeepable}
 use Rattle.laws_resume.specs.Resumed.{KeepsDigests}
 use Rattle.laws_resume.specs.ResumedSound.{ResumedGoesOnLaw, ResumedSoundLaw}
+use Rattle.laws_resume.proofs.RequestsStand.{virtio_sound}
 use Rattle.laws_resume.proofs.DueProtections.{due_is, by_marks, listed}
 use Rattle.laws_resume.proofs.FormParts.{HasParts, parts_of, max_is, block_goes}
 use Rattle.laws_resume.proofs.ResumedHarts.{harts_sound, harts_kept, LoadParts, load_parts_of, load_kept, journal_kept, clock_kept}
@@ -288,10 +289,10 @@ protections_are rules s k =
 
 -- ---- the disk
 
-port_sound : (p : PortState) (bytes : List ℕ) → port.has p ≡ true → IsSoundDisk (disk_of p bytes)
+port_sound : (p : PortState) (bytes : List ℕ) → (port (kind_of p)).has p ≡ true → IsSoundDisk (disk_of p bytes)
 unfolding port
 port_sound (PortState.Block b) bytes h = λ busy. (block_goes b h busy).aligned
-port_sound (PortState.Virtio v) bytes h = cc
+port_sound (PortState.Virtio v) bytes h = virtio_sound v bytes h
 
 -- ---- the whole
 

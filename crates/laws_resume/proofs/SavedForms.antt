@@ -10,18 +10,18 @@ use Rattle.sv_types.specs.Limits.{max_events}
 use Rattle.spec_reference.specs.Soundness.{IsSound}
 use Rattle.spec_reference.specs.States.{State, protection_in, protections_of}
 use Rattle.spec_reference.specs.SavedStates.{saved_harts}
-use Rattle.snapshot_format.specs.DeviceForms.{console, devices, port}
+use Rattle.snapshot_format.specs.DeviceForms.{console, devices, kind_of, port}
 use Rattle.snapshot_format.specs.Forms.{is_word}
 use Rattle.snapshot_format.specs.HartForms.{flag, harts}
 use Rattle.snapshot_format.specs.JournalForms.{counts, journal}
 use Rattle.snapshot_format.specs.PageForms.{gate, modules, pages, protections, text}
-use Rattle.snapshot_format.specs.Snapshots.{Contents, magic_form, body, contents, events_made, hart_count, header, magic, page_count, snapshot, whole_header}
+use Rattle.snapshot_format.specs.Snapshots.{Contents, magic_form, body, contents, events_made, hart_count, header, page_count, snapshot, whole_header}
 use Rattle.snapshot_format.specs.Typed.{IsTyped}
 use Rattle.snapshot_format.specs.declared.whole.TextPage.{TextPage}
 use Rattle.snapshot_format.proofs.FormLaws.{both_true, first_true, second_true}
 use Rattle.laws_resume.specs.Keepable.{AscendFrom, IsKeepable, IsKeepableJournal}
 use Rattle.laws_resume.specs.Resumed.{KeepsDigests}
-use Rattle.laws_resume.specs.SavedForm.{HasBlock, IsCounted, SavedFormLaw}
+use Rattle.laws_resume.specs.SavedForm.{HasDevice, IsCounted, SavedFormLaw}
 use Rattle.laws_resume.proofs.FormParts.{least_is, small_word}
 use Rattle.laws_resume.proofs.SavedAccepted.{saved_contents}
 use Rattle.laws_resume.proofs.SavedHarts.{flag_has, harts_have}
@@ -75,7 +75,7 @@ record HasSizes (r : State) (c : Contents) : Type 0 where
 header_has : (r : State) (c : Contents) → AreWithin r.rules → HasSizes r c → c.events ≤ max_events → is_word c.time ≡ true → header.has (whole_header c) ≡ true
 unfolding header
 header_has r c w k few time =
-    both_true (magic_form.has magic) _ refl
+    both_true (magic_form.has (kind_of c.port)) _ refl
     (both_true (events_made.has c.events) _ (both_true (is_word c.events) _ (small_word c.events (omega (arith, few))) (least_is c.events max_events few))
     (both_true (hart_count.has (length c.harts)) _
     (subst (λ (n : ℕ). hart_count.has n ≡ true) (sym k.harts) (both_true (is_word r.rules.harts) _ (small_word r.rules.harts (let most = w.four in omega (arith, most))) w.harts))
@@ -99,9 +99,9 @@ harts_part r events ts p d sound keepable w typed =
     (harts_have r.rules r.devices.clock 0 [] r.harts sound.within w.few sound.harts keepable.harts typed.harts))
 
 whole : (r : State) (events : ℕ) (ts : List TextPage) (p : PortState) (d : List ℕ) → IsSound r → IsKeepable r → KeepsDigests r ts
-    → IsTyped (saved_contents r events ts p d) → HasBlock (saved_contents r events ts p d) → IsCounted (saved_contents r events ts p d) → snapshot.has (saved_contents r events ts p d) ≡ true
+    → IsTyped (saved_contents r events ts p d) → HasDevice (saved_contents r events ts p d) → IsCounted (saved_contents r events ts p d) → snapshot.has (saved_contents r events ts p d) ≡ true
 unfolding snapshot body pages gate devices journal
-whole r events ts p d sound keepable digests typed block counted =
+whole r events ts p d sound keepable digests typed device counted =
     let c : Contents = saved_contents r events ts p d in
     let w = within_parts r.rules sound.within in
     let k = sizes r events ts p d sound in
@@ -116,15 +116,15 @@ whole r events ts p d sound keepable digests typed block counted =
     (both_true _ _ (both_true (modules.has r.loaded) _ (modules_have r sound keepable.modules typed.modules)
     (both_true (flag.has r.retired) _ (flag_has r.retired) (loading_has r sound keepable.load typed.loading)))
     (both_true _ _ (both_true (console.has r.devices.console) _ (console_has r.devices.console keepable.console)
-    (both_true (port.has p) _ block.block block.disk))
+    (both_true ((port (kind_of p)).has p) _ device.port device.disk))
     (both_true _ _ (both_true ((counts events).has r.journal.counts) _ (counts_have events r.journal.counts counted.few counted.counts)
     (both_true _ _ (notes_have (length c.harts) r.journal.counts.notes r.journal.notes r.journal.verdict journal_is typed.notes)
     (verdict_has (length c.harts) r.journal.verdict journal_is.last typed.verdict)))
     (eq-eqb (length r.ram) (page_size * length c.protection) (sound.size ∙ ap (λ (n : ℕ). page_size * n) (sym k.pages))))))))
 
 pub saved_form_law : SavedFormLaw
-saved_form_law r s sound keepable saved digests typed block counted =
+saved_form_law r s sound keepable saved digests typed device counted =
     let same : contents s ≡ saved_contents r s.events s.text.items s.«machine».port s.«machine».disk.items =
     contents_are r s saved ∙ ap (λ (ps : List Protection). contents_of r s.events s.text.items ps s.«machine».port s.«machine».disk.items) saved.protection in
     subst (λ (c : Contents). snapshot.has c ≡ true) (sym same)
-    (whole r s.events s.text.items s.«machine».port s.«machine».disk.items sound keepable digests (subst IsTyped same typed) (subst HasBlock same block) (subst IsCounted same counted))
+    (whole r s.events s.text.items s.«machine».port s.«machine».disk.items sound keepable digests (subst IsTyped same typed) (subst HasDevice same device) (subst IsCounted same counted))

@@ -4,7 +4,7 @@ use Rattle.std.specs.Prelude.{None}
 use Rattle.sv_types.specs.Policies.{Rules}
 use Rattle.sv_types.specs.declared.event.Event.{Event}
 use Rattle.spec_reference.specs.Run.{run}
-use Rattle.spec_reference.specs.Start.{IsStart, boot_start, start}
+use Rattle.spec_reference.specs.Start.{IsStart}
 use Rattle.spec_reference.specs.States.{State}
 use Rattle.spec_reference.specs.SavedStates.{IsSaved}
 use Rattle.snapshot_format.specs.Snapshots.{Contents, contents, snapshot}
@@ -15,7 +15,7 @@ use Rattle.snapshot_format.specs.Judgements.{resume_refusal}
 use Rattle.snapshot_format.specs.ResumedStates.{resumed_state}
 use Rattle.laws_resume.specs.Continues.{Alike}
 use Rattle.laws_resume.specs.Resumed.{KeepsDigests}
-use Rattle.laws_resume.specs.SavedForm.{HasBlock, IsCounted}
+use Rattle.laws_resume.specs.SavedForm.{HasDevice, IsCounted}
 use Rattle.laws_resume.proofs.ContinuesHolds.{continues_law}
 use Rattle.laws_resume.proofs.KeepableStarts.{keepable_law}
 use Rattle.laws_resume.proofs.ResumedHolds.{resumed_law}
@@ -23,12 +23,8 @@ use Rattle.laws_resume.proofs.SavedAccepted.{saved_accepted_law}
 use Rattle.laws_resume.proofs.SavedForms.{saved_form_law}
 use Rattle.laws_resume.proofs.SavedResumes.{saved_resumes_law}
 use Rattle.laws_simulation.proofs.StateLawsHold.{reached_sound}
-use Rattle.laws_resume.specs.SnapLaws.{IsMeasuredBoot, IsSnapAfter, SnapAcceptedLaw, SnapContinuesLaw, SnapReadLaw}
-use Rattle.laws_resume.proofs.BootDigests.{boot_digests_law, boot_is}
-
-rules_are : (rules : Rules) (file disk : List ℕ) → (boot_start rules file disk).rules ≡ rules
-unfolding boot_start start
-rules_are rules file disk = refl
+use Rattle.laws_resume.specs.SnapLaws.{Boot, IsMeasuredBoot, IsSnapAfter, SnapAcceptedLaw, SnapContinuesLaw, SnapReadLaw}
+use Rattle.laws_resume.proofs.BootDigests.{IsBoot}
 
 pub nothing_printed : (rules : Rules) (s : Contents) → (resumed_state rules s).journal.printed ≡ []
 unfolding resumed_state
@@ -38,7 +34,7 @@ nothing_printed rules s = refl
 record IsGood (start : State) (rules : Rules) (events : List Event) (s : Snapshot) : Type 0 where
   alike : Alike (run start events).journal.printed (run start events) (resumed_state rules (contents s))
   accepted : resume_refusal rules (contents s) ≡ None
-  form : IsTyped (contents s) → HasBlock (contents s) → IsCounted (contents s) → snapshot.has (contents s) ≡ true
+  form : IsTyped (contents s) → HasDevice (contents s) → IsCounted (contents s) → snapshot.has (contents s) ≡ true
 
 good_at : (start : State) (rules : Rules) (events : List Event) (s : Snapshot) → IsStart start → start.rules ≡ rules → KeepsDigests start s.text.items
     → IsSaved (run start events) s.«machine» → IsGood start rules events s
@@ -55,20 +51,20 @@ good_at start rules events s is same digests saved =
       form = saved_form_law r s goes.sound keepable saved right;
     }
 
-snap_is_good : (rules : Rules) (file disk : List ℕ) (events : List Event) (k : ℕ) (s : Snapshot) → IsMeasuredBoot rules file → IsSnapAfter rules file disk events k s
-    → IsGood (boot_start rules file disk) rules (take k events) s
-snap_is_good rules file disk events k s boot snap =
-    good_at (boot_start rules file disk) rules (take k events) s (boot_is rules file disk boot) (rules_are rules file disk)
-    (subst (KeepsDigests (boot_start rules file disk)) (sym snap.text) (boot_digests_law rules file disk boot)) snap.state
+snap_is_good : (boot : Boot) → IsBoot boot → (rules : Rules) (file disk : List ℕ) (events : List Event) (k : ℕ) (s : Snapshot) → IsMeasuredBoot rules file
+    → IsSnapAfter boot rules file disk events k s → IsGood (boot rules file disk) rules (take k events) s
+snap_is_good boot b rules file disk events k s measured snap =
+    good_at (boot rules file disk) rules (take k events) s (b.starts rules file disk measured) (b.rules rules file disk)
+    (subst (KeepsDigests (boot rules file disk)) (sym snap.text) (b.digests rules file disk measured)) snap.state
 
-pub snap_accepted_law : SnapAcceptedLaw
-snap_accepted_law rules file disk events k s boot snap = (snap_is_good rules file disk events k s boot snap).accepted
+pub snap_accepted_law : (boot : Boot) → IsBoot boot → SnapAcceptedLaw boot
+snap_accepted_law boot b rules file disk events k s measured snap = (snap_is_good boot b rules file disk events k s measured snap).accepted
 
-pub snap_read_law : SnapReadLaw
-snap_read_law rules file disk events k s boot snap typed block counted =
-    snapshot_law.again (contents s) ((snap_is_good rules file disk events k s boot snap).form typed block counted)
+pub snap_read_law : (boot : Boot) → IsBoot boot → SnapReadLaw boot
+snap_read_law boot b rules file disk events k s measured snap typed device counted =
+    snapshot_law.again (contents s) ((snap_is_good boot b rules file disk events k s measured snap).form typed device counted)
 
-pub snap_continues_law : SnapContinuesLaw
-snap_continues_law rules file disk events k s boot snap =
-    continues_law (boot_start rules file disk) k events (resumed_state rules (contents s)) (nothing_printed rules (contents s))
-    (snap_is_good rules file disk events k s boot snap).alike
+pub snap_continues_law : (boot : Boot) → IsBoot boot → SnapContinuesLaw boot
+snap_continues_law boot b rules file disk events k s measured snap =
+    continues_law (boot rules file disk) k events (resumed_state rules (contents s)) (nothing_printed rules (contents s))
+    (snap_is_good boot b rules file disk events k s measured snap).alike

@@ -5,18 +5,18 @@ use Rattle.spec_reference.specs.Counting.{CountsAtMost}
 use Rattle.spec_reference.specs.Soundness.{IsSound}
 use Rattle.spec_reference.specs.States.{State}
 use Rattle.spec_reference.specs.SavedStates.{IsSaved}
-use Rattle.snapshot_format.specs.DeviceForms.{block_in, disk, port}
+use Rattle.snapshot_format.specs.DeviceForms.{disk, kind_of, port}
 use Rattle.snapshot_format.specs.Snapshots.{Contents, contents, snapshot}
 use Rattle.snapshot_format.specs.Typed.{IsTyped}
 use Rattle.snapshot_format.specs.declared.whole.Snapshot.{Snapshot}
 use Rattle.laws_resume.specs.Keepable.{IsKeepable}
 use Rattle.laws_resume.specs.Resumed.{KeepsDigests}
 
--- ---- what the block device keeps: its registers go together, and its disk is whole sectors that a transfer lies on
+-- ---- what a device keeps: its numbers go together, and its disk is whole sectors that hold what it has under way
 
-pub record HasBlock (s : Contents) : Type 0 where
-  pub block : port.has s.port ≡ true
-  pub disk : (disk (block_in s.port)).has s.disk ≡ true
+pub record HasDevice (s : Contents) : Type 0 where
+  pub port : (port (kind_of s.port)).has s.port ≡ true
+  pub disk : (disk s.port).has s.disk ≡ true
 
 -- ---- the law
 
@@ -27,4 +27,4 @@ pub record IsCounted (s : Contents) : Type 0 where
 
 abbrev pub SavedFormLaw : Type 0
 SavedFormLaw = (r : State) (s : Snapshot) → IsSound r → IsKeepable r → IsSaved r s.«machine» → KeepsDigests r s.text.items
-    → IsTyped (contents s) → HasBlock (contents s) → IsCounted (contents s) → snapshot.has (contents s) ≡ true
+    → IsTyped (contents s) → HasDevice (contents s) → IsCounted (contents s) → snapshot.has (contents s) ≡ true

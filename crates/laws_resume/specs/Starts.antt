@@ -1,5 +1,5 @@
 -- The machine before its first event, and that it stands for the start of the reference machine. This project's own.
-use Rattle.std.specs.Prelude.{◌≡◌, ℕ, ◌-◌, ◌*◌, ◌/◌, ◌≤◌, Bool, true, false, List, [], ◌∷◌, length, map, replicate, None, IsTrue}
+use Rattle.std.specs.Prelude.{◌≡◌, ℕ, ◌-◌, ◌*◌, ◌/◌, ◌≤◌, Bool, true, false, List, [], ◌∷◌, length, map, replicate, None}
 use Rattle.sv_types.specs.Boot.{no_counts, flat_ram_pages}
 use Rattle.spec_processor.specs.Bytes.{with_padding, page_size, ram_base}
 use Rattle.sv_types.specs.Clock.{clock_at_boot}
@@ -16,7 +16,7 @@ use Rattle.sv_types.specs.declared.protection.Protection.TheVariants.{Free, Held
 use Rattle.sv_types.specs.Protections.{is_free}
 use Rattle.spec_reference.specs.Protections.{protection_at, with_pages, with_each}
 use Rattle.spec_reference.specs.Start.{IsBootable, block_disk, virtio_disk, flat_rules, flat_start, boot_start, virtio_start}
-use Rattle.spec_reference.specs.States.{State, Disk, Journal, has_number}
+use Rattle.spec_reference.specs.States.{State, Disk, Journal}
 use Rattle.spec_hardware.specs.Machine.{Machine, HwHart}
 use Rattle.spec_hardware.specs.Reaches.{IsNew}
 use Rattle.spec_hardware.specs.StandsFor.{bound_pages, hregs_in}

@@ -1,5 +1,5 @@
 -- What the word of each instruction tells by its transformed form.
-use Rattle.std.proofs.Common.{◌≡◌, ℕ, ◌%◌, inl, inr, List, [], ◌∷◌, refl, subst, Bool, true, false, cond}
+use Rattle.std.proofs.Common.{◌≡◌, ℕ, ◌%◌, inl, inr, List, [], ◌∷◌, drop, refl, subst, Bool, true, false, cond}
 use Rattle.std.specs.Prelude.{find, Option, Some, IfSome, bit_and}
 use Rattle.std.specs.Option.{option_map}
 use Rattle.std.proofs.lemmas.Bool.{eqb-true}
@@ -51,6 +51,516 @@ RowTells w row = has_row w row ≡ true → Tells w (instruction_in w row)
 abbrev pub AllTell : ℕ → List Row → Type 0
 AllTell w [] = Unit {0}
 AllTell w (row ∷ rest) = RowTells w row × AllTell w rest
+
+rows_tell_from_80 : (w : ℕ) → AllTell w (drop 80 rows)
+unfolding rows effect_of
+rows_tell_from_80 w = (
+  (λ e. (
+    record {
+      mask = _;
+      value = _;
+      form = _;
+      fits = eqb-true _ _ e;
+      only = refl;
+      kept = refl;
+      opcode = refl;
+      low = refl;
+      atomic = λ registers pc x. tt;
+    },
+    inr (inr (inl refl)),
+  )),
+  (
+    (λ e. (
+      record {
+        mask = _;
+        value = _;
+        form = _;
+        fits = eqb-true _ _ e;
+        only = refl;
+        kept = refl;
+        opcode = refl;
+        low = refl;
+        atomic = λ registers pc x. tt;
+      },
+      inr (inr (inr refl)),
+    )),
+    (
+      (λ e. (
+        record {
+          mask = _;
+          value = _;
+          form = _;
+          fits = eqb-true _ _ e;
+          only = refl;
+          kept = refl;
+          opcode = refl;
+          low = refl;
+          atomic = λ registers pc x. tt;
+        },
+        inr (inr (inl refl)),
+      )),
+      (
+        (λ e. (
+          record {
+            mask = _;
+            value = _;
+            form = _;
+            fits = eqb-true _ _ e;
+            only = refl;
+            kept = refl;
+            opcode = refl;
+            low = refl;
+            atomic = λ registers pc x. tt;
+          },
+          inr (inr (inr refl)),
+        )),
+        (
+          (λ e. (
+            record {
+              mask = _;
+              value = _;
+              form = _;
+              fits = eqb-true _ _ e;
+              only = refl;
+              kept = refl;
+              opcode = refl;
+              low = refl;
+              atomic = λ registers pc x. tt;
+            },
+            inr (inr (inl refl)),
+          )),
+          (
+            (λ e. (
+              record {
+                mask = _;
+                value = _;
+                form = _;
+                fits = eqb-true _ _ e;
+                only = refl;
+                kept = refl;
+                opcode = refl;
+                low = refl;
+                atomic = λ registers pc x. tt;
+              },
+              inr (inr (inr refl)),
+            )),
+            (
+              (λ e. tt),
+              (
+                (λ e. tt),
+                (
+                  (λ e. tt),
+                  (
+                    (λ e. tt),
+                    (
+                      (λ e. tt),
+                      (
+                        (λ e. tt),
+                        (
+                          (λ e. tt),
+                          (
+                            (λ e. tt),
+                            (
+                              (λ e. tt),
+                              (
+                                (λ e. tt),
+                                (
+                                  (λ e. tt),
+                                  (
+                                    (λ e. tt),
+                                    (
+                                      (λ e. tt),
+                                      (
+                                        (λ e. tt),
+                                        (
+                                          (λ e. tt),
+                                          (
+                                            (λ e. tt),
+                                            (
+                                              (λ e. tt),
+                                              (
+                                                (λ e. tt),
+                                                (
+                                                  (λ e. tt),
+                                                  (
+                                                    (λ e. tt),
+                                                    (
+                                                      (λ e. tt),
+                                                      (
+                                                        (λ e. tt),
+                                                        (
+                                                          (λ e. tt),
+                                                          (
+                                                            (λ e. tt),
+                                                            (
+                                                              (λ e. tt),
+                                                              (
+                                                                (λ e. tt),
+                                                                tt,
+                                                              ),
+                                                            ),
+                                                          ),
+                                                        ),
+                                                      ),
+                                                    ),
+                                                  ),
+                                                ),
+                                              ),
+                                            ),
+                                          ),
+                                        ),
+                                      ),
+                                    ),
+                                  ),
+                                ),
+                              ),
+                            ),
+                          ),
+                        ),
+                      ),
+                    ),
+                  ),
+                ),
+              ),
+            ),
+          ),
+        ),
+      ),
+    ),
+  ),
+)
+
+rows_tell_from_40 : (w : ℕ) → AllTell w (drop 40 rows)
+unfolding rows effect_of
+rows_tell_from_40 w = (
+  (λ e. tt),
+  (
+    (λ e. tt),
+    (
+      (λ e. tt),
+      (
+        (λ e. tt),
+        (
+          (λ e. tt),
+          (
+            (λ e. tt),
+            (
+              (λ e. tt),
+              (
+                (λ e. tt),
+                (
+                  (λ e. tt),
+                  (
+                    (λ e. tt),
+                    (
+                      (λ e. tt),
+                      (
+                        (λ e. tt),
+                        (
+                          (λ e. tt),
+                          (
+                            (λ e. tt),
+                            (
+                              (λ e. tt),
+                              (
+                                (λ e. tt),
+                                (
+                                  (λ e. tt),
+                                  (
+                                    (λ e. tt),
+                                    (
+                                      (λ e. tt),
+                                      (
+                                        (λ e. tt),
+                                        (
+                                          (λ e. tt),
+                                          (
+                                            (λ e. tt),
+                                            (
+                                              (λ e. tt),
+                                              (
+                                                (λ e. tt),
+                                                (
+                                                  (λ e. (
+                                                    record {
+                                                      mask = _;
+                                                      value = _;
+                                                      form = _;
+                                                      fits = eqb-true _ _ e;
+                                                      only = refl;
+                                                      kept = refl;
+                                                      opcode = refl;
+                                                      low = refl;
+                                                      atomic = λ registers pc x. tt;
+                                                    },
+                                                    inr (inr (inl refl)),
+                                                  )),
+                                                  (
+                                                    (λ e. (
+                                                      record {
+                                                        mask = _;
+                                                        value = _;
+                                                        form = _;
+                                                        fits = eqb-true _ _ e;
+                                                        only = refl;
+                                                        kept = refl;
+                                                        opcode = refl;
+                                                        low = refl;
+                                                        atomic = λ registers pc x. tt;
+                                                      },
+                                                      inr (inr (inr refl)),
+                                                    )),
+                                                    (
+                                                      (λ e. (
+                                                        record {
+                                                          mask = _;
+                                                          value = _;
+                                                          form = _;
+                                                          fits = eqb-true _ _ e;
+                                                          only = refl;
+                                                          kept = refl;
+                                                          opcode = refl;
+                                                          low = refl;
+                                                          atomic = λ registers pc x. tt;
+                                                        },
+                                                        inr (inr (inl refl)),
+                                                      )),
+                                                      (
+                                                        (λ e. (
+                                                          record {
+                                                            mask = _;
+                                                            value = _;
+                                                            form = _;
+                                                            fits = eqb-true _ _ e;
+                                                            only = refl;
+                                                            kept = refl;
+                                                            opcode = refl;
+                                                            low = refl;
+                                                            atomic = λ registers pc x. tt;
+                                                          },
+                                                          inr (inr (inr refl)),
+                                                        )),
+                                                        (
+                                                          (λ e. (
+                                                            record {
+                                                              mask = _;
+                                                              value = _;
+                                                              form = _;
+                                                              fits = eqb-true _ _ e;
+                                                              only = refl;
+                                                              kept = refl;
+                                                              opcode = refl;
+                                                              low = refl;
+                                                              atomic = λ registers pc x. tt;
+                                                            },
+                                                            inr (inr (inl refl)),
+                                                          )),
+                                                          (
+                                                            (λ e. (
+                                                              record {
+                                                                mask = _;
+                                                                value = _;
+                                                                form = _;
+                                                                fits = eqb-true _ _ e;
+                                                                only = refl;
+                                                                kept = refl;
+                                                                opcode = refl;
+                                                                low = refl;
+                                                                atomic = λ registers pc x. tt;
+                                                              },
+                                                              inr (inr (inr refl)),
+                                                            )),
+                                                            (
+                                                              (λ e. (
+                                                                record {
+                                                                  mask = _;
+                                                                  value = _;
+                                                                  form = _;
+                                                                  fits = eqb-true _ _ e;
+                                                                  only = refl;
+                                                                  kept = refl;
+                                                                  opcode = refl;
+                                                                  low = refl;
+                                                                  atomic = λ registers pc x. tt;
+                                                                },
+                                                                inr (inr (inl refl)),
+                                                              )),
+                                                              (
+                                                                (λ e. (
+                                                                  record {
+                                                                    mask = _;
+                                                                    value = _;
+                                                                    form = _;
+                                                                    fits = eqb-true _ _ e;
+                                                                    only = refl;
+                                                                    kept = refl;
+                                                                    opcode = refl;
+                                                                    low = refl;
+                                                                    atomic = λ registers pc x. tt;
+                                                                  },
+                                                                  inr (inr (inr refl)),
+                                                                )),
+                                                                (
+                                                                  (λ e. (
+                                                                    record {
+                                                                      mask = _;
+                                                                      value = _;
+                                                                      form = _;
+                                                                      fits = eqb-true _ _ e;
+                                                                      only = refl;
+                                                                      kept = refl;
+                                                                      opcode = refl;
+                                                                      low = refl;
+                                                                      atomic = λ registers pc x. tt;
+                                                                    },
+                                                                    inr (inr (inl refl)),
+                                                                  )),
+                                                                  (
+                                                                    (λ e. (
+                                                                      record {
+                                                                        mask = _;
+                                                                        value = _;
+                                                                        form = _;
+                                                                        fits = eqb-true _ _ e;
+                                                                        only = refl;
+                                                                        kept = refl;
+                                                                        opcode = refl;
+                                                                        low = refl;
+                                                                        atomic = λ registers pc x. tt;
+                                                                      },
+                                                                      inr (inr (inr refl)),
+                                                                    )),
+                                                                    (
+                                                                      (λ e. (
+                                                                        record {
+                                                                          mask = _;
+                                                                          value = _;
+                                                                          form = _;
+                                                                          fits = eqb-true _ _ e;
+                                                                          only = refl;
+                                                                          kept = refl;
+                                                                          opcode = refl;
+                                                                          low = refl;
+                                                                          atomic = λ registers pc x. tt;
+                                                                        },
+                                                                        inr (inr (inl refl)),
+                                                                      )),
+                                                                      (
+                                                                        (λ e. (
+                                                                          record {
+                                                                            mask = _;
+                                                                            value = _;
+                                                                            form = _;
+                                                                            fits = eqb-true _ _ e;
+                                                                            only = refl;
+                                                                            kept = refl;
+                                                                            opcode = refl;
+                                                                            low = refl;
+                                                                            atomic = λ registers pc x. tt;
+                                                                          },
+                                                                          inr (inr (inr refl)),
+                                                                        )),
+                                                                        (
+                                                                          (λ e. (
+                                                                            record {
+                                                                              mask = _;
+                                                                              value = _;
+                                                                              form = _;
+                                                                              fits = eqb-true _ _ e;
+                                                                              only = refl;
+                                                                              kept = refl;
+                                                                              opcode = refl;
+                                                                              low = refl;
+                                                                              atomic = λ registers pc x. tt;
+                                                                            },
+                                                                            inr (inr (inl refl)),
+                                                                          )),
+                                                                          (
+                                                                            (λ e. (
+                                                                              record {
+                                                                                mask = _;
+                                                                                value = _;
+                                                                                form = _;
+                                                                                fits = eqb-true _ _ e;
+                                                                                only = refl;
+                                                                                kept = refl;
+                                                                                opcode = refl;
+                                                                                low = refl;
+                                                                                atomic = λ registers pc x. tt;
+                                                                              },
+                                                                              inr (inr (inr refl)),
+                                                                            )),
+                                                                            (
+                                                                              (λ e. (
+                                                                                record {
+                                                                                  mask = _;
+                                                                                  value = _;
+                                                                                  form = _;
+                                                                                  fits = eqb-true _ _ e;
+                                                                                  only = refl;
+                                                                                  kept = refl;
+                                                                                  opcode = refl;
+                                                                                  low = refl;
+                                                                                  atomic = λ registers pc x. tt;
+                                                                                },
+                                                                                inr (inr (inl refl)),
+                                                                              )),
+                                                                              (
+                                                                                (λ e. (
+                                                                                  record {
+                                                                                    mask = _;
+                                                                                    value = _;
+                                                                                    form = _;
+                                                                                    fits = eqb-true _ _ e;
+                                                                                    only = refl;
+                                                                                    kept = refl;
+                                                                                    opcode = refl;
+                                                                                    low = refl;
+                                                                                    atomic = λ registers pc x. tt;
+                                                                                  },
+                                                                                  inr (inr (inr refl)),
+                                                                                )),
+                                                                                rows_tell_from_80 w,
+                                                                              ),
+                                                                            ),
+                                                                          ),
+                                                                        ),
+                                                                      ),
+                                                                    ),
+                                                                  ),
+                                                                ),
+                                                              ),
+                                                            ),
+                                                          ),
+                                                        ),
+                                                      ),
+                                                    ),
+                                                  ),
+                                                ),
+                                              ),
+                                            ),
+                                          ),
+                                        ),
+                                      ),
+                                    ),
+                                  ),
+                                ),
+                              ),
+                            ),
+                          ),
+                        ),
+                      ),
+                    ),
+                  ),
+                ),
+              ),
+            ),
+          ),
+        ),
+      ),
+    ),
+  ),
+)
 
 rows_tell : (w : ℕ) → AllTell w rows
 unfolding rows effect_of
@@ -134,506 +644,7 @@ rows_tell w = (
                                                                               (λ e. tt),
                                                                               (
                                                                                 (λ e. tt),
-                                                                                (
-                                                                                  (λ e. tt),
-                                                                                  (
-                                                                                    (λ e. tt),
-                                                                                    (
-                                                                                      (λ e. tt),
-                                                                                      (
-                                                                                        (λ e. tt),
-                                                                                        (
-                                                                                          (λ e. tt),
-                                                                                          (
-                                                                                            (λ e. tt),
-                                                                                            (
-                                                                                              (λ e. tt),
-                                                                                              (
-                                                                                                (λ e. tt),
-                                                                                                (
-                                                                                                  (λ e. tt),
-                                                                                                  (
-                                                                                                    (λ e. tt),
-                                                                                                    (
-                                                                                                      (λ e. tt),
-                                                                                                      (
-                                                                                                        (λ e. tt),
-                                                                                                        (
-                                                                                                          (λ e. tt),
-                                                                                                          (
-                                                                                                            (λ e. tt),
-                                                                                                            (
-                                                                                                              (λ e. tt),
-                                                                                                              (
-                                                                                                                (λ e. tt),
-                                                                                                                (
-                                                                                                                  (λ e. tt),
-                                                                                                                  (
-                                                                                                                    (λ e. tt),
-                                                                                                                    (
-                                                                                                                      (λ e. tt),
-                                                                                                                      (
-                                                                                                                        (λ e. tt),
-                                                                                                                        (
-                                                                                                                          (λ e. tt),
-                                                                                                                          (
-                                                                                                                            (λ e. tt),
-                                                                                                                            (
-                                                                                                                              (λ e. tt),
-                                                                                                                              (
-                                                                                                                                (λ e. tt),
-                                                                                                                                (
-                                                                                                                                  (λ e. (
-                                                                                                                                    record {
-                                                                                                                                      mask = _;
-                                                                                                                                      value = _;
-                                                                                                                                      form = _;
-                                                                                                                                      fits = eqb-true _ _ e;
-                                                                                                                                      only = refl;
-                                                                                                                                      kept = refl;
-                                                                                                                                      opcode = refl;
-                                                                                                                                      low = refl;
-                                                                                                                                      atomic = λ registers pc x. tt;
-                                                                                                                                    },
-                                                                                                                                    inr (inr (inl refl)),
-                                                                                                                                  )),
-                                                                                                                                  (
-                                                                                                                                    (λ e. (
-                                                                                                                                      record {
-                                                                                                                                        mask = _;
-                                                                                                                                        value = _;
-                                                                                                                                        form = _;
-                                                                                                                                        fits = eqb-true _ _ e;
-                                                                                                                                        only = refl;
-                                                                                                                                        kept = refl;
-                                                                                                                                        opcode = refl;
-                                                                                                                                        low = refl;
-                                                                                                                                        atomic = λ registers pc x. tt;
-                                                                                                                                      },
-                                                                                                                                      inr (inr (inr refl)),
-                                                                                                                                    )),
-                                                                                                                                    (
-                                                                                                                                      (λ e. (
-                                                                                                                                        record {
-                                                                                                                                          mask = _;
-                                                                                                                                          value = _;
-                                                                                                                                          form = _;
-                                                                                                                                          fits = eqb-true _ _ e;
-                                                                                                                                          only = refl;
-                                                                                                                                          kept = refl;
-                                                                                                                                          opcode = refl;
-                                                                                                                                          low = refl;
-                                                                                                                                          atomic = λ registers pc x. tt;
-                                                                                                                                        },
-                                                                                                                                        inr (inr (inl refl)),
-                                                                                                                                      )),
-                                                                                                                                      (
-                                                                                                                                        (λ e. (
-                                                                                                                                          record {
-                                                                                                                                            mask = _;
-                                                                                                                                            value = _;
-                                                                                                                                            form = _;
-                                                                                                                                            fits = eqb-true _ _ e;
-                                                                                                                                            only = refl;
-                                                                                                                                            kept = refl;
-                                                                                                                                            opcode = refl;
-                                                                                                                                            low = refl;
-                                                                                                                                            atomic = λ registers pc x. tt;
-                                                                                                                                          },
-                                                                                                                                          inr (inr (inr refl)),
-                                                                                                                                        )),
-                                                                                                                                        (
-                                                                                                                                          (λ e. (
-                                                                                                                                            record {
-                                                                                                                                              mask = _;
-                                                                                                                                              value = _;
-                                                                                                                                              form = _;
-                                                                                                                                              fits = eqb-true _ _ e;
-                                                                                                                                              only = refl;
-                                                                                                                                              kept = refl;
-                                                                                                                                              opcode = refl;
-                                                                                                                                              low = refl;
-                                                                                                                                              atomic = λ registers pc x. tt;
-                                                                                                                                            },
-                                                                                                                                            inr (inr (inl refl)),
-                                                                                                                                          )),
-                                                                                                                                          (
-                                                                                                                                            (λ e. (
-                                                                                                                                              record {
-                                                                                                                                                mask = _;
-                                                                                                                                                value = _;
-                                                                                                                                                form = _;
-                                                                                                                                                fits = eqb-true _ _ e;
-                                                                                                                                                only = refl;
-                                                                                                                                                kept = refl;
-                                                                                                                                                opcode = refl;
-                                                                                                                                                low = refl;
-                                                                                                                                                atomic = λ registers pc x. tt;
-                                                                                                                                              },
-                                                                                                                                              inr (inr (inr refl)),
-                                                                                                                                            )),
-                                                                                                                                            (
-                                                                                                                                              (λ e. (
-                                                                                                                                                record {
-                                                                                                                                                  mask = _;
-                                                                                                                                                  value = _;
-                                                                                                                                                  form = _;
-                                                                                                                                                  fits = eqb-true _ _ e;
-                                                                                                                                                  only = refl;
-                                                                                                                                                  kept = refl;
-                                                                                                                                                  opcode = refl;
-                                                                                                                                                  low = refl;
-                                                                                                                                                  atomic = λ registers pc x. tt;
-                                                                                                                                                },
-                                                                                                                                                inr (inr (inl refl)),
-                                                                                                                                              )),
-                                                                                                                                              (
-                                                                                                                                                (λ e. (
-                                                                                                                                                  record {
-                                                                                                                                                    mask = _;
-                                                                                                                                                    value = _;
-                                                                                                                                                    form = _;
-                                                                                                                                                    fits = eqb-true _ _ e;
-                                                                                                                                                    only = refl;
-                                                                                                                                                    kept = refl;
-                                                                                                                                                    opcode = refl;
-                                                                                                                                                    low = refl;
-                                                                                                                                                    atomic = λ registers pc x. tt;
-                                                                                                                                                  },
-                                                                                                                                                  inr (inr (inr refl)),
-                                                                                                                                                )),
-                                                                                                                                                (
-                                                                                                                                                  (λ e. (
-                                                                                                                                                    record {
-                                                                                                                                                      mask = _;
-                                                                                                                                                      value = _;
-                                                                                                                                                      form = _;
-                                                                                                                                                      fits = eqb-true _ _ e;
-                                                                                                                                                      only = refl;
-                                                                                                                                                      kept = refl;
-                                                                                                                                                      opcode = refl;
-                                                                                                                                                      low = refl;
-                                                                                                                                                      atomic = λ registers pc x. tt;
-                                                                                                                                                    },
-                                                                                                                                                    inr (inr (inl refl)),
-                                                                                                                                                  )),
-                                                                                                                                                  (
-                                                                                                                                                    (λ e. (
-                                                                                                                                                      record {
-                                                                                                                                                        mask = _;
-                                                                                                                                                        value = _;
-                                                                                                                                                        form = _;
-                                                                                                                                                        fits = eqb-true _ _ e;
-                                                                                                                                                        only = refl;
-                                                                                                                                                        kept = refl;
-                                                                                                                                                        opcode = refl;
-                                                                                                                                                        low = refl;
-                                                                                                                                                        atomic = λ registers pc x. tt;
-                                                                                                                                                      },
-                                                                                                                                                      inr (inr (inr refl)),
-                                                                                                                                                    )),
-                                                                                                                                                    (
-                                                                                                                                                      (λ e. (
-                                                                                                                                                        record {
-                                                                                                                                                          mask = _;
-                                                                                                                                                          value = _;
-                                                                                                                                                          form = _;
-                                                                                                                                                          fits = eqb-true _ _ e;
-                                                                                                                                                          only = refl;
-                                                                                                                                                          kept = refl;
-                                                                                                                                                          opcode = refl;
-                                                                                                                                                          low = refl;
-                                                                                                                                                          atomic = λ registers pc x. tt;
-                                                                                                                                                        },
-                                                                                                                                                        inr (inr (inl refl)),
-                                                                                                                                                      )),
-                                                                                                                                                      (
-                                                                                                                                                        (λ e. (
-                                                                                                                                                          record {
-                                                                                                                                                            mask = _;
-                                                                                                                                                            value = _;
-                                                                                                                                                            form = _;
-                                                                                                                                                            fits = eqb-true _ _ e;
-                                                                                                                                                            only = refl;
-                                                                                                                                                            kept = refl;
-                                                                                                                                                            opcode = refl;
-                                                                                                                                                            low = refl;
-                                                                                                                                                            atomic = λ registers pc x. tt;
-                                                                                                                                                          },
-                                                                                                                                                          inr (inr (inr refl)),
-                                                                                                                                                        )),
-                                                                                                                                                        (
-                                                                                                                                                          (λ e. (
-                                                                                                                                                            record {
-                                                                                                                                                              mask = _;
-                                                                                                                                                              value = _;
-                                                                                                                                                              form = _;
-                                                                                                                                                              fits = eqb-true _ _ e;
-                                                                                                                                                              only = refl;
-                                                                                                                                                              kept = refl;
-                                                                                                                                                              opcode = refl;
-                                                                                                                                                              low = refl;
-                                                                                                                                                              atomic = λ registers pc x. tt;
-                                                                                                                                                            },
-                                                                                                                                                            inr (inr (inl refl)),
-                                                                                                                                                          )),
-                                                                                                                                                          (
-                                                                                                                                                            (λ e. (
-                                                                                                                                                              record {
-                                                                                                                                                                mask = _;
-                                                                                                                                                                value = _;
-                                                                                                                                                                form = _;
-                                                                                                                                                                fits = eqb-true _ _ e;
-                                                                                                                                                                only = refl;
-                                                                                                                                                                kept = refl;
-                                                                                                                                                                opcode = refl;
-                                                                                                                                                                low = refl;
-                                                                                                                                                                atomic = λ registers pc x. tt;
-                                                                                                                                                              },
-                                                                                                                                                              inr (inr (inr refl)),
-                                                                                                                                                            )),
-                                                                                                                                                            (
-                                                                                                                                                              (λ e. (
-                                                                                                                                                                record {
-                                                                                                                                                                  mask = _;
-                                                                                                                                                                  value = _;
-                                                                                                                                                                  form = _;
-                                                                                                                                                                  fits = eqb-true _ _ e;
-                                                                                                                                                                  only = refl;
-                                                                                                                                                                  kept = refl;
-                                                                                                                                                                  opcode = refl;
-                                                                                                                                                                  low = refl;
-                                                                                                                                                                  atomic = λ registers pc x. tt;
-                                                                                                                                                                },
-                                                                                                                                                                inr (inr (inl refl)),
-                                                                                                                                                              )),
-                                                                                                                                                              (
-                                                                                                                                                                (λ e. (
-                                                                                                                                                                  record {
-                                                                                                                                                                    mask = _;
-                                                                                                                                                                    value = _;
-                                                                                                                                                                    form = _;
-                                                                                                                                                                    fits = eqb-true _ _ e;
-                                                                                                                                                                    only = refl;
-                                                                                                                                                                    kept = refl;
-                                                                                                                                                                    opcode = refl;
-                                                                                                                                                                    low = refl;
-                                                                                                                                                                    atomic = λ registers pc x. tt;
-                                                                                                                                                                  },
-                                                                                                                                                                  inr (inr (inr refl)),
-                                                                                                                                                                )),
-                                                                                                                                                                (
-                                                                                                                                                                  (λ e. (
-                                                                                                                                                                    record {
-                                                                                                                                                                      mask = _;
-                                                                                                                                                                      value = _;
-                                                                                                                                                                      form = _;
-                                                                                                                                                                      fits = eqb-true _ _ e;
-                                                                                                                                                                      only = refl;
-                                                                                                                                                                      kept = refl;
-                                                                                                                                                                      opcode = refl;
-                                                                                                                                                                      low = refl;
-                                                                                                                                                                      atomic = λ registers pc x. tt;
-                                                                                                                                                                    },
-                                                                                                                                                                    inr (inr (inl refl)),
-                                                                                                                                                                  )),
-                                                                                                                                                                  (
-                                                                                                                                                                    (λ e. (
-                                                                                                                                                                      record {
-                                                                                                                                                                        mask = _;
-                                                                                                                                                                        value = _;
-                                                                                                                                                                        form = _;
-                                                                                                                                                                        fits = eqb-true _ _ e;
-                                                                                                                                                                        only = refl;
-                                                                                                                                                                        kept = refl;
-                                                                                                                                                                        opcode = refl;
-                                                                                                                                                                        low = refl;
-                                                                                                                                                                        atomic = λ registers pc x. tt;
-                                                                                                                                                                      },
-                                                                                                                                                                      inr (inr (inr refl)),
-                                                                                                                                                                    )),
-                                                                                                                                                                    (
-                                                                                                                                                                      (λ e. (
-                                                                                                                                                                        record {
-                                                                                                                                                                          mask = _;
-                                                                                                                                                                          value = _;
-                                                                                                                                                                          form = _;
-                                                                                                                                                                          fits = eqb-true _ _ e;
-                                                                                                                                                                          only = refl;
-                                                                                                                                                                          kept = refl;
-                                                                                                                                                                          opcode = refl;
-                                                                                                                                                                          low = refl;
-                                                                                                                                                                          atomic = λ registers pc x. tt;
-                                                                                                                                                                        },
-                                                                                                                                                                        inr (inr (inl refl)),
-                                                                                                                                                                      )),
-                                                                                                                                                                      (
-                                                                                                                                                                        (λ e. (
-                                                                                                                                                                          record {
-                                                                                                                                                                            mask = _;
-                                                                                                                                                                            value = _;
-                                                                                                                                                                            form = _;
-                                                                                                                                                                            fits = eqb-true _ _ e;
-                                                                                                                                                                            only = refl;
-                                                                                                                                                                            kept = refl;
-                                                                                                                                                                            opcode = refl;
-                                                                                                                                                                            low = refl;
-                                                                                                                                                                            atomic = λ registers pc x. tt;
-                                                                                                                                                                          },
-                                                                                                                                                                          inr (inr (inr refl)),
-                                                                                                                                                                        )),
-                                                                                                                                                                        (
-                                                                                                                                                                          (λ e. (
-                                                                                                                                                                            record {
-                                                                                                                                                                              mask = _;
-                                                                                                                                                                              value = _;
-                                                                                                                                                                              form = _;
-                                                                                                                                                                              fits = eqb-true _ _ e;
-                                                                                                                                                                              only = refl;
-                                                                                                                                                                              kept = refl;
-                                                                                                                                                                              opcode = refl;
-                                                                                                                                                                              low = refl;
-                                                                                                                                                                              atomic = λ registers pc x. tt;
-                                                                                                                                                                            },
-                                                                                                                                                                            inr (inr (inl refl)),
-                                                                                                                                                                          )),
-                                                                                                                                                                          (
-                                                                                                                                                                            (λ e. (
-                                                                                                                                                                              record {
-                                                                                                                                                                                mask = _;
-                                                                                                                                                                                value = _;
-                                                                                                                                                                                form = _;
-                                                                                                                                                                                fits = eqb-true _ _ e;
-                                                                                                                                                                                only = refl;
-                                                                                                                                                                                kept = refl;
-                                                                                                                                                                                opcode = refl;
-                                                                                                                                                                                low = refl;
-                                                                                                                                                                                atomic = λ registers pc x. tt;
-                                                                                                                                                                              },
-                                                                                                                                                                              inr (inr (inr refl)),
-                                                                                                                                                                            )),
-                                                                                                                                                                            (
-                                                                                                                                                                              (λ e. tt),
-                                                                                                                                                                              (
-                                                                                                                                                                                (λ e. tt),
-                                                                                                                                                                                (
-                                                                                                                                                                                  (λ e. tt),
-                                                                                                                                                                                  (
-                                                                                                                                                                                    (λ e. tt),
-                                                                                                                                                                                    (
-                                                                                                                                                                                      (λ e. tt),
-                                                                                                                                                                                      (
-                                                                                                                                                                                        (λ e. tt),
-                                                                                                                                                                                        (
-                                                                                                                                                                                          (λ e. tt),
-                                                                                                                                                                                          (
-                                                                                                                                                                                            (λ e. tt),
-                                                                                                                                                                                            (
-                                                                                                                                                                                              (λ e. tt),
-                                                                                                                                                                                              (
-                                                                                                                                                                                                (λ e. tt),
-                                                                                                                                                                                                (
-                                                                                                                                                                                                  (λ e. tt),
-                                                                                                                                                                                                  (
-                                                                                                                                                                                                    (λ e. tt),
-                                                                                                                                                                                                    (
-                                                                                                                                                                                                      (λ e. tt),
-                                                                                                                                                                                                      (
-                                                                                                                                                                                                        (λ e. tt),
-                                                                                                                                                                                                        (
-                                                                                                                                                                                                          (λ e. tt),
-                                                                                                                                                                                                          (
-                                                                                                                                                                                                            (λ e. tt),
-                                                                                                                                                                                                            (
-                                                                                                                                                                                                              (λ e. tt),
-                                                                                                                                                                                                              (
-                                                                                                                                                                                                                (λ e. tt),
-                                                                                                                                                                                                                (
-                                                                                                                                                                                                                  (λ e. tt),
-                                                                                                                                                                                                                  (
-                                                                                                                                                                                                                    (λ e. tt),
-                                                                                                                                                                                                                    (
-                                                                                                                                                                                                                      (λ e. tt),
-                                                                                                                                                                                                                      (
-                                                                                                                                                                                                                        (λ e. tt),
-                                                                                                                                                                                                                        (
-                                                                                                                                                                                                                          (λ e. tt),
-                                                                                                                                                                                                                          (
-                                                                                                                                                                                                                            (λ e. tt),
-                                                                                                                                                                                                                            (
-                                                                                                                                                                                                                              (λ e. tt),
-                                                                                                                                                                                                                              ((λ e. tt), tt),
-                                                                                                                                                                                                                            ),
-                                                                                                                                                                                                                          ),
-                                                                                                                                                                                                                        ),
-                                                                                                                                                                                                                      ),
-                                                                                                                                                                                                                    ),
-                                                                                                                                                                                                                  ),
-                                                                                                                                                                                                                ),
-                                                                                                                                                                                                              ),
-                                                                                                                                                                                                            ),
-                                                                                                                                                                                                          ),
-                                                                                                                                                                                                        ),
-                                                                                                                                                                                                      ),
-                                                                                                                                                                                                    ),
-                                                                                                                                                                                                  ),
-                                                                                                                                                                                                ),
-                                                                                                                                                                                              ),
-                                                                                                                                                                                            ),
-                                                                                                                                                                                          ),
-                                                                                                                                                                                        ),
-                                                                                                                                                                                      ),
-                                                                                                                                                                                    ),
-                                                                                                                                                                                  ),
-                                                                                                                                                                                ),
-                                                                                                                                                                              ),
-                                                                                                                                                                            ),
-                                                                                                                                                                          ),
-                                                                                                                                                                        ),
-                                                                                                                                                                      ),
-                                                                                                                                                                    ),
-                                                                                                                                                                  ),
-                                                                                                                                                                ),
-                                                                                                                                                              ),
-                                                                                                                                                            ),
-                                                                                                                                                          ),
-                                                                                                                                                        ),
-                                                                                                                                                      ),
-                                                                                                                                                    ),
-                                                                                                                                                  ),
-                                                                                                                                                ),
-                                                                                                                                              ),
-                                                                                                                                            ),
-                                                                                                                                          ),
-                                                                                                                                        ),
-                                                                                                                                      ),
-                                                                                                                                    ),
-                                                                                                                                  ),
-                                                                                                                                ),
-                                                                                                                              ),
-                                                                                                                            ),
-                                                                                                                          ),
-                                                                                                                        ),
-                                                                                                                      ),
-                                                                                                                    ),
-                                                                                                                  ),
-                                                                                                                ),
-                                                                                                              ),
-                                                                                                            ),
-                                                                                                          ),
-                                                                                                        ),
-                                                                                                      ),
-                                                                                                    ),
-                                                                                                  ),
-                                                                                                ),
-                                                                                              ),
-                                                                                            ),
-                                                                                          ),
-                                                                                        ),
-                                                                                      ),
-                                                                                    ),
-                                                                                  ),
-                                                                                ),
+                                                                                rows_tell_from_40 w,
                                                                               ),
                                                                             ),
                                                                           ),

@@ -12,7 +12,7 @@ use Rattle.spec_reference.specs.Origins.{AllAbove, Ascends}
 use Rattle.spec_reference.specs.States.{pages_in_rule}
 use Rattle.spec_reference.specs.declared.saved_machine.harts.SavedHart.{SavedHart}
 use Rattle.spec_reference.specs.declared.saved_machine.whole.SavedLoad.{SavedLoad}
-use Rattle.snapshot_format.specs.DeviceForms.{devices}
+use Rattle.snapshot_format.specs.DeviceForms.{devices, kind_of}
 use Rattle.snapshot_format.specs.PageForms.{load_under_way}
 use Rattle.snapshot_format.specs.Snapshots.{Contents, snapshot}
 use Rattle.snapshot_format.proofs.FormLaws.{first_true, second_true}
@@ -79,7 +79,7 @@ pub record Known (rules : Rules) (s : Contents) : Type 0 where
   pub sits : (tables : ℕ) → tables + page_size * rules.ram_pages < 2 ^ 63 → CanAllSit tables (record { entries = rules.entries; bound = rules.bound }) s.harts
   pub ascends : AscendsFrom 0 s.modules
   pub load : IfSome s.loading (IsWithin rules)
-  pub devices : devices.has (s.console, (s.port, s.disk)) ≡ true
+  pub devices : (devices (kind_of s.port)).has (s.console, (s.port, s.disk)) ≡ true
   pub notes : length s.notes ≤ max_notes
   pub harts : length s.harts ≤ max_harts
 

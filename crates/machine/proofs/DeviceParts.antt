@@ -6,16 +6,17 @@ use Rattle.std.proofs.lemmas.List.{append-nil, drop_more, drop_all}
 use Rattle.sv_types.specs.Console.{after_key, has_room, max_queued}
 use Rattle.sv_types.specs.declared.block.BlockState.{BlockState}
 use Rattle.sv_types.specs.declared.port.PortState.{PortState}
-use Rattle.sv_types.specs.declared.virtio.VirtioState.{VirtioState}
 use Rattle.spec_reference.specs.BlockDisk.{is_busy, sector_size}
 use Rattle.spec_reference.specs.States.{Devices}
 use Rattle.spec_reference.specs.declared.saved_machine.harts.SavedHart.{SavedHart}
-use Rattle.snapshot_format.specs.DeviceForms.{block_in, console, devices, disk, holds_transfer, port}
+use Rattle.snapshot_format.specs.DeviceForms.{block, console, devices, disk, holds_disk, kind_of, port}
 use Rattle.snapshot_format.specs.Forms.{is_word}
 use Rattle.snapshot_format.proofs.FormLaws.{first_true, second_true}
 use Rattle.hw_devices.specs.BlockRegisters.{IsSound}
 use Rattle.snapshot_format.specs.ResumedStates.{timers_of}
 use Rattle.laws_resume.proofs.FormParts.{max_is, block_goes}
+use Rattle.hw_devices.specs.Ports.{IsSoundPort}
+use Rattle.machine.proofs.PortForms.{virtio_sound}
 use Rattle.machine.specs.Timing.{timer_in}
 
 -- ---- timers
@@ -63,18 +64,18 @@ keys_end queue bytes all i past before = sym (append-nil queue) ∙ ap (λ (rest
 
 pub record HaveForms (input : List ℕ) (p : PortState) (bytes : List ℕ) : Type 0 where
   pub few : length input ≤ max_queued
-  pub of_port : port.has p ≡ true
-  pub of_disk : (disk (block_in p)).has bytes ≡ true
+  pub of_port : (port (kind_of p)).has p ≡ true
+  pub of_disk : (disk p).has bytes ≡ true
 
-pub have_forms : (input : List ℕ) (p : PortState) (bytes : List ℕ) → devices.has (input, (p, bytes)) ≡ true → HaveForms input p bytes
+pub have_forms : (input : List ℕ) (p : PortState) (bytes : List ℕ) → (devices (kind_of p)).has (input, (p, bytes)) ≡ true → HaveForms input p bytes
 unfolding devices console
 have_forms input p bytes h =
     let waits = first_true (console.has input) _ h in
     let rest = second_true (console.has input) _ h in
     record {
       few = max_is (length input) max_queued (second_true (is_word (length input)) _ (first_true (is_word (length input) && nat_le (length input) max_queued) _ waits));
-      of_port = first_true (port.has p) _ rest;
-      of_disk = second_true (port.has p) _ rest;
+      of_port = first_true ((port (kind_of p)).has p) _ rest;
+      of_disk = second_true ((port (kind_of p)).has p) _ rest;
     }
 
 -- ---- the block device
@@ -83,23 +84,25 @@ not_idle : (busy fits : Bool) → (not busy || fits) ≡ true → busy ≡ true 
 not_idle true fits e busy = e
 not_idle false fits e busy = absurd cc
 
-disk_holds : (b : BlockState) (bytes : List ℕ) → (disk b).has bytes ≡ true → is_busy b ≡ true → sector_size * (b.sector + b.count) ≤ length bytes
+disk_holds : (b : BlockState) (bytes : List ℕ) → (disk (PortState.Block b)).has bytes ≡ true → is_busy b ≡ true → sector_size * (b.sector + b.count) ≤ length bytes
 unfolding disk
 disk_holds b bytes h busy =
-    let range = second_true (is_word (length bytes)) (holds_transfer b (length bytes)) (first_true (is_word (length bytes) && holds_transfer b (length bytes)) _ h) in
+    let range = second_true (is_word (length bytes)) (holds_disk (PortState.Block b) (length bytes))
+    (first_true (is_word (length bytes) && holds_disk (PortState.Block b) (length bytes)) _ h) in
     let fits = not_idle (is_busy b) (nat_le (b.sector + b.count) (length bytes / sector_size)) (second_true _ (not (is_busy b) ||
     nat_le (b.sector + b.count) (length bytes / sector_size)) range) busy in
     let most = max_is (b.sector + b.count) (length bytes / sector_size) fits in omega (arith, most)
 
-pub block_sound : (b : BlockState) (bytes : List ℕ) → port.has (PortState.Block b) ≡ true → (disk b).has bytes ≡ true → IsSound (record { block = b; bytes = bytes })
-unfolding port
+block_sound : (b : BlockState) (bytes : List ℕ) → block.has b ≡ true → (disk (PortState.Block b)).has bytes ≡ true → IsSound (record { block = b; bytes = bytes })
 block_sound b bytes h on_disk = record {
   aligned = λ busy. (block_goes b h busy).aligned;
   left = λ busy. (block_goes b h busy).left;
   inside = λ busy. disk_holds b bytes on_disk busy;
 }
 
--- a snapshot has no other device
-pub no_virtio : (v : VirtioState) → port.has (PortState.Virtio v) ≡ true → ⊥
+-- ---- of either kind
+
+pub port_sound : (p : PortState) (bytes : List ℕ) → (port (kind_of p)).has p ≡ true → (disk p).has bytes ≡ true → IsSoundPort p bytes
 unfolding port
-no_virtio v h = cc
+port_sound (PortState.Block b) bytes h on = block_sound b bytes h on
+port_sound (PortState.Virtio v) bytes h on = virtio_sound v bytes h on

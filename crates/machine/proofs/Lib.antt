@@ -26,6 +26,8 @@ pub mod Accepted
 pub mod Assembled
 pub mod Approved
 pub mod Counted
+pub mod PortForms
 pub mod DeviceParts
 pub mod Regions
 pub mod Seated
+pub mod Loadings

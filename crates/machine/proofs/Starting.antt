@@ -116,3 +116,5 @@ flat_made m rules region guard pages digest made same ram approved =
     ∙ ap (λ (ram : List ℕ). machine_at_boot (flat_rules digest) (with_ram region.tables ram) ram_base guard (block_disk [])) ram
     ∙ ap (λ (guard : List Protection). machine_at_boot (flat_rules digest) (with_ram region.tables (flat_ram pages)) ram_base guard (block_disk [])) approved
     ∙ ap (λ (tables : List ℕ). flat_machine tables pages digest) (sym (ap (λ (m : Machine). m.region.tables) made))
+
+pub ruleset empty_at_first = (empty_usable, length_empty, none_joined)

@@ -1,5 +1,5 @@
 -- Turns of one hart in a row, each of which carries out an instruction: what they make of the machine. This project's own.
-use Rattle.std.specs.Prelude.{◌≡◌, ℕ, zero, suc, ◌+◌, ◌<◌, Bool, true, false, List, length, None}
+use Rattle.std.specs.Prelude.{◌≡◌, ℕ, zero, suc, ◌+◌, ◌<◌, Bool, true, false, not, List, length, None}
 use Rattle.spec_processor.specs.Hardware.{Core}
 use Rattle.spec_processor.specs.HardwareAttempt.{attempt}
 use Rattle.spec_processor.specs.HypervisorRegisters.{pending}
@@ -30,13 +30,13 @@ abbrev pub AreFreeWhere : (known : Bool) → List HwHart → Type 0
 AreFreeWhere true harts = AreFree harts
 AreFreeWhere false harts = Unit {0}
 
--- an event by which no hart gets a reservation
-abbrev pub reserves_nothing : Event → Bool
-reserves_nothing (Turn h) = false
-reserves_nothing Beat = true
-reserves_nothing (Key byte) = true
-reserves_nothing (Tick n) = true
-reserves_nothing (Poke gpa value) = true
+-- an event by which no hart gets a reservation. In a turn a stopped hart gets none
+abbrev pub reserves_nothing : Machine → Event → Bool
+reserves_nothing m (Turn h) = not (hart_in m.harts h).started
+reserves_nothing m Beat = true
+reserves_nothing m (Key byte) = true
+reserves_nothing m (Tick n) = true
+reserves_nothing m (Poke gpa value) = true
 
 -- so many turns counted, each with its instruction
 abbrev pub counted_batch : ℕ → Journal → Journal

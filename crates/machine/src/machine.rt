@@ -14,7 +14,7 @@ ghost use Rattle.spec_hardware.specs.StandsFor.{StandsFor};
 ghost use Rattle.laws_simulation.specs.HwPassing.{hw_passed_over};
 ghost use Rattle.laws_simulation.specs.Passing.{passed_over};
 ghost use Rattle.machine.specs.Limits.{max_counts};
-ghost use Rattle.machine.specs.Repeats.{Made, MadeInBatch, Makes, MayMake, Repeats};
+ghost use Rattle.machine.specs.Repeats.{Made, MadeInBatch, MadeRow, Makes, MayMake, Repeats};
 ghost use Rattle.hw_platform.specs.Batches.{AreFree};
 ghost use Rattle.machine.specs.Batches.{MayBatch, reserves_nothing};
 ghost use Rattle.hw_fast_path.specs.Ends.{turns_of};
@@ -77,6 +77,29 @@ impl Machine {
         self.rounds(event, count)
     }
 
+    /// The same, and no more of it after an event after which a load is under way.
+    #[inline(always)]
+    pub fn repeat_to_load(&mut self, event: Event, count: u64) -> u64
+        requires asked { 0 < count }
+        requires few { count ≤ max_counts }
+        requires room { length self.old.journal.printed < max_printed }
+        requires counts { CountsAtMost (max_counts - count) self.old.journal.counts }
+        ensures { MadeRow result count self.old event self.new }
+    {
+        let before = self.printed().len();
+        let mut made = 0;
+        'events: while made < count {
+            made += self.round(event, count - made);
+            if self.printed().len() != before || self.verdict() != Verdict::Running {
+                return made;
+            }
+            if self.is_loading() {
+                return made;
+            }
+        }
+        made
+    }
+
     // Rounds of one event, up to `count` times.
     #[inline(always)]
     fn rounds(&mut self, event: Event, count: u64) -> u64
@@ -100,21 +123,33 @@ impl Machine {
     #[inline(always)]
     fn round(&mut self, event: Event, most: u64) -> u64
         requires { MayMake self.old most }
-        ensures { Made result most self.old event self.new }
+        ensures { MadeRow result most self.old event self.new }
     {
         if let Event::Turn(hart) = event {
             return self.hart_turns(hart, most);
         }
+        self.once(event, most)
+    }
+
+    // The event once.
+    #[inline(always)]
+    fn once(&mut self, event: Event, most: u64) -> u64
+        requires { MayMake self.old most }
+        ensures { Made result most self.old event self.new }
+    {
         self.make(event);
         1
     }
 
-    // A row of turns of a hart, and the turn that stopped it where some are left.
+    // A row of turns of a hart, and the turn that stopped it where some are left. A stopped hart has its turns one by one.
     #[inline(always)]
     fn hart_turns(&mut self, hart: u8, most: u64) -> u64
         requires { MayMake self.old most }
-        ensures { Made result most self.old (Turn hart) self.new }
+        ensures { MadeRow result most self.old (Turn hart) self.new }
     {
+        if self.system.is_stopped(hart) {
+            return self.once(Event::Turn(hart), most);
+        }
         let batch = self.batch(hart, most);
         let made = batch.turns();
         if made == most || batch.left.is_left() {
@@ -144,7 +179,7 @@ impl Machine {
         ensures may { result ≡ true → MayBatch self.new hart }
         ensures same { self.new ≡ self.old }
     {
-        self.is_unreserved() && self.system.is_quiet_at(hart)
+        self.system.is_quiet_at(hart) && self.is_unreserved()
     }
 
     // No hart has a reservation. That is noted, since only an attempt that isn't made in a row gives one.
@@ -180,7 +215,7 @@ impl Machine {
         ensures makes { Makes self.old event self.new }
         ensures counts { (n : ℕ) → CountsAtMost n self.old.journal.counts → CountsAtMost (n + 1) self.new.journal.counts }
     {
-        self.none_reserved = stays_unreserved(self.none_reserved, event);
+        self.none_reserved = stays_unreserved(self.none_reserved, &self.system, event);
         self.system.step(event);
     }
 
@@ -248,13 +283,10 @@ impl Machine {
 
 // Whether no hart has a reservation after an event, where that was known before it.
 #[inline(always)]
-fn stays_unreserved(known: bool, event: Event) -> bool
-    ensures { result ≡ (known && reserves_nothing event) }
+fn stays_unreserved(known: bool, system: &System, event: Event) -> bool
+    ensures { result ≡ (known && reserves_nothing system.now event) }
 {
-    match event {
-        Event::Turn(_) => false,
-        Event::Beat | Event::Key(_) | Event::Tick(_) | Event::Poke { gpa: _, value: _ } => known,
-    }
+    known && system.reserves_nothing(event)
 }
 
 impl Drop for Machine {

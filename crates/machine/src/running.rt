@@ -1,9 +1,10 @@
 // A machine's run, with its console.
-ghost use Rattle.std.specs.Prelude.{◌≡◌, ◌<◌, ◌≤◌, length, IsTrue, IsFalse, OnOk, OnErr};
+ghost use Rattle.std.specs.Prelude.{◌≡◌, ◌+◌, ◌<◌, ◌≤◌, ◌^◌, length, true, false, IsTrue, IsFalse, OnOk, OnErr};
 ghost use Rattle.sv_types.specs.Limits.{max_printed};
 ghost use Rattle.sv_types.specs.Schedule.{first_events};
 ghost use Rattle.spec_hardware.specs.Reaches.{Cleared};
 ghost use Rattle.host_io.specs.Outside.{BreaksOff, MayWrite};
+ghost use Rattle.machine.specs.Drawing.{count_left, events_with, is_used_up};
 ghost use Rattle.machine.specs.Console.{flush_is_due, Flushed, HasRunAll, MayRun, RunBrokeFromStart};
 
 use crate::drawing::Drawing;
@@ -44,12 +45,12 @@ pub fn flush_due<O: Sink>(machine: &mut Machine, out: &mut O) -> Result<(), Fail
     Ok(())
 }
 
-// The sink is told how far a run has come after about so many events.
-const NOTED_EVERY: u64 = 1 << 20;
+// So many events are made before the sink is told how far a run has come.
+const TOLD_EVERY: u64 = 1 << 20;
 
 // The sink is told.
 #[inline(never)]
-fn note<O: Sink>(machine: &Machine, out: &mut O)
+fn tell<O: Sink>(machine: &Machine, out: &mut O)
     ensures { O.state out.new ≡ O.state out.old }
 {
     let counts = machine.counts();
@@ -60,41 +61,74 @@ fn note<O: Sink>(machine: &Machine, out: &mut O)
     out.note_progress(counts.turns.saturating_add(others), counts.turns);
 }
 
-// Writes the console's bytes where they are due, and tells the sink now and then how far the run has come: after `made` events
-// more, where it was told `since` events before them.
-#[inline(always)]
-fn flush_and_note<O: Sink>(
-    machine: &mut Machine,
-    out: &mut O,
-    made: u64,
-    since: &mut u64,
-) -> Result<(), Failed>
-    requires sink { MayWrite (O.state out.old) }
-    requires room { length machine.old.journal.printed ≤ max_printed }
-    ensures flushed { OnOk result (Flushed machine.old machine.new (O.state out.old) (O.state out.new)) }
-    ensures cleared { Cleared machine.old machine.new }
-    ensures room { OnOk result (length machine.new.journal.printed < max_printed) }
-    ensures rest { OnOk result (IsFalse (flush_is_due machine.new.journal.printed)) }
-    ensures machine { OnErr result (machine.new ≡ machine.old) }
-    ensures due { OnErr result (IsTrue (flush_is_due machine.old.journal.printed)) }
-    ensures failed { OnErr result (BreaksOff (O.state out.old) (O.state out.new) machine.old.journal.printed) }
-{
-    flush_due(machine, out)?;
-    *since = since.saturating_add(made);
-    if *since >= NOTED_EVERY {
-        *since = 0;
-        note(machine, out);
-    }
-    Ok(())
+// The events that are left of a run: those that are made before the sink is told the next time, and those after them.
+#[derive(Clone, Copy, Drop)]
+struct Left {
+    now: u64,
+    later: u64,
 }
 
-// As many of equal events as are made at once, so that the sink is told in between.
+impl Left {
+    // So many.
+    #[inline(always)]
+    fn of(events: u64) -> Left
+        ensures all { result.now + result.later ≡ events }
+        ensures some { 0 < events → 0 < result.now }
+        ensures none { result.now ≡ 0 → result.later ≡ 0 }
+    {
+        let now = events.min(TOLD_EVERY);
+        Left {
+            now,
+            later: events - now,
+        }
+    }
+
+    // Whether some are left. The sink is told where its time has come.
+    #[inline(always)]
+    fn goes_on<O: Sink>(&mut self, machine: &Machine, out: &mut O) -> bool
+        requires { self.old.now + self.old.later < 2 ^ 64 }
+        ensures all { self.new.now + self.new.later ≡ self.old.now + self.old.later }
+        ensures some { result ≡ true → 0 < self.new.now }
+        ensures none { result ≡ false → self.new.now + self.new.later ≡ 0 }
+        ensures sink { O.state out.new ≡ O.state out.old }
+    {
+        if self.now > 0 {
+            return true;
+        }
+        if self.later == 0 {
+            return false;
+        }
+        tell(machine, out);
+        *self = Left::of(self.later);
+        true
+    }
+}
+
+// Goes on to the events after those that were to be drawn first, once these are made; then the sink is told. Answers how many
+// are left after those that are to be drawn now.
 #[inline(always)]
-fn at_once(count: u64) -> u64
-    ensures some { 0 < count → 0 < result }
-    ensures most { result ≤ count }
+fn draw_on<S: EventSource, O: Sink>(
+    machine: &Machine,
+    drawing: &mut Drawing<S>,
+    later: u64,
+    out: &mut O,
+) -> u64
+    requires { count_left drawing.old + later < 2 ^ 64 }
+    ensures left { events_with result S.schedule drawing.new ≡ events_with later S.schedule drawing.old }
+    ensures count { count_left drawing.new + result ≡ count_left drawing.old + later }
+    ensures some { is_used_up drawing.new ≡ true → result ≡ 0 }
+    ensures sink { O.state out.new ≡ O.state out.old }
 {
-    count.min(NOTED_EVERY)
+    if !drawing.is_used_up() {
+        return later;
+    }
+    if later == 0 {
+        return 0;
+    }
+    tell(machine, out);
+    let left = Left::of(later);
+    drawing.ask(left.now);
+    left.later
 }
 
 // Runs a machine over the first events of a source, of which equal ones come in rows.
@@ -109,15 +143,17 @@ fn run_in_batches<S: EventSource + Drop, O: Sink>(
     ensures all { OnOk result (HasRunAll machine.old (first_events events (S.schedule source)) machine.new (O.state out.old) (O.state out.new)) }
     ensures some { OnErr result (RunBrokeFromStart machine.old (first_events events (S.schedule source)) machine.new (O.state out.old) (O.state out.new)) }
 {
-    let mut drawing = Drawing::new(source, events);
-    let mut since = 0;
+    let left = Left::of(events);
+    let mut drawing = Drawing::new(source, left.now);
+    let mut later = left.later;
     'events: while let Some(batch) = drawing.draw() {
         if machine.verdict() != Verdict::Running {
             return Ok(());
         }
-        let made = machine.repeat(batch.event, at_once(batch.count));
+        let made = machine.repeat(batch.event, batch.count);
         drawing.count_down(made);
-        flush_and_note(machine, out, made, &mut since)?;
+        flush_due(machine, out)?;
+        later = draw_on(machine, &mut drawing, later, out);
     }
     Ok(())
 }
@@ -135,9 +171,8 @@ fn run_one_by_one<S: EventSource + Drop, O: Sink>(
     ensures some { OnErr result (RunBrokeFromStart machine.old (first_events events (S.schedule source)) machine.new (O.state out.old) (O.state out.new)) }
 {
     let mut source = source;
-    let mut left = events;
-    let mut since = 0;
-    'events: while left > 0 {
+    let mut left = Left::of(events);
+    'events: while left.goes_on(machine, out) {
         if machine.verdict() != Verdict::Running {
             return Ok(());
         }
@@ -145,8 +180,8 @@ fn run_one_by_one<S: EventSource + Drop, O: Sink>(
             return Ok(());
         };
         machine.repeat(one.event, 1);
-        left -= 1;
-        flush_and_note(machine, out, 1, &mut since)?;
+        left.now -= 1;
+        flush_due(machine, out)?;
     }
     Ok(())
 }

@@ -6,6 +6,7 @@ ghost use Rattle.spec_reference.specs.States.{State};
 ghost use Rattle.spec_hardware.specs.StandsFor.{StandsFor};
 ghost use Rattle.monitor_exits.specs.HwOfSlots.{hw_at, hw_harts_of};
 ghost use Rattle.module_gate.specs.Parts.{loading_of};
+ghost use Rattle.hw_devices.specs.Ports.{IsSoundPort};
 ghost use Rattle.spec_reference.specs.SavedStates.{IsSaved};
 ghost use Rattle.machine.specs.Keeping.{gpa_after, AreKeepable, IsKeepable, kept_hart, kept_harts, kept_load, IsKept};
 
@@ -23,6 +24,7 @@ impl Machine {
     /// The whole machine as plain data. Nothing of it changes. Out of memory is the one refusal.
     pub fn saved(&self, alloc: Global) -> Result<Saved, AllocError>
         ensures state { IfOk result (λ s. (r : State) → StandsFor self.now r → IsSaved r s) }
+        ensures port { IfOk result (λ s. IsSoundPort s.port s.disk.items) }
     {
         saved(&self.system, alloc)
     }
@@ -31,7 +33,8 @@ impl Machine {
 // What the guest's state lies in, as plain data.
 fn saved(system: &System, alloc: Global) -> Result<Saved, AllocError>
     requires { AreKeepable (length system.now.region.tables) system.now.harts }
-    ensures { IfOk result (IsKept system.now) }
+    ensures kept { IfOk result (IsKept system.now) }
+    ensures port { IfOk result (λ s. IsSoundPort s.port s.disk.items) }
 {
     let hardware = &system.hardware;
     let visor = &system.visor;
@@ -65,7 +68,8 @@ fn saved(system: &System, alloc: Global) -> Result<Saved, AllocError>
     })
 }
 
-fn saved_loading(modules: &Modules) -> Option<SavedLoad>
+/// The load under way, as plain data.
+pub(crate) fn saved_loading(modules: &Modules) -> Option<SavedLoad>
     ensures { result ≡ option_map kept_load (loading_of modules.now) }
 {
     let under_way = modules.loading.as_ref()?;

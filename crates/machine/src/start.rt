@@ -42,7 +42,7 @@ use sv_types::{Digest, FLAT_PAGES, FLAT_TRAP_OFFSET, PLAIN_FORMAT, Policy, Span}
 const FLAT_ENTRIES: [u64; 2] = [RAM_BASE, RAM_BASE + FLAT_TRAP_OFFSET];
 
 /// A machine under a policy, with pages that are guarded already and a disk behind its device: hart 0 begins at an entry, the others are stopped.
-#[tactic(auto, using(crate::proofs::Starting::empty_usable, crate::proofs::Starting::length_empty, crate::proofs::Starting::none_joined), unfolding(laws_resume::specs::Starts::machine_at_boot))]
+#[tactic(auto, using(crate::proofs::Starting::empty_at_first), unfolding(laws_resume::specs::Starts::machine_at_boot))]
 pub(crate) fn at_boot(
     alloc: Global,
     policy: Policy,

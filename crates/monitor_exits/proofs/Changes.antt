@@ -60,3 +60,5 @@ all_notified named at (suc n) [] below = refl
 all_notified named at (suc n) (x ∷ slots) below =
     rw (notified_one (named at) x)
     (ap (◌∷◌ (if named at then software_set (hw_at x) else hw_at x)) (all_notified named (at + 1) n slots (omega arith)))
+
+pub ruleset changed_one_by_one = (none_changed, next_changed, length_changed)

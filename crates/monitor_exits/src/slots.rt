@@ -27,7 +27,7 @@ pub struct HartSlot {
 }
 
 /// Clears each reservation of which some bytes are among the `width` bytes from a host place on.
-#[tactic(auto, using(crate::proofs::Changes::none_changed, crate::proofs::Changes::next_changed, crate::proofs::Changes::length_changed, crate::proofs::Changes::all_forgotten))]
+#[tactic(auto, using(crate::proofs::Changes::changed_one_by_one, crate::proofs::Changes::all_forgotten))]
 pub fn forget(slots: &mut [HartSlot], hpa: u64, width: u64)
     ensures hw_all { hw_harts_of slots.new ≡ map (forgets hpa width) (hw_harts_of slots.old) }
     ensures number { length slots.new ≡ length slots.old }
@@ -44,7 +44,7 @@ fn forget_one(slot: &mut HartSlot, hpa: u64, width: u64)
 }
 
 /// Sends a software interrupt to each hart that a mask and a base name.
-#[tactic(auto, using(crate::proofs::Changes::none_changed, crate::proofs::Changes::next_changed, crate::proofs::Changes::length_changed, crate::proofs::Changes::all_notified))]
+#[tactic(auto, using(crate::proofs::Changes::changed_one_by_one, crate::proofs::Changes::all_notified))]
 pub fn interrupt(slots: &mut [HartSlot], mask: u64, base: u64)
     ensures hw_all { hw_harts_of slots.new ≡ interrupted_hw_harts (mask_names mask base) 0 (hw_harts_of slots.old) }
     ensures number { length slots.new ≡ length slots.old }

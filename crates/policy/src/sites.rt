@@ -83,27 +83,33 @@ fn in_order(before: &[Site], site: Site) -> Result<Site, PolicyFault>
     }
 }
 
-// A field of its five values, each of which is judged by itself. They come one by one, as the list's pattern binds them.
+/// The five values of a field, in the order of the text.
+#[derive(Clone, Copy, Drop)]
+struct SiteValues<'a> {
+    offset: &'a Value,
+    kind: &'a Value,
+    base: &'a Value,
+    addend: &'a Value,
+    anchor: &'a Value,
+}
+
+// A field of its five values, each of which is judged by itself.
 #[tactic(auto, unfolding(crate::specs::Text::site_of_five))]
 fn site_of_five(
     bounds: Bounds,
     before: &[Site],
-    offset_value: &Value,
-    kind_value: &Value,
-    base_value: &Value,
-    addend_value: &Value,
-    anchor_value: &Value,
+    values: &SiteValues<'_>,
 ) -> Result<Site, PolicyFault>
     ensures { result
-        ≡ spec.site_of_five bounds.pages bounds.exports before.now (view offset_value.now) (view kind_value.now)
-        (view base_value.now) (view addend_value.now) (view anchor_value.now) }
+        ≡ spec.site_of_five bounds.pages bounds.exports before.now (view values.now.offset.now) (view values.now.kind.now)
+        (view values.now.base.now) (view values.now.addend.now) (view values.now.anchor.now) }
 {
-    let offset = offset(bounds.pages, offset_value)?;
-    let kind = kind(kind_value)?;
+    let offset = offset(bounds.pages, values.offset)?;
+    let kind = kind(values.kind)?;
     let kind = fitting_kind(kind, offset)?;
-    let base = base(bounds.exports, base_value)?;
-    let addend = integer(addend_value)?;
-    let anchor = anchor(bounds.pages, kind, offset, anchor_value)?;
+    let base = base(bounds.exports, values.base)?;
+    let addend = integer(values.addend)?;
+    let anchor = anchor(bounds.pages, kind, offset, values.anchor)?;
     let site = Site {
         offset,
         kind,
@@ -119,7 +125,15 @@ fn site_of_items(bounds: Bounds, before: &[Site], items: &[Value]) -> Result<Sit
 {
     match items {
         [offset, kind, base, addend, anchor] => site_of_five(
-            bounds, before, offset, kind, base, addend, anchor,
+            bounds,
+            before,
+            &SiteValues {
+                offset,
+                kind,
+                base,
+                addend,
+                anchor,
+            },
         ),
         _ => Err(PolicyFault::WrongKind),
     }

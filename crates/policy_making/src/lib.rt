@@ -32,5 +32,5 @@ pub use module_names::are_module_names;
 pub use modules::made_modules;
 pub use names::want_names;
 pub use object_file::ObjectFile;
-pub use policy::{Settings, policy_after};
+pub use policy::{MeasuredKernel, Settings, policy_after};
 pub use refusal::{MakingFault, MakingRefusal};

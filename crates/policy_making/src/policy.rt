@@ -16,6 +16,13 @@ use std::alloc::Global;
 use std::thread::Threads;
 use sv_types::{Digest, ModulePolicy, Name, PLAIN_FORMAT, Policy, Span};
 
+/// A kernel's file, with the digest of its text.
+#[derive(Drop)]
+pub struct MeasuredKernel {
+    pub file: Vec<u8>,
+    pub digest: Digest,
+}
+
 /// What a policy says besides its files.
 #[derive(Drop)]
 pub struct Settings {
@@ -52,24 +59,24 @@ fn if_few_sites(policy: Policy) -> Result<Policy, MakingRefusal>
 
 /// The policy of a kernel whose digest is known, and of modules, of which these names are wanted. Refuses the exports, the
 /// objects and more than 131,072 sites of all modules, and when out of memory. Where the settings are in their ranges and
-/// the objects have names of modules, the policy is within its limits. Each parameter comes of a word or a file of its own.
+/// the objects have names of modules, the policy is within its limits.
 #[tactic(auto, unfolding(crate::specs::Making::policy_after), using(crate::proofs::Refused::refused_on))]
 pub fn policy_after<R: Threads + Sync>(
     rt: &R,
     alloc: Global,
     settings: Settings,
-    kernel: &[u8],
-    digest: Digest,
+    kernel: &MeasuredKernel,
     names: &[Name],
     objects: &[ObjectFile],
 ) -> Result<Policy, MakingRefusal>
-    ensures policy { IfOk result (λ policy. spec.policy_after (spec.terms_of settings) kernel.now digest names.now (map spec.file_of objects.now) ≡
-        Ok (rules_of policy)) }
+    ensures policy { IfOk result (λ policy.
+        spec.policy_after (spec.terms_of settings) kernel.now.file.items kernel.now.digest names.now (map spec.file_of objects.now) ≡ Ok (rules_of policy)) }
     ensures within { terms_within (spec.terms_of settings) ≡ true → are_module_names (spec.file_names (map spec.file_of objects.now)) ≡ true →
         IfOk result (λ policy. rules_within (rules_of policy) ≡ true) }
-    ensures refused { IfErr result (Refuses (spec.policy_after (spec.terms_of settings) kernel.now digest names.now (map spec.file_of objects.now))) }
+    ensures refused { IfErr result
+        (Refuses (spec.policy_after (spec.terms_of settings) kernel.now.file.items kernel.now.digest names.now (map spec.file_of objects.now))) }
 {
-    let exports = wanted_exports(alloc, kernel, names)?;
+    let exports = wanted_exports(alloc, &kernel.file, names)?;
     let modules = made_modules(rt, alloc, &exports, objects)?;
     let Settings {
         harts,
@@ -84,7 +91,7 @@ pub fn policy_after<R: Threads + Sync>(
         entries,
         bound: Vec::new(alloc),
         exports,
-        kernel: digest,
+        kernel: kernel.digest,
         init,
         modules,
     })

@@ -168,7 +168,7 @@ fn amo_funct7(funct5: u32, aq: bool, rl: bool) -> u32
     4 * funct5 + 2 * u32::from(aq) + u32::from(rl)
 }
 
-#[tactic(auto, unfolding(spec_processor::specs::Encoding::fits, spec_processor::specs::Encoding::word_of, spec_processor::specs::Encoding::is_hyper_load, spec_processor::specs::Encoding::hyper_number))]
+#[tactic(auto, unfolding(crate::proofs::HypervisorForms::hypervisor_words))]
 fn hyper_word(op: HyperOp, rd: u8, rs1: u8, rs2: u8) -> u32
     requires { IsTrue (table.fits (Instr.Hyper op rd rs1 rs2)) }
     ensures { result ≡ table.word_of (Instr.Hyper op rd rs1 rs2) }

@@ -45,3 +45,11 @@ reduced_by stops items rest from to order is stopped = record {
 
 pub reduced_more : {A : Type 0} (stops : List A → Bool) (old mid new : List A) → IsReduced stops old mid → IsReduced stops mid new → IsReduced stops old new
 reduced_more stops old mid new a b = record { stops_so = b.stops_so; among = fewer_of_fewer new mid old b.among a.among }
+
+-- the same where the test is asked again
+pub reduced_next : {A : Type 0} (stops now : List A → Bool) (old mid new : List A) → now ≡ stops → IsReduced stops old mid → IsReduced now mid new → IsReduced stops old new
+reduced_next stops now old mid new same a b = reduced_more stops old mid new a (subst (λ (f : List _ → Bool). IsReduced f mid new) same b)
+
+-- it still stops so
+pub still_stops : {A : Type 0} (stops now : List A → Bool) (old new : List A) → now ≡ stops → IsReduced stops old new → now new ≡ true
+still_stops stops now old new same a = subst (λ (f : List _ → Bool). f new ≡ true) (sym same) a.stops_so

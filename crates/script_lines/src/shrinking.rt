@@ -26,18 +26,17 @@ fn is_smaller(lines: &[EventRun], other: &[EventRun]) -> bool {
 // Whether a run stops so under these lines, where one is left.
 fn try_lines<R: Threads + Sync, S: Stops<EventRun>>(
     rt: &R,
-    test: &S,
+    test: &mut S,
     lines: &[EventRun],
-    runs: &mut u64,
 ) -> Result<bool, AllocError>
-    ensures stops { IfOk result (λ answer. answer ≡ true → S.stops test.now lines.now ≡ true) }
-    ensures runs { runs.new ≤ runs.old }
-    ensures used { IfOk result (λ answer. answer ≡ true → runs.new < runs.old) }
+    ensures stops { IfOk result (λ answer. answer ≡ true → S.stops test.old lines.now ≡ true) }
+    ensures same { S.stops test.new ≡ S.stops test.old }
+    ensures runs { S.left test.new ≤ S.left test.old }
+    ensures used { IfOk result (λ answer. answer ≡ true → S.left test.new < S.left test.old) }
 {
-    if *runs == 0 {
+    if test.runs_left() == 0 {
         return Ok(false);
     }
-    *runs -= 1;
     test.stops_so(rt, lines)
 }
 
@@ -45,17 +44,17 @@ fn try_lines<R: Threads + Sync, S: Stops<EventRun>>(
 fn spare_kind<R: Threads + Sync, S: Stops<EventRun>>(
     rt: &R,
     alloc: Global,
-    test: &S,
+    test: &mut S,
     lines: &mut Vec<EventRun>,
     kind: Kind,
-    runs: &mut u64,
 ) -> Result<(), AllocError>
-    requires stops { S.stops test.now lines.old.items ≡ true }
-    ensures stops { S.stops test.now lines.new.items ≡ true }
-    ensures runs { runs.new ≤ runs.old }
+    requires stops { S.stops test.old lines.old.items ≡ true }
+    ensures stops { S.stops test.old lines.new.items ≡ true }
+    ensures same { S.stops test.new ≡ S.stops test.old }
+    ensures runs { S.left test.new ≤ S.left test.old }
 {
     let others = lines_without(alloc, lines, kind)?;
-    if try_lines(rt, test, &others, runs)? {
+    if try_lines(rt, test, &others)? {
         *lines = others;
     }
     Ok(())
@@ -66,52 +65,52 @@ fn spare_kind<R: Threads + Sync, S: Stops<EventRun>>(
 fn spare_halves<R: Threads + Sync, S: Stops<EventRun>>(
     rt: &R,
     alloc: Global,
-    test: &S,
+    test: &mut S,
     lines: &mut Vec<EventRun>,
-    runs: &mut u64,
 ) -> Result<bool, AllocError>
-    requires stops { S.stops test.now lines.old.items ≡ true }
-    ensures stops { S.stops test.now lines.new.items ≡ true }
+    requires stops { S.stops test.old lines.old.items ≡ true }
+    ensures stops { S.stops test.old lines.new.items ≡ true }
     ensures same { IfOk result (λ spared. spared ≡ false → lines.new.items ≡ lines.old.items) }
-    ensures runs { runs.new ≤ runs.old }
-    ensures used { IfOk result (λ spared. spared ≡ true → runs.new < runs.old) }
+    ensures test { S.stops test.new ≡ S.stops test.old }
+    ensures runs { S.left test.new ≤ S.left test.old }
+    ensures used { IfOk result (λ spared. spared ≡ true → S.left test.new < S.left test.old) }
 {
     let mut halves = halved(alloc, lines)?;
-    if !try_lines(rt, test, &halves, runs)? {
+    if !try_lines(rt, test, &halves)? {
         return Ok(false);
     }
-    minimize(rt, alloc, test, &mut halves, runs)?;
+    minimize(rt, alloc, test, &mut halves)?;
     let joined = joined(alloc, &halves)?;
-    if !is_smaller(&joined, lines) || !try_lines(rt, test, &joined, runs)? {
+    if !is_smaller(&joined, lines) || !try_lines(rt, test, &joined)? {
         return Ok(false);
     }
     *lines = joined;
     Ok(true)
 }
 
-/// Takes all ticks away, all beats, lines, and halves of their counts, while a run stops so under those that are left, by at most so many
-/// runs. True where the runs sufficed: then it stops so no more without any one of the lines. False where they are used up. Out of
+/// Takes all ticks away, all beats, lines, and halves of their counts, while a run stops so under those that are left, by the runs
+/// that the test has left. True where the runs sufficed: then it stops so no more without any one of the lines. False where they are used up. Out of
 /// memory it keeps what was reached.
 pub fn shrink_lines<R: Threads + Sync, S: Stops<EventRun>>(
     rt: &R,
     alloc: Global,
-    test: &S,
+    test: &mut S,
     lines: &mut Vec<EventRun>,
-    runs: &mut u64,
 ) -> Result<bool, AllocError>
-    requires stops { S.stops test.now lines.old.items ≡ true }
-    ensures stops { S.stops test.now lines.new.items ≡ true }
-    ensures minimal { IfOk result (λ minimal. minimal ≡ true → IsOneMinimal (S.stops test.now) lines.new.items) }
-    ensures spent { IfOk result (λ minimal. minimal ≡ false → runs.new ≡ 0) }
-    ensures runs { runs.new ≤ runs.old }
+    requires stops { S.stops test.old lines.old.items ≡ true }
+    ensures stops { S.stops test.old lines.new.items ≡ true }
+    ensures minimal { IfOk result (λ minimal. minimal ≡ true → IsOneMinimal (S.stops test.old) lines.new.items) }
+    ensures spent { IfOk result (λ minimal. minimal ≡ false → S.left test.new ≡ 0) }
+    ensures same { S.stops test.new ≡ S.stops test.old }
+    ensures runs { S.left test.new ≤ S.left test.old }
 {
-    spare_kind(rt, alloc, test, lines, Kind::Ticks, runs)?;
-    spare_kind(rt, alloc, test, lines, Kind::Beats, runs)?;
-    'rounds: while *runs > 0 {
-        if !minimize(rt, alloc, test, lines, runs)? {
+    spare_kind(rt, alloc, test, lines, Kind::Ticks)?;
+    spare_kind(rt, alloc, test, lines, Kind::Beats)?;
+    'rounds: while test.runs_left() > 0 {
+        if !minimize(rt, alloc, test, lines)? {
             return Ok(false);
         }
-        if !spare_halves(rt, alloc, test, lines, runs)? {
+        if !spare_halves(rt, alloc, test, lines)? {
             return Ok(true);
         }
     }

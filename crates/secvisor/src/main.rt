@@ -9,7 +9,7 @@ use again::PlainFiles;
 use cli_diagnostics::{
     Ending, MostBytes, WordRemark, help, remark, script_remark, stop_remark, word_remark,
 };
-use cli_dispatch::answer;
+use cli_dispatch::{Host, answer};
 use host_io::os_files::{Escaped, RealFiles, StdSink};
 use live_keys::ReaderKeys;
 use secvisor_cli::{
@@ -48,16 +48,12 @@ fn main(rt: HostRuntime) -> ExitCode {
     let mut keys = ReaderKeys::new(rt.reader());
     let mut out = StdSink::new(printing, is_watched);
     let mut bench = Bench { machine: None };
-    let status = answer(
-        &rt,
-        rt.alloc(),
-        &words,
-        &mut files,
-        &mut keys,
-        &mut out,
-        &watching,
-        &mut bench,
-    );
+    let host = Host {
+        rt: &rt,
+        alloc: rt.alloc(),
+        pace: &watching,
+    };
+    let status = answer(&host, &words, &mut files, &mut keys, &mut out, &mut bench);
     watching.end();
     explain(&rt, &rt, &words, status);
     if is_watched {

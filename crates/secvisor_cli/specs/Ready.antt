@@ -36,7 +36,7 @@ use Rattle.secvisor_cli.specs.declared.ready.Ready.{Ready}
 use Rattle.secvisor_cli.specs.declared.ready.Ready.TheVariants.{Run, Save}
 use Rattle.secvisor_cli.specs.declared.ready.PreparedRun.{PreparedRun}
 use Rattle.secvisor_cli.specs.declared.ready.Made.{Made}
-use Rattle.secvisor_cli.specs.declared.making.MeasuredKernel.{MeasuredKernel}
+use Rattle.policy_making.specs.declared.policy.MeasuredKernel.{MeasuredKernel}
 use Rattle.secvisor_cli.specs.declared.making.WantingModules.{WantingModules}
 use Rattle.secvisor_cli.specs.declared.ready.Stop.{Stop}
 use Rattle.secvisor_cli.specs.declared.ready.Stop.TheVariants.{Refused, Memory}

@@ -222,28 +222,44 @@ pub fn run_on_bench<F: Files, O: Sink>(
         events,
         save,
     } = ready;
-    let result = run_and_save(alloc, &mut machine, script, events, save, files, out);
+    let order = RunOrder {
+        script,
+        events,
+        save,
+    };
+    let result = run_and_save(alloc, &mut machine, order, files, out);
     bench.machine = Some(machine);
     result
 }
 
-// The run of a machine with its report, and then its disk, where it is saved. Seven parameters, since each is another
-// value of the caller's: what is run, for how long, where it is saved, and the outside world.
+// The events that a machine is to make, the first `events` of the script, and the name under which its disk is saved then.
+#[derive(Drop)]
+struct RunOrder<'a> {
+    script: Script,
+    events: u64,
+    save: Option<&'a str>,
+}
+
+// The run of a machine with its report, and then its disk, where it is saved.
 fn run_and_save<F: Files, O: Sink>(
     alloc: Global,
     machine: &mut Machine,
-    script: Script,
-    events: u64,
-    save: Option<&str>,
+    order: RunOrder<'_>,
     files: &mut F,
     out: &mut O,
 ) -> Result<Status, Trouble>
-    requires may { MayRun machine.old events (O.state out.old) }
+    requires may { MayRun machine.old order.events (O.state out.old) }
     requires saves { CanCount (F.state files.old).save_faults }
-    requires permitted { MaySaveRun machine.old (first_events events script) (option_copied save) (F.state files.old) }
-    ensures { (start : State) → IsNew machine.old start → RunsAndSaves start (first_events events script) (option_copied save.entry) machine.new
+    requires permitted { MaySaveRun machine.old (first_events order.events order.script) (option_copied order.save) (F.state files.old) }
+    ensures { (start : State) → IsNew machine.old start →
+        RunsAndSaves start (first_events order.entry.events order.entry.script) (option_copied order.entry.save) machine.new
         (F.state files.old) (F.state files.new) (O.state out.old) (O.state out.new) result }
 {
+    let RunOrder {
+        script,
+        events,
+        save,
+    } = order;
     let status = run_and_report(alloc, machine, script, events, out)?;
     save_disk(machine, save, files)?;
     Ok(status)

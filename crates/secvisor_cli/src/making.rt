@@ -18,7 +18,9 @@ use crate::parts::read_part;
 use crate::ready::{Made, Ready, Stop};
 use cli_plans::{MakePolicy, Part, Terms};
 use host_io::Files;
-use policy_making::{ObjectFile, Settings, entries_of, kernel_digest, policy_after, want_names};
+use policy_making::{
+    MeasuredKernel, ObjectFile, Settings, entries_of, kernel_digest, policy_after, want_names,
+};
 use std::alloc::{AllocError, Global};
 use std::thread::Threads;
 use sv_types::{Digest, Name, Policy};
@@ -26,13 +28,6 @@ use text_numbers::digest_text;
 
 /// The most bytes of a module's object.
 pub const MAX_OBJECT_BYTES: usize = 16 << 20;
-
-/// A kernel's file and its digest.
-#[derive(Drop)]
-pub struct MeasuredKernel {
-    pub file: Vec<u8>,
-    pub digest: Digest,
-}
 
 /// Modules' objects, and the names that they want of the kernel.
 #[derive(Drop)]
@@ -144,8 +139,7 @@ fn make_ready<'a, R: Threads + Sync>(
         rt,
         alloc,
         settings,
-        &kernel.file,
-        kernel.digest,
+        kernel,
         &modules.names,
         &modules.objects,
     )?;

@@ -1,6 +1,6 @@
 -- The devices have forms.
 use Rattle.std.proofs.Common.{◌≡◌, ℕ, zero, suc, ◌%◌, ◌^◌, ◌≤◌, Bool, true, false, refl, sym, subst, arith}
-use Rattle.std.specs.Prelude.{is_some, ◌&&◌, ◌==◌, if◌then◌else◌, nat_lt, nat_le}
+use Rattle.std.specs.Prelude.{is_some, not, ◌&&◌, ◌==◌, if◌then◌else◌, nat_lt, nat_le}
 use Rattle.std.proofs.lemmas.Bool.{eqb-true, leb-true}
 use Rattle.sv_types.specs.BlockNumbers.{command_of}
 use Rattle.sv_types.specs.declared.block.BlockCommand.{BlockCommand}
@@ -9,12 +9,16 @@ use Rattle.sv_types.specs.declared.block.BlockState.{BlockState}
 use Rattle.spec_reference.specs.BlockDisk.{beat_size}
 use Rattle.sv_types.specs.declared.port.PortState.{PortState}
 use Rattle.snapshot_format.specs.DeviceForms.{console, busy, goes_with, beats_of, has_beats, StatusParts, transfer, status_of, status_parts}
-use Rattle.snapshot_format.specs.DeviceForms.{standing_status, block_of, block_parts, sectors, block, holds_transfer, disk, devices}
-use Rattle.snapshot_format.specs.DeviceForms.{is_block, block_in, port}
+use Rattle.snapshot_format.specs.DeviceForms.{standing_status, block_of, block_parts, sectors, block, holds_disk, disk, devices}
+use Rattle.snapshot_format.specs.DeviceForms.{kind_of, is_block, block_in, virtio_in, port}
+use Rattle.snapshot_format.specs.VirtioForms.{virtio}
+use Rattle.snapshot_format.specs.declared.whole.PortKind.{PortKind}
+use Rattle.snapshot_format.specs.declared.whole.PortKind.TheVariants.{Block, Virtio}
 use Rattle.snapshot_format.specs.FormLaw.{IsForm}
 use Rattle.snapshot_format.specs.Forms.{is_word, number, within, and_then, always}
 use Rattle.snapshot_format.specs.JournalForms.{count}
 use Rattle.snapshot_format.proofs.FormLaws.{first_true, second_true, number_is, and_then_is, made_is, measured_is, pair_is, numbers_are}
+use Rattle.snapshot_format.proofs.VirtioLaws.{virtio_is}
 
 pub console_is : IsForm console
 unfolding console
@@ -91,22 +95,35 @@ block_is =
     and_then_is sectors (standing_status gpa) (numbers_are (λ n. nat_lt n (2 ^ 32))) (λ count h. standing_is gpa count))))
     (record { back = λ b p h. refl; again = λ x h. refl; stays = λ x h. refl })
 
-pub disk_is : (b : BlockState) → IsForm (disk b)
+pub disk_is : (p : PortState) → IsForm (disk p)
 unfolding disk
-disk_is b = measured_is (holds_transfer b)
+disk_is p = measured_is (holds_disk p)
 
 block_back : (p : PortState) → is_block p ≡ true → PortState.Block (block_in p) ≡ p
 block_back (PortState.Block b) is = refl
 block_back (PortState.Virtio v) is = absurd (cc)
 
-pub port_is : IsForm port
+virtio_back : (p : PortState) → not (is_block p) ≡ true → PortState.Virtio (virtio_in p) ≡ p
+virtio_back (PortState.Block b) is = absurd (cc)
+virtio_back (PortState.Virtio v) is = refl
+
+pub port_is : (kind : PortKind) → IsForm (port kind)
 unfolding port
-port_is =
+port_is Block =
     made_is PortState.Block block_in is_block block block_is
     (record { back = λ p is h. block_back p is; again = λ x h. refl; stays = λ x h. refl })
+port_is Virtio =
+    made_is PortState.Virtio virtio_in (λ p. not (is_block p)) virtio virtio_is
+    (record { back = λ p is h. virtio_back p is; again = λ x h. refl; stays = λ x h. refl })
 
-pub devices_are : IsForm devices
+-- a device is of the kind of its form
+pub port_kind : (kind : PortKind) (p : PortState) → (port kind).has p ≡ true → kind_of p ≡ kind
+unfolding port
+port_kind Block (PortState.Block b) h = refl
+port_kind Block (PortState.Virtio v) h = absurd cc
+port_kind Virtio (PortState.Block b) h = absurd cc
+port_kind Virtio (PortState.Virtio v) h = refl
+
+pub devices_are : (kind : PortKind) → IsForm (devices kind)
 unfolding devices
-devices_are =
-    pair_is console (and_then port (λ p. disk (block_in p))) console_is
-    (and_then_is port (λ p. disk (block_in p)) port_is (λ p h. disk_is (block_in p)))
+devices_are kind = pair_is console (and_then (port kind) disk) console_is (and_then_is (port kind) disk (port_is kind) (λ p h. disk_is p))

@@ -1,20 +1,28 @@
 -- The encoding of a snapshot is no longer than a snapshot's file may be.
-use Rattle.std.proofs.Common.{◌≡◌, ℕ, zero, suc, ◌+◌, ◌*◌, ◌^◌, ◌≤◌, Bool, true, false, cond, leb, List, [], ◌∷◌, ◌++◌, length, None, ap, arith}
-use Rattle.std.specs.Prelude.{◌&&◌, ◌||◌, not, nat_lt, nat_le, ◌==◌, ◌%◌, min, is_some}
+use Rattle.std.proofs.Common.{◌≡◌, ℕ, zero, suc, ◌+◌, ◌*◌, ◌^◌, ◌≤◌, Bool, true, false, cond, leb, List, [], ◌∷◌, ◌++◌, length, Some, None, ap, arith}
+use Rattle.std.specs.Prelude.{◌&&◌, ◌||◌, not, nat_lt, nat_le, ◌==◌, ◌%◌, ◌-◌, min, is_some}
 use Rattle.std.proofs.lemmas.Bool.{eqb-true, leb-true}
 use Rattle.std.proofs.lemmas.List.{length-append}
 use Rattle.std.proofs.Math.Nat.{mul-le-mul_right, suc-mul}
-use Rattle.std.proofs.lemmas.Slice.Eq.{bytes_eq-Decides}
 use Rattle.spec_processor.specs.Bytes.{page_size}
 use Rattle.sv_types.specs.Policies.{is_between, harts_within, ram_pages_within, modules_count_within}
 use Rattle.spec_processor.specs.Registers.{legal_status, legal_interrupts, legal_tvec, legal_counteren, legal_epc, legal_satp}
 use Rattle.sv_types.specs.Limits.{max_disk_bytes, max_notes}
 use Rattle.sv_types.specs.declared.event.Verdict.{Verdict}
-use Rattle.sv_types.specs.declared.block.BlockState.{BlockState}
+use Rattle.sv_types.specs.VirtioResults.{result_number}
+use Rattle.sv_types.specs.declared.port.PortState.{PortState}
+use Rattle.sv_types.specs.declared.virtio.VirtioPart.{VirtioPart}
+use Rattle.snapshot_format.specs.VirtioForms.{register, ring_index, selection, size_in, in_use, is_aligned, aligned, queue, status_in, is_ring, accepted, count_in}
+use Rattle.snapshot_format.specs.VirtioForms.{place_reached, may_stand, part_of, part_parts, descriptor, next_descriptor, descriptors, result_of, result_form}
+use Rattle.snapshot_format.specs.VirtioForms.{may_be_moved, may_be_made, progress, request_of, request_parts, request_form, no_request, request_flag}
+use Rattle.snapshot_format.specs.VirtioForms.{request_after, request_under_way, state_of, state_parts, virtio}
+use Rattle.snapshot_format.specs.PageForms.{some_or}
+use Rattle.snapshot_format.specs.declared.whole.PortKind.{PortKind}
+use Rattle.snapshot_format.specs.declared.whole.PortKind.TheVariants.{Block, Virtio}
 use Rattle.spec_reference.specs.BlockDisk.{sector_size}
 use Rattle.spec_reference.specs.declared.saved_machine.harts.SavedHart.{SavedHart}
 use Rattle.sv_types.specs.SbiCodes.{code_word}
-use Rattle.snapshot_format.specs.DeviceForms.{console, goes_with, has_beats, transfer, standing_status, block, holds_transfer, disk, devices, is_block, block_in, port}
+use Rattle.snapshot_format.specs.DeviceForms.{console, goes_with, has_beats, transfer, standing_status, block, holds_disk, disk, devices, is_block, port}
 use Rattle.snapshot_format.specs.Forms.{Form, encode_number, is_word, number, byte, plain, nothing, within, and_then, ◌⨾◌, map_form, always}
 use Rattle.snapshot_format.specs.Forms.{encode_all, has_all, list_form, counted_list, counted_bytes}
 use Rattle.snapshot_format.specs.HartForms.{flag, mode, place, is_nonzero, reservation, multiple_of, legal, privilege, trap_status, status, registers, begins_with_0, hart, harts}
@@ -187,8 +195,8 @@ gate_short harts =
 
 -- ---- devices
 
-on_disk : (b : BlockState) (n : ℕ) → holds_transfer b n ≡ true → n ≤ max_disk_bytes
-on_disk b n h =
+on_disk : (p : PortState) (n : ℕ) → holds_disk p n ≡ true → n ≤ max_disk_bytes
+on_disk p n h =
     let parts = first_true (nat_le n max_disk_bytes && n % sector_size == 0) _ h in
     leb-true n max_disk_bytes (first_true (nat_le n max_disk_bytes) _ parts)
 
@@ -208,16 +216,87 @@ block_short =
     made_short _ _ always _ 48 (pair_short _ _ 8 40 number_short (both_short number _ 8 32 number_short (λ gpa h.
     both_short _ (standing_status gpa) 8 24 (numbers_short (λ n. nat_lt n (2 ^ 32))) (λ count h. standing_short gpa count))))
 
-port_short : IsAtMost port 48
-unfolding port
-port_short = made_short _ _ is_block _ 48 block_short
+register_short : IsAtMost register 8
+unfolding register
+register_short = numbers_short (λ n. nat_lt n (2 ^ 32))
 
-devices_short : IsAtMost devices (320 + max_disk_bytes)
+ring_index_short : IsAtMost ring_index 8
+unfolding ring_index
+ring_index_short = numbers_short (λ n. nat_lt n (2 ^ 16))
+
+aligned_place_short : (ready : Bool) (size : ℕ) → IsAtMost (aligned ready size) 8
+unfolding aligned
+aligned_place_short ready size = numbers_short (is_aligned ready size)
+
+selection_short : IsAtMost selection 48
+unfolding selection
+selection_short =
+    pair_short _ _ 8 40 register_short (pair_short _ _ 8 32 register_short (pair_short _ _ 8 24 register_short (pair_short _ _ 8 16 register_short
+    (pair_short _ _ 8 8 register_short register_short))))
+
+queue_short : (ready : Bool) → IsAtMost (queue ready) 48
+unfolding queue
+queue_short ready =
+    pair_short _ _ 8 40 register_short (pair_short _ _ 8 32 register_short (pair_short _ _ 8 24 (aligned_place_short ready 16)
+    (pair_short _ _ 8 16 (aligned_place_short ready 2) (pair_short _ _ 8 8 (aligned_place_short ready 4) ring_index_short))))
+
+accepted_short : IsAtMost accepted 40
+unfolding accepted
+accepted_short =
+    pair_short _ _ 8 32 ring_index_short (pair_short _ _ 8 24 number_short (pair_short _ _ 8 16 (numbers_short (is_between 1 64))
+    (pair_short _ _ 8 8 (numbers_short is_ring) (numbers_short (is_between 2 34)))))
+
+descriptors_short : (count reached : ℕ) → IsAtMost (descriptors count reached) 816
+unfolding descriptors next_descriptor descriptor
+descriptors_short count reached =
+    listed_short (next_descriptor count reached) 24 34
+    (λ before. within_short (may_stand count reached (length before)) _ 24
+    (made_short part_of part_parts always _ 24 (pair_short _ _ 8 16 number_short (pair_short _ _ 8 8 register_short flag_short))))
+
+progress_short : (count reached : ℕ) (parts : List VirtioPart) → IsAtMost (progress count reached parts) 32
+unfolding progress result_form
+progress_short count reached parts =
+    pair_short _ _ 8 24 (within_short (may_be_moved count reached parts) register 8 register_short) (pair_short _ _ 8 16 (numbers_short (may_be_made count reached))
+    (pair_short _ _ 8 8 (made_short result_of result_number always _ 8 (numbers_short (λ n. nat_le n 2))) register_short))
+
+request_short : IsAtMost request_form 896
+unfolding request_form place_reached
+request_short =
+    made_short request_of request_parts always _ 896
+    (both_short accepted _ 40 856 accepted_short (λ a h.
+    both_short (place_reached (count_in a)) _ 8 848 (numbers_short (is_between 1 (count_in a - 1))) (λ reached h.
+    both_short (descriptors (count_in a) reached) (progress (count_in a) reached) 816 32 (descriptors_short (count_in a) reached)
+    (λ parts h. progress_short (count_in a) reached parts))))
+
+request_after_short : (b : Bool) → IsAtMost (request_after b) 896
+unfolding request_after
+request_after_short true = made_short Some (some_or no_request) is_some request_form 896 request_short
+request_after_short false = nothing_short None (λ o. not (is_some o)) 896
+
+under_way_short : (status : ℕ) → IsAtMost (request_under_way status) 904
+unfolding request_under_way request_flag
+under_way_short status =
+    made_short _ _ always _ 904 (both_short (request_flag status) request_after 8 896 (within_short _ flag 8 flag_short) (λ b h. request_after_short b))
+
+virtio_short : IsAtMost virtio 1008
+unfolding virtio in_use
+virtio_short =
+    made_short state_of state_parts always _ 1008
+    (both_short selection _ 48 960 selection_short (λ x h.
+    both_short (in_use (size_in x)) _ 8 952 (within_short _ flag 8 flag_short) (λ ready h.
+    both_short (queue ready) (λ y. request_under_way (status_in y)) 48 904 (queue_short ready) (λ y h. under_way_short (status_in y)))))
+
+port_short : (kind : PortKind) → IsAtMost (port kind) 1008
+unfolding port
+port_short Block = longer_by _ 48 1008 (made_short _ _ is_block _ 48 block_short) (omega arith)
+port_short Virtio = made_short _ _ (λ p. not (is_block p)) _ 1008 virtio_short
+
+devices_short : (kind : PortKind) → IsAtMost (devices kind) (1280 + max_disk_bytes)
 unfolding devices console disk
-devices_short =
-    pair_short console _ 264 (56 + max_disk_bytes) (measured_short (λ n. nat_le n 256) 256 (λ n h. leb-true n 256 h))
-    (both_short port (λ p. disk (block_in p)) 48 (8 + max_disk_bytes) port_short
-    (λ p h. measured_short (holds_transfer (block_in p)) max_disk_bytes (on_disk (block_in p))))
+devices_short kind =
+    pair_short console _ 264 (1016 + max_disk_bytes) (measured_short (λ n. nat_le n 256) 256 (λ n h. leb-true n 256 h))
+    (both_short (port kind) disk 1008 (8 + max_disk_bytes) (port_short kind)
+    (λ p h. measured_short (holds_disk p) max_disk_bytes (on_disk p)))
 
 -- ---- the journal
 
@@ -285,25 +364,29 @@ journal_short events harts =
 
 -- ---- the whole
 
+eight : (kind : PortKind) → length (magic kind) ≤ 8
+eight Block = omega arith
+eight Virtio = omega arith
+
 header_short : IsAtMost header 40
 unfolding header
 header_short =
     made_short header_of header_parts always _ 40
-    (pair_short magic_form _ 8 32 (record { bound = λ b h. omega (arith, ap (λ (c : List ℕ). length c) ((bytes_eq-Decides b magic).0 h)) })
+    (pair_short magic_form _ 8 32 (record { bound = λ kind h. eight kind })
     (pair_short _ _ 8 24 (numbers_short (λ n. nat_le n (2 ^ 32))) (pair_short _ _ 8 16 (numbers_short harts_within)
     (pair_short _ _ 8 8 (numbers_short ram_pages_within) number_short))))
 
 few_harts : (h : Header) → header.has h ≡ true → h.harts ≤ 4
 unfolding header
 few_harts h has =
-    let from_harts = second_true ((within (λ n. nat_le n (2 ^ 32)) number).has h.events) _ (second_true (magic_form.has magic) _ has) in
+    let from_harts = second_true ((within (λ n. nat_le n (2 ^ 32)) number).has h.events) _ (second_true (magic_form.has h.kind) _ has) in
     let good = second_true (is_word h.harts) (harts_within h.harts) (first_true ((within harts_within number).has h.harts) _ from_harts) in
     leb-true h.harts 4 (second_true (leb 1 h.harts) (leb h.harts 4) good)
 
 few_pages : (h : Header) → header.has h ≡ true → h.ram_pages ≤ 262144
 unfolding header
 few_pages h has =
-    let from_harts = second_true ((within (λ n. nat_le n (2 ^ 32)) number).has h.events) _ (second_true (magic_form.has magic) _ has) in
+    let from_harts = second_true ((within (λ n. nat_le n (2 ^ 32)) number).has h.events) _ (second_true (magic_form.has h.kind) _ has) in
     let from_pages = second_true ((within harts_within number).has h.harts) _ from_harts in
     let good = second_true (is_word h.ram_pages) (ram_pages_within h.ram_pages) (first_true ((within ram_pages_within number).has h.ram_pages) _ from_pages) in
     omega (arith, leb-true h.ram_pages _ (second_true (leb 16 h.ram_pages) _ good))
@@ -316,13 +399,13 @@ unfolding body pages
 body_short h harts_few pages_few =
     let ram : ℕ = page_size * h.ram_pages in
     let journal_on : ℕ = 164008 + ram in
-    let devices_on : ℕ = (320 + max_disk_bytes) + journal_on in
+    let devices_on : ℕ = (1280 + max_disk_bytes) + journal_on in
     let gate_on : ℕ = 2120 + devices_on in
     let of_pages : ℕ = h.ram_pages * 1 + (8 + h.ram_pages * 40) in
     longer_by _ (1504 + (of_pages + gate_on)) max_body_bytes
     (both_short (harts h.ram_pages h.harts) _ 1504 (of_pages + gate_on) (harts_short h.ram_pages h.harts harts_few) (λ hs p.
     pair_short _ _ of_pages gate_on (pair_short _ _ (h.ram_pages * 1) (8 + h.ram_pages * 40) (protections_short h.ram_pages) (text_short h.ram_pages))
-    (pair_short _ _ 2120 devices_on (gate_short hs) (pair_short _ _ (320 + max_disk_bytes) journal_on devices_short
+    (pair_short _ _ 2120 devices_on (gate_short hs) (pair_short _ _ (1280 + max_disk_bytes) journal_on (devices_short h.kind)
     (pair_short _ _ 164008 ram (journal_short h.events h.harts) (plain_short ram))))))
     (omega arith)
 

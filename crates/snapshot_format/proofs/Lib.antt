@@ -1,6 +1,7 @@
 pub mod FormLaws
 pub mod HartLaws
 pub mod PageLaws
+pub mod VirtioLaws
 pub mod DeviceLaws
 pub mod JournalLaws
 pub mod Lengths
@@ -15,3 +16,5 @@ pub mod ReadLists
 pub mod ReadRegisters
 pub mod ReadRows
 pub mod WholeRead
+pub mod WrittenForms
+pub mod VirtioReads

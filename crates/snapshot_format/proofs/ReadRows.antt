@@ -29,20 +29,20 @@ use Rattle.sv_types.specs.declared.sbi.SbiCode.{SbiCode}
 
 -- ---- an array that is filled up to one place
 
-abbrev pub HasRow : (f : List ℕ → Form ℕ) (size i : ℕ) (row bytes : List ℕ) → Taken (List ℕ) → Type 0
+abbrev pub HasRow : {A : Type 0} → (f : List A → Form A) → (size i : ℕ) → (row : List A) → (bytes : List ℕ) → Taken (List A) → Type 0
 HasRow f size i row bytes total = with_front (take i row) (all_taken f (take i row) (size - i) bytes) ≡ total
 
-pub row_read : (f : List ℕ → Form ℕ) (size i value : ℕ) (row bytes after : List ℕ) (total : Taken (List ℕ)) → i < size → length row ≡ size
+pub row_read : {A : Type 0} (f : List A → Form A) (size i : ℕ) (value : A) (row : List A) (bytes after : List ℕ) (total : Taken (List A)) → i < size → length row ≡ size
     → (f (take i row)).taken bytes ≡ Ok (value, after) → HasRow f size i row bytes total → HasRow f size (i + 1) (set row i value) after total
 row_read f size i value row bytes after total lt same h so_far =
     let inside : i < length row = omega (arith, same) in
     rw (take_more_set row i value inside) (goes_on f (take i row) size i bytes value after total lt h so_far)
 
-pub row_done : (f : List ℕ → Form ℕ) (size i : ℕ) (row bytes : List ℕ) (total : Taken (List ℕ)) → size ≤ i → length row ≡ size
+pub row_done : {A : Type 0} (f : List A → Form A) (size i : ℕ) (row : List A) (bytes : List ℕ) (total : Taken (List A)) → size ≤ i → length row ≡ size
     → HasRow f size i row bytes total → total ≡ Ok (row, bytes)
-row_done f size i row bytes total le same so_far =
+row_done {A = A} f size i row bytes total le same so_far =
     let whole : take i row ≡ row = take_all i row (omega (arith, same)) in
-    is_done f (take i row) size i bytes total le so_far ∙ ap (λ (l : List ℕ). Ok (l, bytes)) whole
+    is_done f (take i row) size i bytes total le so_far ∙ ap (λ (l : List A). Ok (l, bytes)) whole
 
 -- ---- the values after one another of a form are those of its row
 

@@ -1,4 +1,4 @@
--- The forms of the devices: the console's input, the block device and its disk. This project's own.
+-- The forms of the devices: the console's input, the device that the disk is behind, and the disk. This project's own.
 use Rattle.std.specs.Prelude.{ℕ, Option, Some, None, is_some, ◌+◌, ◌*◌, ◌/◌, ◌%◌, ◌^◌, List, Bool, true, false, not, ◌&&◌, ◌||◌, nat_lt}
 use Rattle.std.specs.Prelude.{nat_le, ◌==◌, if◌then◌else◌}
 use Rattle.sv_types.specs.Console.{max_queued}
@@ -10,7 +10,11 @@ use Rattle.sv_types.specs.declared.block.BlockCommand.{BlockCommand}
 use Rattle.sv_types.specs.declared.block.BlockState.{BlockState}
 use Rattle.sv_types.specs.declared.block.BlockStatus.{BlockStatus}
 use Rattle.sv_types.specs.declared.port.PortState.{PortState}
+use Rattle.sv_types.specs.declared.virtio.VirtioState.{VirtioState}
 use Rattle.spec_reference.specs.Start.{block_at_boot}
+use Rattle.snapshot_format.specs.VirtioForms.{virtio, holds_data}
+use Rattle.snapshot_format.specs.declared.whole.PortKind.{PortKind}
+use Rattle.snapshot_format.specs.declared.whole.PortKind.TheVariants.{Block, Virtio}
 
 -- no more than the console keeps
 unfoldable pub console : Form (List ℕ)
@@ -93,7 +97,12 @@ block =
     map_form block_of block_parts always
     (number ⨾ and_then number (λ gpa. and_then sectors (standing_status gpa)))
 
--- a snapshot has this project's own block device alone
+-- ---- the device that the disk is behind, of the kind that the beginning tells
+
+abbrev pub kind_of : PortState → PortKind
+kind_of (PortState.Block b) = Block
+kind_of (PortState.Virtio v) = Virtio
+
 abbrev pub is_block : PortState → Bool
 is_block (PortState.Block b) = true
 is_block (PortState.Virtio v) = false
@@ -102,22 +111,48 @@ abbrev pub block_in : PortState → BlockState
 block_in (PortState.Block b) = b
 block_in (PortState.Virtio v) = block_at_boot
 
-unfoldable pub port : Form PortState
-port = map_form PortState.Block block_in is_block block
+abbrev pub no_virtio : VirtioState
+no_virtio = record {
+  device_select = 0;
+  driver_select = 0;
+  driver_low = 0;
+  driver_high = 0;
+  queue = 0;
+  size = 0;
+  ready = false;
+  interrupt = 0;
+  status = 0;
+  descriptors = 0;
+  available = 0;
+  used = 0;
+  accepted = 0;
+  request = None;
+}
+
+abbrev pub virtio_in : PortState → VirtioState
+virtio_in (PortState.Block b) = no_virtio
+virtio_in (PortState.Virtio v) = v
+
+unfoldable pub port : PortKind → Form PortState
+port Block = map_form PortState.Block block_in is_block block
+port Virtio = map_form PortState.Virtio virtio_in (λ p. not (is_block p)) virtio
 
 -- ---- the disk
 
--- whole sectors, among them those of a transfer under way
-abbrev pub holds_transfer : BlockState → ℕ → Bool
-holds_transfer b n =
-    nat_le n max_disk_bytes && n % sector_size == 0 &&
-    (not (is_busy b) || nat_le (b.sector + b.count) (n / sector_size))
+-- the sectors of a transfer, or the data of a request, lie on it
+abbrev pub lies_on : PortState → ℕ → Bool
+lies_on (PortState.Block b) n = not (is_busy b) || nat_le (b.sector + b.count) (n / sector_size)
+lies_on (PortState.Virtio v) n = holds_data v.request n
 
-unfoldable pub disk : BlockState → Form (List ℕ)
-disk b = counted_bytes (holds_transfer b)
+-- whole sectors
+abbrev pub holds_disk : PortState → ℕ → Bool
+holds_disk p n = nat_le n max_disk_bytes && n % sector_size == 0 && lies_on p n
+
+unfoldable pub disk : PortState → Form (List ℕ)
+disk p = counted_bytes (holds_disk p)
 
 abbrev pub Devices : Type 0
 Devices = List ℕ × (PortState × List ℕ)
 
-unfoldable pub devices : Form Devices
-devices = console ⨾ and_then port (λ p. disk (block_in p))
+unfoldable pub devices : PortKind → Form Devices
+devices kind = console ⨾ and_then (port kind) disk

@@ -3,6 +3,7 @@ pub mod Forms
 pub mod FormLaw
 pub mod HartForms
 pub mod PageForms
+pub mod VirtioForms
 pub mod DeviceForms
 pub mod JournalForms
 pub mod Snapshots

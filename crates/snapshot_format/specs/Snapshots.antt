@@ -3,7 +3,7 @@ use Rattle.std.specs.Prelude.{ℕ, ◌*◌, ◌^◌, List, length, take, drop, B
 use Rattle.std.specs.Str.{bytes_eq}
 use Rattle.spec_reference.specs.declared.saved_machine.harts.SavedHart.{SavedHart}
 use Rattle.spec_reference.specs.declared.saved_machine.whole.SavedLoad.{SavedLoad}
-use Rattle.snapshot_format.specs.DeviceForms.{Devices, devices}
+use Rattle.snapshot_format.specs.DeviceForms.{Devices, devices, kind_of}
 use Rattle.sv_types.specs.Steps.{◌>>=◌}
 use Rattle.snapshot_format.specs.Forms.{Taken, Form, number, plain, within, and_then, ◌⨾◌, map_form, always}
 use Rattle.snapshot_format.specs.HartForms.{harts}
@@ -11,6 +11,8 @@ use Rattle.snapshot_format.specs.JournalForms.{JournalParts, journal}
 use Rattle.snapshot_format.specs.PageForms.{Pages, pages, Gate, gate}
 use Rattle.snapshot_format.specs.declared.refusal.SnapRefusal.TheVariants.{TooLong, OtherLength, OtherBeginning}
 use Rattle.snapshot_format.specs.declared.refusal.SnapRefusal.{SnapRefusal}
+use Rattle.snapshot_format.specs.declared.whole.PortKind.{PortKind}
+use Rattle.snapshot_format.specs.declared.whole.PortKind.TheVariants.{Block, Virtio}
 use Rattle.snapshot_format.specs.declared.whole.Snapshot.{Snapshot}
 use Rattle.snapshot_format.specs.declared.whole.TextPage.{TextPage}
 use Rattle.spec_processor.specs.Bytes.{page_size}
@@ -25,38 +27,43 @@ use Rattle.sv_types.specs.declared.protection.Protection.{Protection}
 
 -- ---- the beginning
 
-abbrev pub magic : List ℕ
-magic = codes "SVSNAP01"
+-- by the device that the disk is behind
+abbrev pub magic : PortKind → List ℕ
+magic Block = codes "SVSNAP01"
+magic Virtio = codes "SVSNAP02"
 
 abbrev pub magic_size : ℕ
 magic_size = 8
 
-unfoldable pub magic_at : List ℕ → Taken (List ℕ)
+unfoldable pub magic_at : List ℕ → Taken PortKind
 magic_at bytes =
     if nat_lt (length bytes) magic_size then Err OtherLength
-    else if bytes_eq (take magic_size bytes) magic then Ok (take magic_size bytes, drop magic_size bytes) else Err OtherBeginning
+    else if bytes_eq (take magic_size bytes) (magic Block) then Ok (Block, drop magic_size bytes)
+    else if bytes_eq (take magic_size bytes) (magic Virtio) then Ok (Virtio, drop magic_size bytes)
+    else Err OtherBeginning
 
-abbrev pub magic_form : Form (List ℕ)
-magic_form = record { encode = λ b. b; has = λ b. bytes_eq b magic; taken = magic_at }
+abbrev pub magic_form : Form PortKind
+magic_form = record { encode = magic; has = always; taken = magic_at }
 
--- events, harts, pages of RAM, time
+-- the kind of the device, events, harts, pages of RAM, time
 pub record Header : Type 0 where
+  pub kind : PortKind
   pub events : ℕ
   pub harts : ℕ
   pub ram_pages : ℕ
   pub time : ℕ
 
-abbrev pub header_by : (events hart_count ram_pages time : ℕ) → Header
-header_by events hart_count ram_pages time = record { events = events; harts = hart_count; ram_pages = ram_pages; time = time }
+abbrev pub header_by : PortKind → (events hart_count ram_pages time : ℕ) → Header
+header_by kind events hart_count ram_pages time = record { kind = kind; events = events; harts = hart_count; ram_pages = ram_pages; time = time }
 
 abbrev pub HeaderParts : Type 0
-HeaderParts = List ℕ × (ℕ × (ℕ × (ℕ × ℕ)))
+HeaderParts = PortKind × (ℕ × (ℕ × (ℕ × ℕ)))
 
 abbrev pub header_of : HeaderParts → Header
-header_of x = record { events = x.1.0; harts = x.1.1.0; ram_pages = x.1.1.1.0; time = x.1.1.1.1 }
+header_of x = record { kind = x.0; events = x.1.0; harts = x.1.1.0; ram_pages = x.1.1.1.0; time = x.1.1.1.1 }
 
 abbrev pub header_parts : Header → HeaderParts
-header_parts h = (magic, (h.events, (h.harts, (h.ram_pages, h.time))))
+header_parts h = (h.kind, (h.events, (h.harts, (h.ram_pages, h.time))))
 
 -- no more than 2^32 events
 abbrev pub events_made : Form ℕ
@@ -116,7 +123,7 @@ Body = List SavedHart × (Pages × (Gate × (Devices × (JournalParts × List �
 unfoldable pub body : Header → Form Body
 body h =
     and_then (harts h.ram_pages h.harts)
-    (λ hs. pages h.ram_pages ⨾ (gate hs ⨾ (devices ⨾ (journal h.events h.harts ⨾ plain (page_size * h.ram_pages)))))
+    (λ hs. pages h.ram_pages ⨾ (gate hs ⨾ (devices h.kind ⨾ (journal h.events h.harts ⨾ plain (page_size * h.ram_pages)))))
 
 abbrev pub whole_of : Header × Body → Contents
 whole_of x = record {
@@ -137,9 +144,9 @@ whole_of x = record {
   ram = x.1.1.1.1.1.1;
 }
 
--- the numbers of harts and of pages are those of their lists
+-- the kind is the device's, and the numbers of harts and of pages are those of their lists
 abbrev pub whole_header : Contents → Header
-whole_header s = record { events = s.events; harts = length s.harts; ram_pages = length s.protection; time = s.time }
+whole_header s = record { kind = kind_of s.port; events = s.events; harts = length s.harts; ram_pages = length s.protection; time = s.time }
 
 abbrev pub whole_body : Contents → Body
 whole_body s = (

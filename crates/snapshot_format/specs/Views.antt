@@ -1,5 +1,4 @@
 -- The parts that are read, as a form sees them. This project's own.
-use Rattle.sv_types.specs.declared.port.PortState.{PortState}
 use Rattle.snapshot_format.specs.declared.reader.devices.Devices.{Devices}
 use Rattle.snapshot_format.specs.declared.reader.journal.Recorded.{Recorded}
 use Rattle.snapshot_format.specs.declared.reader.modules.Gate.{Gate}
@@ -18,13 +17,13 @@ abbrev pub gate_parts : Gate → page.Gate
 gate_parts g = (g.modules.items, (g.retired, g.loading))
 
 abbrev pub devices_parts : Devices → device.Devices
-devices_parts d = (d.console.items, (PortState.Block d.block, d.disk.items))
+devices_parts d = (d.console.items, (d.port, d.disk.items))
 
 abbrev pub recorded_parts : Recorded → recorded.JournalParts
 recorded_parts r = (r.counts, (r.notes.items, r.verdict))
 
 abbrev pub header_view : Header → whole.Header
-header_view h = whole.header_by h.events h.harts h.ram_pages h.time
+header_view h = whole.header_by h.kind h.events h.harts h.ram_pages h.time
 
 abbrev pub body_parts : Body → whole.Body
 body_parts b = (b.harts.items, (pages_parts b.pages, (gate_parts b.gate, (devices_parts b.devices, (recorded_parts b.recorded, b.ram.items)))))

@@ -14,7 +14,7 @@ mod whole;
 pub mod writer;
 
 pub use refusal::SnapRefusal;
-pub use whole::{MAGIC, MAGIC_BYTES, Snapshot, TextPage};
+pub use whole::{BLOCK_MAGIC, MAGIC_BYTES, PortKind, Snapshot, TextPage, VIRTIO_MAGIC};
 
 /// A snapshot that has an encoding is read from its encoding, and what is read is encoded by exactly the bytes that were read.
 pub fn law_snapshot()

@@ -13,6 +13,7 @@ mod row;
 mod supervisor;
 mod values;
 mod verdict;
+mod virtio;
 mod whole;
 
 pub use read_error::ReadError;

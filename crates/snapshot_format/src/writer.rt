@@ -11,6 +11,7 @@ mod pages;
 mod supervisor;
 mod values;
 mod verdict;
+mod virtio;
 mod whole;
 
 pub use whole::write;

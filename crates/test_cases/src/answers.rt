@@ -3,7 +3,7 @@ ghost use Rattle.std.specs.Prelude.{◌<◌, ◌-◌};
 ghost use Rattle.spec_processor.specs.Counters.{CanCount};
 
 use crate::memory::Answer;
-use cli_dispatch::Progress;
+use cli_dispatch::{Host, Progress};
 use host_io::{MemFiles, MemSink};
 use live_keys::{Keys, MemKeys, Pace, Still};
 use secvisor_cli::Bench;
@@ -11,15 +11,13 @@ use std::alloc::Global;
 use std::sync::Wait;
 use std::thread::Threads;
 
-/// What the program's call answers to these words. Each parameter is a thing of its own outside of the program.
+/// What the program's call answers to these words.
 pub fn answer_with<R: Threads + Wait + Sync, K: Keys + Send, P: Pace + Progress + Sync>(
-    rt: &R,
-    alloc: Global,
+    host: &Host<'_, R, P>,
     line: &[String],
     files: &mut MemFiles,
     keys: &mut K,
     out: &mut MemSink,
-    pace: &P,
 ) -> Answer
     requires reads { CanCount files.old.read_faults }
     requires saves { CanCount files.old.save_faults }
@@ -27,7 +25,7 @@ pub fn answer_with<R: Threads + Wait + Sync, K: Keys + Send, P: Pace + Progress 
     requires writes { CanCount out.old.faults }
 {
     let mut bench = Bench { machine: None };
-    let status = cli_dispatch::answer(rt, alloc, line, files, keys, out, pace, &mut bench);
+    let status = cli_dispatch::answer(host, line, files, keys, out, &mut bench);
     Answer {
         status,
         is_booted: bench.machine.is_some(),
@@ -47,5 +45,10 @@ pub fn answer<R: Threads + Wait + Sync>(
     requires writes { CanCount out.old.faults }
 {
     let mut keys = MemKeys::new(Vec::new(alloc), Vec::new(alloc));
-    answer_with(rt, alloc, line, files, &mut keys, out, &Still)
+    let host = Host {
+        rt,
+        alloc,
+        pace: &Still,
+    };
+    answer_with(&host, line, files, &mut keys, out)
 }

@@ -1,6 +1,7 @@
 // Files of the operating system that have no end.
 
 use crate::values::line_of;
+use cli_dispatch::Host;
 use host_io::MemSink;
 use host_io::os_files::RealFiles;
 use live_keys::{MemKeys, Still};
@@ -29,16 +30,12 @@ pub fn refuse_endless<
     let mut files = RealFiles::new(host, false);
     let mut bench = Bench { machine: None };
     let mut keys = MemKeys::new(Vec::new(rt.alloc()), Vec::new(rt.alloc()));
-    let status = cli_dispatch::answer(
+    let called = Host {
         rt,
-        rt.alloc(),
-        &line,
-        &mut files,
-        &mut keys,
-        &mut out,
-        &Still,
-        &mut bench,
-    );
+        alloc: rt.alloc(),
+        pace: &Still,
+    };
+    let status = cli_dispatch::answer(&called, &line, &mut files, &mut keys, &mut out, &mut bench);
     println!(rt; "status {}", status.number())?;
     io::writer(rt).write_all(out.taken_bytes())
 }

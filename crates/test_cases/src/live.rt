@@ -7,7 +7,7 @@ use crate::calls::{is_same, line, make_call, print_lines, tell};
 use crate::case::Case;
 use crate::memory::{GOOD, Left, PRINTED_ROOM, hold, left_behind};
 use crate::values::{first_word, number};
-use cli_dispatch::Progress;
+use cli_dispatch::{Host, Progress};
 use host_io::{Failed, MemFiles, MemSink};
 use live_keys::{Keys, MemKeys, Pace, Still};
 use std::alloc::{AllocError, Global};
@@ -35,7 +35,8 @@ fn live<R: Threads + Wait + Sync, K: Keys + Send, P: Pace + Progress + Sync>(
         outside.piece.max(1),
         &[outside.failing_write],
     )?;
-    let answer = answer_with(rt, alloc, line, &mut files, keys, &mut out, pace);
+    let host = Host { rt, alloc, pace };
+    let answer = answer_with(&host, line, &mut files, keys, &mut out);
     left_behind(alloc, answer, &files, &out)
 }
 

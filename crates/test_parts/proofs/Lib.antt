@@ -1,14 +1,1 @@
 pub mod Roots
-pub mod Computing
-pub mod FlatRowsHold
-pub mod TurnRowsHold
-pub mod CallRowsHold
-pub mod DeviceRowsHold
-pub mod ExitRowsHold
-pub mod ModuleRowsHold
-pub mod GuestRowsHold
-pub mod EntryRowsHold
-pub mod VirtioRowsHold
-pub mod AttackerRowsHold
-pub mod ScheduleRowsHold
-pub mod FieldRowsHold

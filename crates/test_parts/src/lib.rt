@@ -1,12 +1,11 @@
 //! Tests of parts that stand in several crates: registers, traps, walks and attempts of a hart, and requests of the virtio block
-//! device, by rows of their standards; measures, kernel images and module objects, the generated guest, the events of scripts,
-//! and scripts made small.
+//! device, by rows of their standards; measures, kernel images, names of addresses and module objects, the generated guest, the
+//! events of scripts, and scripts made small.
 #![tactic(auto)]
 
 #[cfg(test)]
 mod attempts;
 pub mod edges;
-pub mod examples;
 #[cfg(test)]
 mod fields;
 #[cfg(test)]
@@ -19,6 +18,8 @@ mod loading;
 mod measures;
 #[cfg(test)]
 mod modes;
+#[cfg(test)]
+mod names;
 #[cfg(test)]
 mod objects;
 #[cfg(test)]

@@ -15,29 +15,37 @@ use sv_types::Event;
 struct WithBoth {
     first: u8,
     second: u8,
+    runs: u64,
 }
 
 impl Stops<u8> for WithBoth {
     ghost stops = { λ t items. list_any (λ n. nat_eq n t.first) items && list_any (λ n. nat_eq n t.second) items };
 
-    fn stops_so<R: Threads + Sync>(&self, _rt: &R, items: &[u8]) -> Result<bool, AllocError> {
+    ghost left = { λ t. t.runs };
+
+    fn stops_so<R: Threads + Sync>(&mut self, _rt: &R, items: &[u8]) -> Result<bool, AllocError> {
+        self.runs -= 1;
         Ok(items.contains(&self.first) && items.contains(&self.second))
+    }
+
+    fn runs_left(&self) -> u64 {
+        self.runs
     }
 }
 
 #[test]
 fn a_list_keeps_what_it_stops_by(rt: HostRuntime) -> Result<(), AllocError> {
-    let test = WithBoth {
+    let mut test = WithBoth {
         first: 17,
         second: 150,
+        runs: 1000,
     };
     let mut items = Vec::new(rt.alloc());
     for number in 0..200 {
         items.push(number)?;
     }
-    let mut runs = 1000;
     if test.stops_so(&rt, &items)? {
-        let minimal = minimize(&rt, rt.alloc(), &test, &mut items, &mut runs)?;
+        let minimal = minimize(&rt, rt.alloc(), &mut test, &mut items)?;
         assert!(&rt; minimal);
     }
     assert!(&rt; items.as_slice() == [17u8, 150].as_slice());
@@ -48,13 +56,26 @@ fn a_list_keeps_what_it_stops_by(rt: HostRuntime) -> Result<(), AllocError> {
 #[derive(Drop)]
 struct OftenEnough {
     times: u64,
+    runs: u64,
 }
 
 impl Stops<EventRun> for OftenEnough {
     ghost stops = { λ t lines. list_any (λ line. nat_le t.times line.count) lines };
 
-    fn stops_so<R: Threads + Sync>(&self, _rt: &R, lines: &[EventRun]) -> Result<bool, AllocError> {
-        Ok(lines.iter().any(|line| self.times <= line.count))
+    ghost left = { λ t. t.runs };
+
+    fn stops_so<R: Threads + Sync>(
+        &mut self,
+        _rt: &R,
+        lines: &[EventRun],
+    ) -> Result<bool, AllocError> {
+        self.runs -= 1;
+        let times = self.times;
+        Ok(lines.iter().any(|line| times <= line.count))
+    }
+
+    fn runs_left(&self) -> u64 {
+        self.runs
     }
 }
 
@@ -79,11 +100,13 @@ static LINES: [EventRun; 4] = [
 
 #[test]
 fn halves_are_spared(rt: HostRuntime) -> Result<(), AllocError> {
-    let test = OftenEnough { times: 100 };
+    let mut test = OftenEnough {
+        times: 100,
+        runs: 100,
+    };
     let mut lines = LINES.to_vec(rt.alloc())?;
-    let mut runs = 100;
     if test.stops_so(&rt, &lines)? {
-        let minimal = shrink_lines(&rt, rt.alloc(), &test, &mut lines, &mut runs)?;
+        let minimal = shrink_lines(&rt, rt.alloc(), &mut test, &mut lines)?;
         assert!(&rt; minimal);
     }
     let text = script_text(rt.alloc(), &lines)?;

@@ -12,7 +12,9 @@ use std::rt::Files;
 use std::sync::Wait;
 use std::thread::Threads;
 use std::{fs, io};
-use test_cases::{ENDLESS, compare_policies, follow_cases, refuse_endless, run_guests};
+use test_cases::{
+    ENDLESS, compare_policies, follow_cases, refuse_endless, run_guests, run_sessions,
+};
 
 // The files of cases, in the order in which they run.
 static LISTS: [&str; 10] = [
@@ -31,6 +33,7 @@ static LISTS: [&str; 10] = [
 fn main(rt: HostRuntime) -> io::Result<()> {
     run_guests(&rt, "runs.txt")?;
     compare_policies(&rt, "policies.txt")?;
+    run_sessions(&rt, "sessions.txt")?;
     let parts = fs::read_to_string(&rt, "parts.cases")?;
     for list in &LISTS {
         run_list(&rt, parts.as_str(), list)?;

@@ -1,5 +1,6 @@
 // Calls over the files of the operating system, standard input and standard output, as the program makes them.
 
+use cli_dispatch::Host;
 use host_io::os_files::{RealFiles, StdSink};
 use live_keys::{ReaderKeys, Still};
 use secvisor_cli::Bench;
@@ -20,16 +21,12 @@ pub fn call_real<R: Threads + Wait + Sync>(
     let mut keys = ReaderKeys::new(rt.reader());
     let mut out = StdSink::new(rt.clone()?, false);
     let mut bench = Bench { machine: None };
-    let status = cli_dispatch::answer(
-        threads,
-        rt.alloc(),
-        &line,
-        &mut files,
-        &mut keys,
-        &mut out,
-        &Still,
-        &mut bench,
-    );
+    let host = Host {
+        rt: threads,
+        alloc: rt.alloc(),
+        pace: &Still,
+    };
+    let status = cli_dispatch::answer(&host, &line, &mut files, &mut keys, &mut out, &mut bench);
     println!(rt; "status {}", status.number())
 }
 

@@ -4,3 +4,5 @@ pub mod DataMoves
 pub mod NewRequests
 pub mod Places
 pub mod Sums
+pub mod MoveForms
+pub mod Whole

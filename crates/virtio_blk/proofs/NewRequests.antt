@@ -1,9 +1,9 @@
 -- A request that was just accepted is in its chain and on the disk.
-use Rattle.std.proofs.Common.{◌≡◌, ℕ, ◌+◌, ◌-◌, ◌*◌, ◌%◌, ◌^◌, ◌<◌, ◌≤◌, Bool, true, false, ◌&&◌, ◌||◌, ◌==◌, if◌then◌else◌, List, length}
+use Rattle.std.proofs.Common.{◌≡◌, ℕ, zero, suc, ◌+◌, ◌-◌, ◌*◌, ◌%◌, ◌^◌, ◌<◌, ◌≤◌, Bool, true, false, ◌&&◌, ◌||◌, ◌==◌, if◌then◌else◌, List, ◌++◌, length}
 use Rattle.std.proofs.Common.{drop, replicate, get_or, refl, ◌∙◌, sym, ap, subst, length-drop, length-append, arith}
 use Rattle.std.specs.List.{list_all}
 use Rattle.std.proofs.lemmas.Bool.Decides.{nat_tests}
-use Rattle.std.proofs.lemmas.List.{get_or-drop, get_or-take, length-replicate, length-take-le}
+use Rattle.std.proofs.lemmas.List.{get_or-append-add, get_or-drop, get_or-take, length-replicate, length-take-le}
 use Rattle.spec_processor.specs.Bytes.{in_ram}
 use Rattle.spec_reference.specs.VirtioChain.{no_part, between, data_of}
 use Rattle.spec_reference.specs.VirtioRequests.{bytes_in, lies_in, fits_type, are_sectors, can_move, result_by}
@@ -14,6 +14,12 @@ use Rattle.virtio_blk.proofs.DataMoves.{between_none, behind_none}
 use Rattle.spec_reference.specs.VirtioStores.{is_size}
 use Rattle.virtio_blk.proofs.Accepting.{part_padded, between_padded, first_between, done_can, all_at}
 use Rattle.sv_types.specs.VirtioResults.{is_done}
+
+-- an empty part is at each place of some empty parts, and after them
+empty_at : (n k : ℕ) → get_or (replicate n no_part) k no_part ≡ no_part
+empty_at zero k = refl
+empty_at (suc n) zero = refl
+empty_at (suc n) (suc k) = empty_at n k
 
 all_three : (a b c : Bool) → a && b && c ≡ true → (a ≡ true) × ((b ≡ true) × (c ≡ true))
 all_three true true true is = (refl, (refl, refl))
@@ -58,6 +64,13 @@ addresses_by ram disk_size kind sector parts k true is few small from to some =
     address_of ram (get_or parts k no_part).gpa (get_or parts k no_part).len lies some small
 addresses_by ram disk_size kind sector parts k false is few small from to some = absurd (omega (arith, from, to))
 
+padded_empty : (parts : List VirtioPart) (k : ℕ) → length parts ≤ k → get_or (padded_parts parts) k no_part ≡ no_part
+padded_empty parts k past =
+    let rest = replicate (34 - length parts) no_part in
+    let place : length parts + (k - length parts) ≡ k = omega (arith, past) in
+    ap (λ (n : ℕ). get_or (parts ++ rest) n no_part) (sym place) ∙ get_or-append-add parts rest (k - length parts) no_part
+    ∙ empty_at (34 - length parts) (k - length parts)
+
 pub new_placed : (ram : List ℕ) (disk_size kind head sector size used : ℕ) (parts : List VirtioPart) → 2 ≤ length parts → length parts ≤ 34 → 1 ≤ size → size ≤ 64 → used % 4 ≡ 0 →
     used < 2 ^ 63 → length ram < 2 ^ 62
     → IsPlaced (new_of head sector size used (result_by ram disk_size kind sector (data_of parts)) parts)
@@ -76,6 +89,7 @@ new_placed ram disk_size kind head sector size used parts few most some large al
       data_first = λ before. refl;
       offset = λ before. omega arith;
       at_end = λ end. refl;
+      empty = λ k past. padded_empty parts k past;
       addresses = λ k from to any.
           let same = part_padded parts k (omega (arith, to)) in
           subst (λ (p : VirtioPart). p.gpa + p.len < 2 ^ 63) (sym same)

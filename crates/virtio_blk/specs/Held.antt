@@ -3,7 +3,7 @@ use Rattle.std.specs.Prelude.{◌≡◌, ℕ, ◌+◌, ◌-◌, ◌*◌, ◌%◌
 use Rattle.std.specs.Prelude.{Option, Some, None, IfSome}
 use Rattle.spec_processor.specs.Bytes.{page_size, ram_base, ram_offset}
 use Rattle.spec_reference.specs.BlockDisk.{beat_size}
-use Rattle.spec_reference.specs.VirtioDevice.{VirtioDevice, index_values, max_places}
+use Rattle.spec_reference.specs.VirtioDevice.{VirtioDevice, index_values, is_broken, max_places}
 use Rattle.spec_reference.specs.VirtioQueue.{ring_header_size, available_entry_size, used_entry_size, used_word_size, ring_index_size}
 use Rattle.spec_reference.specs.VirtioStores.{is_size, descriptors_alignment, available_alignment, used_alignment}
 use Rattle.spec_reference.specs.VirtioChain.{descriptor_size, header_size, no_part, max_parts, header_of, least_parts}
@@ -61,6 +61,8 @@ pub record IsPlaced (q : VirtioRequest) : Type 0 where
   -- no more bytes of a part are moved than it has
   pub offset : q.part < last_place q → q.offset ≤ (part_at q q.part).len
   pub at_end : q.part ≡ last_place q → q.offset ≡ 0
+  -- places from the number of descriptors on are empty
+  pub empty : (k : ℕ) → q.count ≤ k → part_at q k ≡ no_part
   -- the addresses of bytes don't wrap
   pub addresses : (k : ℕ) → q.part ≤ k → k < last_place q → 0 < (part_at q k).len → (part_at q k).gpa + (part_at q k).len < 2 ^ 63
   pub size_some : 1 ≤ q.size
@@ -72,7 +74,7 @@ pub record IsPlaced (q : VirtioRequest) : Type 0 where
 abbrev pub IsOnDisk : ℕ → VirtioRequest → Type 0
 IsOnDisk disk_size q = q.part < last_place q → disk_offset q + bytes_in (data_left q) ≤ disk_size
 
--- the queue in use has a size and its three alignments; a request is in its chain and on the disk
+-- the queue in use has a size and its three alignments; a request is in its chain and on the disk, and the device isn't broken
 pub record IsSound (h : Held) : Type 0 where
   pub accepted : h.state.accepted < index_values
   pub size : h.state.ready ≡ true → is_size h.state.size ≡ true
@@ -81,6 +83,7 @@ pub record IsSound (h : Held) : Type 0 where
   pub used : h.state.ready ≡ true → h.state.used % used_alignment ≡ 0
   pub placed : IfSome h.state.request IsPlaced
   pub on_disk : IfSome h.state.request (IsOnDisk (length h.bytes))
+  pub whole : IfSome h.state.request (λ q. is_broken (device_of h) ≡ false)
 
 -- ---- the place in a chain, as moves are taken
 

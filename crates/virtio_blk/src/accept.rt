@@ -1,6 +1,6 @@
 // The next request: a look into the queue, and the chain that is accepted.
 
-ghost use Rattle.std.specs.Prelude.{◌≡◌, ℕ, ◌++◌, ◌+◌, ◌-◌, ◌*◌, ◌%◌, ◌<◌, ◌≤◌, ◌^◌, IsTrue, true, length, replicate};
+ghost use Rattle.std.specs.Prelude.{◌≡◌, ℕ, ◌++◌, ◌+◌, ◌-◌, ◌*◌, ◌%◌, ◌<◌, ◌≤◌, ◌^◌, IsTrue, true, false, length, replicate};
 ghost use Rattle.spec_processor.specs.Bytes.{ram_offset};
 ghost use Rattle.spec_reference.specs.VirtioStores.{is_size, used_alignment};
 ghost use Rattle.spec_processor.specs.Regions.{Region};
@@ -11,7 +11,7 @@ ghost use Rattle.spec_reference.specs.VirtioRequests.{type_of, sector_of, result
 ghost use Rattle.spec_reference.specs.VirtioBeats.{accept_request, accept, look};
 ghost use Rattle.spec_reference.specs.VirtioStates.{request_of};
 ghost use Rattle.virtio_blk.specs.Held.{HaveRings, HasHeader, IsPlaced, IsOnDisk, device_of, padded_parts, new_of};
-ghost use Rattle.spec_reference.specs.VirtioDevice.{index_values};
+ghost use Rattle.spec_reference.specs.VirtioDevice.{index_values, is_broken};
 
 use crate::Virtio;
 use crate::chain::{DESCRIPTOR_BYTES, read_chain};
@@ -193,6 +193,7 @@ impl Virtio {
         requires most { length parts.now ≤ max_parts }
         requires head { head < index_values }
         requires ready { self.old.state.ready ≡ true }
+        requires whole { is_broken (device_of self.old) ≡ false }
         requires rings { HaveRings (device_of self.old) ram.now }
         requires small { length ram.now < 2 ^ 62 }
         ensures { device_of self.new ≡ accept_request (device_of self.old) ram.now head parts.now }
@@ -208,6 +209,7 @@ impl Virtio {
     fn accept(&mut self, ram: &[u8], head: u64) -> DmaStep
         requires head { head < index_values }
         requires ready { self.old.state.ready ≡ true }
+        requires whole { is_broken (device_of self.old) ≡ false }
         requires rings { HaveRings (device_of self.old) ram.now }
         requires small { length ram.now < 2 ^ 62 }
         ensures device { device_of self.new ≡
@@ -237,6 +239,7 @@ impl Virtio {
     #[tactic(auto, unfolding(spec_reference::specs::VirtioBeats::look))]
     pub(crate) fn look(&mut self, mem: &HostMem) -> DmaStep
         requires ready { self.old.state.ready ≡ true }
+        requires whole { is_broken (device_of self.old) ≡ false }
         ensures device { device_of self.new ≡ (look (device_of self.old) mem.now.ram).device }
         ensures told { result ≡ beat_of (look (device_of self.old) mem.now.ram).move }
         ensures still { (region : Region) → after_move region (look (device_of self.old) mem.now.ram).move ≡ region }

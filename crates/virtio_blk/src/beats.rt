@@ -9,6 +9,7 @@ ghost use Rattle.spec_reference.specs.Move.{OutsideRam};
 ghost use Rattle.dma_guard.specs.Transfers.{beat_of, after_move};
 ghost use Rattle.spec_reference.specs.VirtioBeats.{broken_beat, last_moves_alone, with_written, with_request, finish_request, is_last};
 ghost use Rattle.spec_reference.specs.VirtioBeats.{make, make_first, to_memory, to_disk, put_last, is_live, virtio_beat};
+ghost use Rattle.spec_reference.specs.VirtioDevice.{is_broken};
 ghost use Rattle.spec_reference.specs.VirtioStates.{request_of, moves_left};
 ghost use Rattle.virtio_blk.specs.Held.{IsPlaced, IsOnDisk, CanBeMade, device_of};
 
@@ -86,10 +87,19 @@ fn low_4(value: u64) -> [u8; 4]
     bytes
 }
 
+// Data that one move takes: its guest-physical address, its place on the disk, and how many bytes it has.
+#[derive(Clone, Copy, Drop)]
+struct Piece {
+    gpa: u64,
+    place: u64,
+    size: u64,
+}
+
 impl Virtio {
     fn is_live(&self) -> bool
         ensures value { result ≡ is_live (device_of self.now) }
         ensures ready { IsTrue result → self.now.state.ready ≡ true }
+        ensures whole { IsTrue result → is_broken (device_of self.now) ≡ false }
     {
         has_bit(self.state.status as u64, DRIVER_OK_BIT) && self.state.ready && !self.is_broken()
     }
@@ -107,6 +117,7 @@ impl Virtio {
     fn keep(&mut self, request: VirtioRequest)
         requires placed { IsPlaced request }
         requires on_disk { IsOnDisk (length self.old.bytes) request }
+        requires whole { is_broken (device_of self.old) ≡ false }
         ensures { self.new ≡ record self.old { state = record self.old.state { request = Some request } } }
     {
         self.state.request = Some(request);
@@ -120,32 +131,33 @@ impl Virtio {
         self.state.interrupt |= REQUEST_DONE;
     }
 
-    // Bytes of the disk go into memory. Seven parameters: the move's three parts are numbers of one variant, and the guard and
-    // the memory belong to the bus.
-    #[tactic(auto, unfolding(spec_reference::specs::VirtioBeats::to_memory, dma_guard::specs::Transfers::write_answer, dma_guard::specs::Transfers::after_write))]
+    // Bytes of the disk go into memory.
+    #[tactic(auto, unfolding(crate::proofs::MoveForms::data_written))]
     fn to_memory(
         &mut self,
         request: &VirtioRequest,
-        gpa: u64,
-        place: u64,
-        size: u64,
+        piece: Piece,
         guard: &DmaGuard,
         mem: &mut HostMem,
     ) -> DmaStep
-        requires small { size ≤ beat_size }
-        requires one_page { gpa % page_size + size ≤ page_size }
-        requires inside { place + size ≤ length self.old.bytes }
+        requires small { piece.size ≤ beat_size }
+        requires one_page { piece.gpa % page_size + piece.size ≤ page_size }
+        requires inside { piece.place + piece.size ≤ length self.old.bytes }
         requires placed { IsPlaced request.now }
         requires on_disk { IsOnDisk (length self.old.bytes) request.now }
+        requires whole { is_broken (device_of self.old) ≡ false }
         requires first { request.now.tail ≡ 0 }
         ensures device { device_of self.new ≡
-            (to_memory (device_of self.old) (request_of self.old.state.accepted request.now) gpa place size mem.old.ram (is_writable guard.now)).device }
+            (to_memory (device_of self.old) (request_of self.old.state.accepted request.now) piece.gpa piece.place piece.size mem.old.ram
+            (is_writable guard.now)).device }
         ensures told { result ≡
-            beat_of (to_memory (device_of self.old) (request_of self.old.state.accepted request.now) gpa place size mem.old.ram (is_writable guard.now)).move }
+            beat_of (to_memory (device_of self.old) (request_of self.old.state.accepted request.now) piece.gpa piece.place piece.size mem.old.ram
+            (is_writable guard.now)).move }
         ensures memory { mem.new ≡
-            after_move mem.old (to_memory (device_of self.old) (request_of self.old.state.accepted request.now) gpa place size mem.old.ram
+            after_move mem.old (to_memory (device_of self.old) (request_of self.old.state.accepted request.now) piece.gpa piece.place piece.size mem.old.ram
             (is_writable guard.now)).move }
     {
+        let Piece { gpa, place, size } = piece;
         let from = place as usize;
         match guard.write(mem, gpa, &self.bytes[from..from + size as usize]) {
             Ok(()) => {
@@ -167,7 +179,7 @@ impl Virtio {
     }
 
     // One of the last moves writes its bytes, and the request goes on; or it breaks the device.
-    #[tactic(auto, unfolding(spec_reference::specs::VirtioBeats::put_last, dma_guard::specs::Transfers::write_answer, dma_guard::specs::Transfers::after_write))]
+    #[tactic(auto, unfolding(crate::proofs::MoveForms::last_written))]
     fn put_last(
         &mut self,
         request: &VirtioRequest,
@@ -180,6 +192,7 @@ impl Virtio {
         requires one_page { gpa % page_size + length bytes.now ≤ page_size }
         requires placed { IsPlaced request.now }
         requires on_disk { IsOnDisk (length self.old.bytes) request.now }
+        requires whole { is_broken (device_of self.old) ≡ false }
         ensures device { device_of self.new ≡
             (put_last (device_of self.old) (with_request (device_of self.old) (request_of self.old.state.accepted request.now)) gpa bytes.now
             mem.old.ram (is_writable guard.now)).device }
@@ -210,7 +223,7 @@ impl Virtio {
     }
 
     // The used ring's index is the last move: the request is done, or the device is broken.
-    #[tactic(auto, unfolding(spec_reference::specs::VirtioBeats::put_last, dma_guard::specs::Transfers::write_answer, dma_guard::specs::Transfers::after_write))]
+    #[tactic(auto, unfolding(crate::proofs::MoveForms::last_written))]
     fn put_index(
         &mut self,
         gpa: u64,
@@ -267,6 +280,7 @@ impl Virtio {
         requires inside { place + size ≤ length self.old.bytes }
         requires placed { IsPlaced request.now }
         requires on_disk { IsOnDisk (length self.old.bytes) request.now }
+        requires whole { is_broken (device_of self.old) ≡ false }
         ensures device { device_of self.new ≡
             (to_disk (device_of self.old) (request_of self.old.state.accepted request.now) gpa place size mem.now.ram).device }
         ensures told { result ≡ beat_of (to_disk (device_of self.old) (request_of self.old.state.accepted request.now) gpa place size mem.now.ram).move }
@@ -295,6 +309,7 @@ impl Virtio {
     ) -> DmaStep
         requires placed { IsPlaced request.now }
         requires on_disk { IsOnDisk (length self.old.bytes) request.now }
+        requires whole { is_broken (device_of self.old) ≡ false }
         requires made { CanBeMade (length self.old.bytes) next }
         requires data_first { is_last next ≡ false → request.now.tail ≡ 0 }
         ensures device { device_of self.new ≡
@@ -306,7 +321,7 @@ impl Virtio {
     {
         match next {
             VirtioMove::ToMemory { gpa, place, size } => {
-                self.to_memory(request, gpa, place, size, guard, mem)
+                self.to_memory(request, Piece { gpa, place, size }, guard, mem)
             }
             VirtioMove::ToDisk { gpa, place, size } => {
                 self.to_disk(request, gpa, place, size, mem)
@@ -330,6 +345,7 @@ impl Virtio {
     fn go_on(&mut self, mut request: VirtioRequest, guard: &DmaGuard, mem: &mut HostMem) -> DmaStep
         requires placed { IsPlaced request }
         requires on_disk { IsOnDisk (length self.old.bytes) request }
+        requires whole { is_broken (device_of self.old) ≡ false }
         requires fits { IsOnDisk (2 ^ 63) request }
         requires under_way { self.old.state.request ≡ Some request }
         ensures device { device_of self.new ≡

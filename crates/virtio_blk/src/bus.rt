@@ -6,7 +6,7 @@ ghost use Rattle.spec_reference.specs.VirtioDevice.{is_broken, is_selected};
 ghost use Rattle.spec_reference.specs.VirtioRegisters.{register_value};
 ghost use Rattle.spec_reference.specs.VirtioStores.{reset, with_features, kept_status, with_status, can_set, can_be_used, with_ready};
 ghost use Rattle.spec_reference.specs.VirtioStores.{with_size, with_descriptors, with_available, with_used, with_low, with_high, put};
-ghost use Rattle.virtio_blk.specs.Held.{device_of, state_at_reset};
+ghost use Rattle.virtio_blk.specs.Held.{IsSound, device_of, state_at_reset};
 
 use crate::Virtio;
 use spec_processor::has_bit;
@@ -76,9 +76,18 @@ impl Virtio {
         }
     }
 
+    /// A device with a disk, as its registers and its request say.
+    pub fn from_state(state: VirtioState, disk: Vec<u8>) -> Virtio
+        requires sound { IsSound (record { state = state; bytes = disk.items }) }
+        ensures { result ≡ record { state = state; bytes = disk.items } }
+    {
+        Virtio { state, bytes: disk }
+    }
+
     /// The registers and the request under way.
     pub fn state(&self) -> VirtioState
-        ensures { result ≡ self.now.state }
+        ensures value { result ≡ self.now.state }
+        ensures sound { IsSound self.now }
     {
         self.state
     }

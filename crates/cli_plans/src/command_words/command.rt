@@ -29,7 +29,7 @@ pub struct RunWords<'a> {
     pub save: &'a str,
 }
 
-/// `survey IMAGE POLICY DISK SCRIPT EVENTS`
+/// `survey IMAGE POLICY DISK SCRIPT EVENTS`, or `debug` with the same words
 #[derive(Drop)]
 pub struct SurveyWords<'a> {
     pub image: &'a str,

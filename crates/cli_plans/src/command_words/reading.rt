@@ -68,7 +68,7 @@ pub fn split_run<'a>(
     Ok(found::run(kind, &matches))
 }
 
-/// `survey IMAGE POLICY DISK SCRIPT EVENTS`
+/// `survey IMAGE POLICY DISK SCRIPT EVENTS`, or `debug` with the same words.
 pub fn split_survey<'a>(alloc: Global, words: &'a [String]) -> Result<SurveyWords<'a>, AllocError>
     requires known { IsTrue (is_some (survey_split (map string_bytes words.now))) }
     requires plain { list_any has_dash (map string_bytes words.now) ≡ false }

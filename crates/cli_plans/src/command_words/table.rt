@@ -13,6 +13,7 @@ pub enum CommandName {
     /// With the block device that its machine has.
     Run(DiskKind),
     Survey,
+    Debug,
     /// With the block device that its machine has.
     Live(DiskKind),
     Snap,
@@ -52,6 +53,8 @@ const VIRTIO_RUN_NAME: &str = "vrun";
 
 const SURVEY_NAME: &str = "survey";
 
+const DEBUG_NAME: &str = "debug";
+
 const LIVE_NAME: &str = "live";
 
 const VIRTIO_LIVE_NAME: &str = "vlive";
@@ -71,7 +74,7 @@ const MEASURE_NAME: &str = "measure";
 const CONVERT_NAME: &str = "convert";
 
 /// All commands, in the order in which they are explained.
-pub static COMMANDS: [CommandRow; 14] = [
+pub static COMMANDS: [CommandRow; 15] = [
     CommandRow {
         name: MEASURE_NAME,
         command: CommandName::Measure,
@@ -96,6 +99,11 @@ pub static COMMANDS: [CommandRow; 14] = [
         name: SURVEY_NAME,
         command: CommandName::Survey,
         about: "runs a kernel past each write that breaks its policy, and tells what breaks it, and where",
+    },
+    CommandRow {
+        name: DEBUG_NAME,
+        command: CommandName::Debug,
+        about: "runs a kernel for gdb, which asks over standard input: target remote | secvisor debug ...",
     },
     CommandRow {
         name: LIVE_NAME,
@@ -326,6 +334,7 @@ pub fn arguments_of(command: CommandName) -> &'static [Argument<'static>]
         CommandName::Generated => &GENERATED,
         CommandName::Run(_) => &RUN,
         CommandName::Survey => &SURVEY,
+        CommandName::Debug => &SURVEY,
         CommandName::Live(_) => &LIVE,
         CommandName::Snap => &SNAP,
         CommandName::Sweep => &SWEEP,
@@ -347,6 +356,7 @@ pub fn command_of_name(name: &str) -> Option<CommandName>
         RUN_NAME => Some(CommandName::Run(DiskKind::Block)),
         VIRTIO_RUN_NAME => Some(CommandName::Run(DiskKind::Virtio)),
         SURVEY_NAME => Some(CommandName::Survey),
+        DEBUG_NAME => Some(CommandName::Debug),
         LIVE_NAME => Some(CommandName::Live(DiskKind::Block)),
         VIRTIO_LIVE_NAME => Some(CommandName::Live(DiskKind::Virtio)),
         SNAP_NAME => Some(CommandName::Snap),

@@ -1,11 +1,13 @@
 // Laws of the commands. A law takes no argument and does nothing; its clause is the theorem.
 ghost use Rattle.cli_snap.specs.ResumeEnds.{ResumeEndsLaw};
+ghost use Rattle.spec_reference.specs.Start.{boot_start, virtio_start};
 ghost use Rattle.cli_snap.specs.SnapAndResume.{SnapAndResumeLaw};
 
 /// Under a policy whose measure the kernel has, `snap` with some events and `resume` of what it saved, with no fewer, print and
 /// leave together what `run` does.
 pub fn law_snap_and_resume()
-    ensures { SnapAndResumeLaw }
+    ensures block { SnapAndResumeLaw boot_start }
+    ensures virtio { SnapAndResumeLaw virtio_start }
 {}
 
 /// Where the files tell what they hold and no read of them fails, and their names hold a snapshot, a policy and a script in range,

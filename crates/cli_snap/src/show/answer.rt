@@ -1,15 +1,17 @@
 // The answer to the words of `show`.
-ghost use Rattle.std.specs.Prelude.{◌≡◌, ◌<◌, ◌≤◌, ◌-◌, ℕ, List, Some, Ok, map, string_bytes, IsTrue};
+ghost use Rattle.std.specs.Prelude.{◌≡◌, ◌<◌, ◌≤◌, ◌-◌, ℕ, List, Some, Ok, false, map, string_bytes, IsTrue};
 ghost use Rattle.host_io.specs.Outside.{MayWrite};
 ghost use Rattle.spec_processor.specs.Counters.{CanCount};
 ghost use Rattle.snapshot_format.specs.Snapshots.{contents};
+ghost use Rattle.cli_plans.specs.Refusals.{is_formatted};
+ghost use Rattle.cli_plans.specs.declared.file_fault.FileFault.TheVariants as Fault;
+ghost use Rattle.cli_plans.specs.declared.refusal.Refusal.TheVariants as Why;
 ghost use Rattle.cli_snap.specs.SnapshotTexts as text;
 ghost use Rattle.cli_snap.specs.Showing as spec;
 ghost use Rattle.cli_snap.specs.Answers.{Ends, Refuses, ShowsFile, Shows, Headline, Answers, MayAsk};
 
-use crate::show::refusal::ShowRefusal;
 use crate::show::whole::snapshot_text;
-use cli_plans::{Unread, ask_show};
+use cli_plans::{FileFault, Part, Refusal, Unread, ask_show};
 use host_io::{FileRefusal, Files, Sink, Trouble, status_of_end, write_all};
 use snapshot_format::reader::{MAX_SNAPSHOT_BYTES, ReadError, read};
 use snapshot_format::{SnapRefusal, Snapshot};
@@ -58,7 +60,7 @@ fn answer<F: Files, O: Sink>(
 {
     match ask_show(alloc, words) {
         Ok(name) => show_file(alloc, name, files, out),
-        Err(Unread::Refused(_)) => refuse(ShowRefusal::NoCommand, out),
+        Err(Unread::Refused(_)) => refuse(alloc, Refusal::NoCommand, out),
         Err(Unread::Memory) => Err(Trouble::Memory),
     }
 }
@@ -76,10 +78,14 @@ fn show_file<F: Files, O: Sink>(
 {
     match files.read(alloc, name, MAX_SNAPSHOT_BYTES) {
         Ok(bytes) => show_bytes(alloc, &bytes, out),
-        Err(FileRefusal::Absent) | Err(FileRefusal::Failed) => {
-            refuse(ShowRefusal::ReadFault, out)
-        }
-        Err(FileRefusal::TooLong) => refuse(ShowRefusal::NoSnapshot(SnapRefusal::TooLong), out),
+        Err(FileRefusal::Absent) | Err(FileRefusal::Failed) => refuse(
+            alloc,
+            Refusal::ReadFault {
+                part: Part::Snapshot,
+            },
+            out,
+        ),
+        Err(FileRefusal::TooLong) => refuse(alloc, no_snapshot(SnapRefusal::TooLong), out),
         Err(FileRefusal::Memory) => Err(Trouble::Memory),
     }
 }
@@ -91,7 +97,7 @@ fn show_bytes<O: Sink>(alloc: Global, bytes: &[u8], out: &mut O) -> Result<Statu
 {
     match read(alloc, bytes) {
         Ok(snapshot) => print(alloc, &snapshot, out),
-        Err(ReadError::Refused(refusal)) => refuse(ShowRefusal::NoSnapshot(refusal), out),
+        Err(ReadError::Refused(refusal)) => refuse(alloc, no_snapshot(refusal), out),
         Err(ReadError::Memory) => Err(Trouble::Memory),
     }
 }
@@ -105,10 +111,20 @@ fn print<O: Sink>(alloc: Global, snapshot: &Snapshot, out: &mut O) -> Result<Sta
     Ok(Status::Done)
 }
 
-fn refuse<O: Sink>(refusal: ShowRefusal, out: &mut O) -> Result<Status, Trouble>
+fn no_snapshot(refusal: SnapRefusal) -> Refusal
+    ensures { result ≡ Why.File (Fault.Snapshot refusal) }
+{
+    Refusal::File {
+        fault: FileFault::Snapshot(refusal),
+    }
+}
+
+// A refusal whose line takes no memory.
+fn refuse<O: Sink>(alloc: Global, refusal: Refusal, out: &mut O) -> Result<Status, Trouble>
     requires sink { MayWrite (O.state out.old) }
+    requires plain { is_formatted refusal ≡ false }
     ensures { Refuses refusal (O.state out.old) (O.state out.new) result }
 {
-    write_all(out, refusal.line().as_bytes())?;
+    refusal.write_line(alloc, out)?;
     Ok(refusal.status())
 }

@@ -1,12 +1,12 @@
 // A run that stops, made small.
-ghost use Rattle.std.specs.Prelude.{◌≡◌, ◌≤◌, ◌%◌, IfOk, length};
+ghost use Rattle.std.specs.Prelude.{◌≡◌, ◌≤◌, ◌<◌, ◌+◌, ◌%◌, IfOk, length};
 ghost use Rattle.sv_types.specs.Limits.{max_events};
 ghost use Rattle.spec_reference.specs.BlockDisk.{sector_size};
 ghost use Rattle.cli_trials.specs.Trials.{text_outcome};
-ghost use Rattle.cli_trials.specs.Shrinking.{IsShrunk, AreShrunk};
+ghost use Rattle.cli_trials.specs.Shrinking.{IsShrunk, IsSmall};
 
-use crate::machine::{NoOutcome, Order, RunFiles, keep_memory, script_of_order, try_order};
 use crate::shrink::trial::Trial;
+use crate::trial::{NoOutcome, Order, RunFiles, keep_memory, script_of_order, try_order};
 use script::EventRun;
 use script_lines::delta_debugging::Stops;
 use script_lines::{script_text, shrink_lines, write_out};
@@ -16,8 +16,8 @@ use std::thread::Threads;
 /// The most runs by which a script is made small.
 pub const MAX_RUNS: u64 = 10_000;
 
-// The runs before any line is taken away: that of the order, and that of its lines.
-const FIRST_RUNS: u64 = 2;
+// The run of the order itself, before those of lines.
+const FIRST_RUN: u64 = 1;
 
 /// A small script.
 #[derive(Drop)]
@@ -26,6 +26,7 @@ pub struct Script {
     pub lines: Vec<EventRun>,
     /// The lines up to the stop, before any was taken away.
     pub lines_before: usize,
+    /// How many runs were made, that of the order among them.
     pub runs: u64,
     /// The runs sufficed: without any one of its lines it doesn't stop so. Else all were used up.
     pub minimal: bool,
@@ -61,23 +62,28 @@ pub fn shrink<R: Threads + Sync>(
     let Ok(lines) = write_out(alloc, script, ending.events) else {
         return Err(NoOutcome::Memory);
     };
-    let trial = Trial {
+    let mut trial = Trial {
         alloc,
         files: *files,
         events,
         wanted: ending.outcome,
+        runs_left: MAX_RUNS - FIRST_RUN,
     };
-    shrink_by(rt, alloc, &trial, lines)
+    let script = shrink_by(rt, alloc, &mut trial, lines)?;
+    Ok(Shrunk::Made(script))
 }
 
-// Makes lines small that stop as a trial wants.
+// Makes lines small that stop as a trial wants. Each run of lines is one of the trial's.
 fn shrink_by<R: Threads + Sync>(
     rt: &R,
     alloc: Global,
-    trial: &Trial<'_>,
+    trial: &mut Trial<'_>,
     lines: Vec<EventRun>,
-) -> Result<Shrunk, NoOutcome>
-    ensures { IfOk result (AreShrunk trial.now.wanted (text_outcome trial.now.files trial.now.events)) }
+) -> Result<Script, NoOutcome>
+    requires some { 0 < trial.old.runs_left }
+    requires most { trial.old.runs_left ≤ MAX_RUNS }
+    ensures small { IfOk result (IsSmall trial.old.wanted (text_outcome trial.old.files trial.old.events)) }
+    ensures runs { IfOk result (λ script. script.runs + trial.new.runs_left ≡ MAX_RUNS) }
 {
     let mut lines = lines;
     let lines_before = lines.len();
@@ -86,18 +92,17 @@ fn shrink_by<R: Threads + Sync>(
         // The lines are the events of the run, so that they stop as it does.
         Ok(false) | Err(_) => return Err(NoOutcome::Memory),
     }
-    let mut runs = MAX_RUNS - FIRST_RUNS;
-    let Ok(minimal) = shrink_lines(rt, alloc, trial, &mut lines, &mut runs) else {
+    let Ok(minimal) = shrink_lines(rt, alloc, trial, &mut lines) else {
         return Err(NoOutcome::Memory);
     };
     let Ok(text) = script_text(alloc, &lines) else {
         return Err(NoOutcome::Memory);
     };
-    Ok(Shrunk::Made(Script {
+    Ok(Script {
         text,
         lines,
         lines_before,
-        runs: MAX_RUNS - runs,
+        runs: MAX_RUNS - trial.runs_left,
         minimal,
-    }))
+    })
 }

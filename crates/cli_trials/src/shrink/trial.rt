@@ -6,7 +6,7 @@ ghost use Rattle.script_lines.specs.Lines.{text_of};
 ghost use Rattle.cli_trials.specs.Trials.{text_outcome};
 ghost use Rattle.cli_trials.specs.Shrinking.{is_outcome};
 
-use crate::machine::{NoOutcome, Order, RunFiles, try_order};
+use crate::trial::{NoOutcome, Order, RunFiles, try_order};
 use script::EventRun;
 use script_lines::delta_debugging::Stops;
 use script_lines::script_text;
@@ -14,7 +14,7 @@ use script_lines::tally::Outcome;
 use std::alloc::{AllocError, Global};
 use std::thread::Threads;
 
-/// A run of these files under lines, which is to stop in one way.
+/// A run of these files under lines, which is to stop in one way, with the number of runs that are left.
 #[derive(Drop)]
 pub(crate) struct Trial<'a> {
     pub alloc: Global,
@@ -22,6 +22,7 @@ pub(crate) struct Trial<'a> {
     /// The most events of a run.
     pub events: u64,
     pub wanted: Outcome,
+    pub runs_left: u64,
     ghost sectors: { length files.disk.now % sector_size ≡ 0 },
     ghost few: { events ≤ max_events },
 }
@@ -29,8 +30,15 @@ pub(crate) struct Trial<'a> {
 impl Stops<EventRun> for Trial<'_> {
     ghost stops = { λ trial lines. is_outcome trial.wanted (text_outcome trial.files trial.events (text_of lines)) };
 
+    ghost left = { λ trial. trial.runs_left };
+
     // The lines are written as a text, and read. A machine that isn't booted counts as out of memory: others were booted before.
-    fn stops_so<R: Threads + Sync>(&self, rt: &R, lines: &[EventRun]) -> Result<bool, AllocError> {
+    fn stops_so<R: Threads + Sync>(
+        &mut self,
+        rt: &R,
+        lines: &[EventRun],
+    ) -> Result<bool, AllocError> {
+        self.runs_left -= 1;
         let text = script_text(self.alloc, lines)?;
         let order = Order::Text(text.as_str().as_bytes());
         match try_order(rt, self.alloc, &self.files, &order, self.events) {
@@ -38,5 +46,9 @@ impl Stops<EventRun> for Trial<'_> {
             Err(NoOutcome::Script) => Ok(false),
             Err(NoOutcome::Refused) | Err(NoOutcome::Memory) => Err(AllocError),
         }
+    }
+
+    fn runs_left(&self) -> u64 {
+        self.runs_left
     }
 }

@@ -1,6 +1,6 @@
 // Turns of one hart in a row, each of which carries out an instruction, and the answer to the exit after them.
 
-ghost use Rattle.std.specs.Prelude.{◌≡◌, ◌%◌, ◌+◌, ◌-◌, ◌≤◌, ◌<◌, ◌^◌, true, length};
+ghost use Rattle.std.specs.Prelude.{◌≡◌, ◌%◌, ◌+◌, ◌-◌, ◌≤◌, ◌<◌, ◌^◌, true, length, not};
 ghost use Rattle.spec_processor.specs.Counters.{CanCount};
 ghost use Rattle.spec_processor.specs.Bytes.{instruction_size};
 ghost use Rattle.spec_processor.specs.declared.mode.Mode.TheVariants.{Kernel};
@@ -11,7 +11,7 @@ ghost use Rattle.hw_fast_path.specs.declared.leaving.Leaving.TheVariants.{Return
 ghost use Rattle.hw_platform.specs.Attempts.{hart_in, IsReady};
 ghost use Rattle.hw_platform.specs.Batches.{AreFree};
 ghost use Rattle.secvisor_core.specs.Serving.{MayTrap};
-ghost use Rattle.machine.specs.Batches.{AnswersLeaving, EndsBatch, IsQuietAt, counted_batch, MayBatch};
+ghost use Rattle.machine.specs.Batches.{AnswersLeaving, EndsBatch, IsQuietAt, counted_batch, MayBatch, reserves_nothing};
 ghost use Rattle.machine.specs.EventsLimits.{max_counts};
 
 use crate::events::system::System;
@@ -19,7 +19,7 @@ use hw_fast_path::{Batch, Leaving};
 use machine_journal::Journal;
 use monitor_exits::Trap;
 use spec_processor::{Cause, ExitCause};
-use sv_types::Verdict;
+use sv_types::{Event, Verdict};
 
 // So many turns counted, each with its instruction.
 #[tactic(auto, using(crate::proofs::EventsBatches::batch_counted))]
@@ -39,6 +39,28 @@ impl System {
         ensures { result ≡ true → AreFree self.now.harts }
     {
         self.hardware.are_free()
+    }
+
+    /// No hart gets a reservation by an event. In a turn a stopped hart gets none.
+    #[inline(always)]
+    pub fn reserves_nothing(&self, event: Event) -> bool
+        ensures { result ≡ reserves_nothing self.now event }
+    {
+        match event {
+            Event::Turn(hart) => self.is_stopped(hart),
+            Event::Beat | Event::Key(_) | Event::Tick(_) | Event::Poke { gpa: _, value: _ } => true,
+        }
+    }
+
+    /// A hart isn't started, or isn't there.
+    #[inline(always)]
+    pub fn is_stopped(&self, hart: u8) -> bool
+        ensures { result ≡ not (hart_in self.now.harts hart).started }
+    {
+        if hart as usize >= self.hardware.slots.len() {
+            return true;
+        }
+        !self.hardware.slots[hart as usize].hart.started
     }
 
     /// A hart makes attempts in its turns, and no interrupt is due.

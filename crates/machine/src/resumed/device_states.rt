@@ -9,7 +9,7 @@ ghost use Rattle.hw_devices.specs.Ports.{port_disk};
 ghost use Rattle.snapshot_format.specs.ResumedStates.{timers_of};
 ghost use Rattle.machine.specs.Timing.{timer_in};
 
-use hw_devices::{Block, Devices, NEVER, Port};
+use hw_devices::{Devices, NEVER, Port};
 use spec_reference::saved_machine::SavedHart;
 use sv_types::{MAX_HARTS, PortState};
 
@@ -22,7 +22,7 @@ pub fn devices_of(
     time: u64,
     harts: &[SavedHart],
 ) -> Devices
-    requires form { form.devices.has (input.now, (port, disk.items)) ≡ true }
+    requires form { (form.devices (form.kind_of port)).has (input.now, (port, disk.items)) ≡ true }
     requires few { length harts.now ≤ max_harts }
     ensures { result ≡ record { console = input.now; disk = disk_of port disk.items; clock = record { time = time; timers = timers_of harts.now } } }
 {
@@ -31,16 +31,13 @@ pub fn devices_of(
     devices
 }
 
-// A snapshot has this project's block device alone.
+// The device with its disk, as a snapshot has them.
 fn port_of(port: PortState, disk: Vec<u8>) -> Port
-    requires port { form.port.has port ≡ true }
-    requires disk { (form.disk (form.block_in port)).has disk.items ≡ true }
+    requires port { (form.port (form.kind_of port)).has port ≡ true }
+    requires disk { (form.disk port).has disk.items ≡ true }
     ensures { port_disk result ≡ disk_of port disk.items }
 {
-    match port {
-        PortState::Block(state) => Port::Block(Block::from_state(state, disk)),
-        PortState::Virtio(_) => unreachable!(),
-    }
+    Port::from_state(port, disk)
 }
 
 // Puts bytes of input after those that wait.

@@ -1,5 +1,5 @@
 // One trial: some items taken away.
-ghost use Rattle.std.specs.Prelude.{◌≡◌, ◌≤◌, ◌+◌, ◌-◌, length, true, IfOk, vec_len, if◌then◌else◌};
+ghost use Rattle.std.specs.Prelude.{◌≡◌, ◌≤◌, ◌<◌, ◌+◌, ◌-◌, length, true, IfOk, OnOk, vec_len, if◌then◌else◌};
 ghost use Rattle.script_lines.specs.Minimal.{IsReduced, without};
 
 use crate::delta_debugging::stops::Stops;
@@ -23,20 +23,24 @@ fn without<T: Copy + Drop>(
     Ok(rest)
 }
 
-/// Takes the items from one place up to another away, where it stops so without them. Answers whether it does.
+/// Takes the items from one place up to another away, where it stops so without them. Answers whether it does, by one run.
 pub(crate) fn try_without<R: Threads + Sync, T: Copy + Drop, S: Stops<T>>(
     rt: &R,
     alloc: Global,
-    test: &S,
+    test: &mut S,
     items: &mut Vec<T>,
     from: usize,
     to: usize,
 ) -> Result<bool, AllocError>
     requires order { from ≤ to }
     requires within { to ≤ vec_len items.old }
-    requires stops { S.stops test.now items.old.items ≡ true }
-    ensures reduced { IsReduced (S.stops test.now) items.old.items items.new.items }
-    ensures answer { IfOk result (λ gone. gone ≡ S.stops test.now (without items.old.items from to)) }
+    requires stops { S.stops test.old items.old.items ≡ true }
+    requires left { 0 < S.left test.old }
+    ensures reduced { IsReduced (S.stops test.old) items.old.items items.new.items }
+    ensures same { S.stops test.new ≡ S.stops test.old }
+    ensures runs { S.left test.new ≤ S.left test.old }
+    ensures run { OnOk result (S.left test.old ≡ S.left test.new + 1) }
+    ensures answer { IfOk result (λ gone. gone ≡ S.stops test.old (without items.old.items from to)) }
     ensures items { IfOk result (λ gone. items.new.items ≡ (if gone then without items.old.items from to else items.old.items)) }
 {
     let rest = without(alloc, items, from, to)?;

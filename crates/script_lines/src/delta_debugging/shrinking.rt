@@ -23,19 +23,18 @@ enum Round {
 fn take_pieces<R: Threads + Sync, T: Copy + Drop, S: Stops<T>>(
     rt: &R,
     alloc: Global,
-    test: &S,
+    test: &mut S,
     items: &mut Vec<T>,
     size: usize,
-    runs: &mut u64,
 ) -> Result<(), AllocError>
     requires size { 0 < size }
-    requires stops { S.stops test.now items.old.items ≡ true }
-    ensures reduced { IsReduced (S.stops test.now) items.old.items items.new.items }
-    ensures runs { runs.new ≤ runs.old }
+    requires stops { S.stops test.old items.old.items ≡ true }
+    ensures reduced { IsReduced (S.stops test.old) items.old.items items.new.items }
+    ensures same { S.stops test.new ≡ S.stops test.old }
+    ensures runs { S.left test.new ≤ S.left test.old }
 {
     let mut from = 0;
-    'pieces: while from < items.len() && *runs > 0 {
-        *runs -= 1;
+    'pieces: while from < items.len() && test.runs_left() > 0 {
         let to = from + size.min(items.len() - from);
         if !try_without(rt, alloc, test, items, from, to)? {
             from = to;
@@ -48,24 +47,23 @@ fn take_pieces<R: Threads + Sync, T: Copy + Drop, S: Stops<T>>(
 fn take_single_items<R: Threads + Sync, T: Copy + Drop, S: Stops<T>>(
     rt: &R,
     alloc: Global,
-    test: &S,
+    test: &mut S,
     items: &mut Vec<T>,
-    runs: &mut u64,
 ) -> Result<Round, AllocError>
-    requires stops { S.stops test.now items.old.items ≡ true }
-    ensures reduced { IsReduced (S.stops test.now) items.old.items items.new.items }
-    ensures minimal { IfOk result (λ round. round ≡ Same → IsOneMinimal (S.stops test.now) items.new.items) }
-    ensures runs { runs.new ≤ runs.old }
-    ensures used { IfOk result (λ round. round ≡ Fewer → runs.new < runs.old) }
-    ensures spent { IfOk result (λ round. round ≡ NoRunsLeft → runs.new ≡ 0) }
+    requires stops { S.stops test.old items.old.items ≡ true }
+    ensures reduced { IsReduced (S.stops test.old) items.old.items items.new.items }
+    ensures minimal { IfOk result (λ round. round ≡ Same → IsOneMinimal (S.stops test.old) items.new.items) }
+    ensures same { S.stops test.new ≡ S.stops test.old }
+    ensures runs { S.left test.new ≤ S.left test.old }
+    ensures used { IfOk result (λ round. round ≡ Fewer → S.left test.new < S.left test.old) }
+    ensures spent { IfOk result (λ round. round ≡ NoRunsLeft → S.left test.new ≡ 0) }
 {
     let mut round = Round::Same;
     let mut at = 0;
     'items: while at < items.len() {
-        if *runs == 0 {
+        if test.runs_left() == 0 {
             return Ok(Round::NoRunsLeft);
         }
-        *runs -= 1;
         if try_without(rt, alloc, test, items, at, at + 1)? {
             round = Round::Fewer;
         } else {
@@ -75,29 +73,29 @@ fn take_single_items<R: Threads + Sync, T: Copy + Drop, S: Stops<T>>(
     Ok(round)
 }
 
-/// Takes items away while it still stops so: halves of the list first, then ever smaller pieces, at last single items. Each trial
-/// uses up a run of those that are left. True where the runs sufficed: then it stops so no more without any one of the items that
-/// are left. False where they are used up. Out of memory it keeps what was reached.
+/// Takes items away while it still stops so: halves of the list first, then ever smaller pieces, at last single items. True where the
+/// runs that the test has left sufficed: then it stops so no more without any one of the items that are left. False where they are used
+/// up, each for a trial. Out of memory it keeps what was reached.
 pub fn minimize<R: Threads + Sync, T: Copy + Drop, S: Stops<T>>(
     rt: &R,
     alloc: Global,
-    test: &S,
+    test: &mut S,
     items: &mut Vec<T>,
-    runs: &mut u64,
 ) -> Result<bool, AllocError>
-    requires stops { S.stops test.now items.old.items ≡ true }
-    ensures reduced { IsReduced (S.stops test.now) items.old.items items.new.items }
-    ensures minimal { IfOk result (λ minimal. minimal ≡ true → IsOneMinimal (S.stops test.now) items.new.items) }
-    ensures spent { IfOk result (λ minimal. minimal ≡ false → runs.new ≡ 0) }
-    ensures runs { runs.new ≤ runs.old }
+    requires stops { S.stops test.old items.old.items ≡ true }
+    ensures reduced { IsReduced (S.stops test.old) items.old.items items.new.items }
+    ensures minimal { IfOk result (λ minimal. minimal ≡ true → IsOneMinimal (S.stops test.old) items.new.items) }
+    ensures spent { IfOk result (λ minimal. minimal ≡ false → S.left test.new ≡ 0) }
+    ensures same { S.stops test.new ≡ S.stops test.old }
+    ensures runs { S.left test.new ≤ S.left test.old }
 {
     let mut size = items.len() / 2;
     'sizes: while size > 1 {
-        take_pieces(rt, alloc, test, items, size, runs)?;
+        take_pieces(rt, alloc, test, items, size)?;
         size /= 2;
     }
-    'rounds: while *runs > 0 {
-        match take_single_items(rt, alloc, test, items, runs)? {
+    'rounds: while test.runs_left() > 0 {
+        match take_single_items(rt, alloc, test, items)? {
             Round::Same => return Ok(true),
             Round::Fewer => {}
             Round::NoRunsLeft => return Ok(false),

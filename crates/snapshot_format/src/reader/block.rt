@@ -1,13 +1,14 @@
 // The bytes of the block device.
 
 ghost use Rattle.std.specs.Prelude.{◌≡◌, ◌<◌, ◌==◌, ◌^◌};
+ghost use Rattle.sv_types.specs.declared.port.PortState.{PortState};
 ghost use Rattle.snapshot_format.specs.Reading.{Gives};
-ghost use Rattle.snapshot_format.specs.DeviceForms.{block, busy, goes_with, has_beats, holds_transfer, standing_status, status_of, transfer};
+ghost use Rattle.snapshot_format.specs.DeviceForms.{block, busy, goes_with, has_beats, lies_on, standing_status, status_of, transfer};
 
 use crate::SnapRefusal;
 use crate::reader::row::{Range, read_row};
 use crate::reader::values::{read_at_most, read_number};
-use sv_types::{BEAT_BYTES, BlockCommand, BlockState, BlockStatus, MAX_DISK_BYTES, SECTOR_BYTES};
+use sv_types::{BEAT_BYTES, BlockCommand, BlockState, BlockStatus, SECTOR_BYTES};
 
 pub(crate) fn read_block(bytes: &[u8]) -> Result<(BlockState, &[u8]), SnapRefusal>
     ensures { Gives (λ x. (x.0, x.1.now)) result (block.taken bytes.now) }
@@ -123,13 +124,10 @@ fn has_beats(count: u64, status: u64, done: u64) -> bool
     }
 }
 
-/// Whether a disk of so many bytes is whole sectors, among them those of a transfer under way.
-pub(crate) fn holds_transfer(state: &BlockState, size: u64) -> bool
-    ensures { result ≡ holds_transfer state.now size }
+/// Whether the sectors of a transfer under way lie on a disk of so many bytes.
+pub(crate) fn lies_on(state: &BlockState, size: u64) -> bool
+    ensures { result ≡ lies_on (PortState.Block state.now) size }
 {
-    if size > MAX_DISK_BYTES || size % SECTOR_BYTES != 0 {
-        return false;
-    }
     if !matches!(state.status, BlockStatus::Busy { .. }) {
         return true;
     }

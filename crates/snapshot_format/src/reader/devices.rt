@@ -1,50 +1,80 @@
-// The bytes of the devices: the console's input, the block device and its disk.
+// The bytes of the devices: the console's input, the device that the disk is behind, and the disk.
 
-ghost use Rattle.sv_types.specs.declared.port.PortState.{PortState};
+ghost use Rattle.std.specs.Prelude.{◌≡◌};
 ghost use Rattle.snapshot_format.specs.Forms.{plain};
-ghost use Rattle.snapshot_format.specs.DeviceForms.{console, devices, disk, port};
+ghost use Rattle.snapshot_format.specs.DeviceForms.{console, devices, disk, holds_disk, lies_on, port};
 ghost use Rattle.snapshot_format.specs.Reading.{Gives, Reads};
 ghost use Rattle.snapshot_format.specs.Views.{devices_parts};
 
-use crate::SnapRefusal;
-use crate::reader::block::{holds_transfer, read_block};
+use crate::reader::block::{lies_on, read_block};
 use crate::reader::read_error::ReadError;
 use crate::reader::values::{read_at_most, read_number, read_plain};
+use crate::reader::virtio::{holds_data, read_virtio};
+use crate::{PortKind, SnapRefusal};
 use std::alloc::Global;
-use sv_types::{BlockState, MAX_QUEUED};
+use sv_types::{MAX_DISK_BYTES, MAX_QUEUED, PortState, SECTOR_BYTES};
 
-/// The console's input, the block device and its disk.
+/// The console's input, the device that the disk is behind, and the disk.
 #[derive(Drop)]
 pub(crate) struct Devices {
     pub(crate) console: Vec<u8>,
-    pub(crate) block: BlockState,
+    pub(crate) port: PortState,
     pub(crate) disk: Vec<u8>,
 }
 
 #[tactic(auto, unfolding(crate::specs::DeviceForms::devices))]
-pub(crate) fn read_devices(alloc: Global, bytes: &[u8]) -> Result<(Devices, &[u8]), ReadError>
-    ensures { Reads (λ x. (devices_parts x.0, x.1.now)) result (devices.taken bytes.now) }
+pub(crate) fn read_devices(
+    alloc: Global,
+    bytes: &[u8],
+    kind: PortKind,
+) -> Result<(Devices, &[u8]), ReadError>
+    ensures { Reads (λ x. (devices_parts x.0, x.1.now)) result ((devices kind).taken bytes.now) }
 {
     let (console, rest) = read_console(alloc, bytes)?;
-    let (block, rest) = read_port(rest)?;
-    let (disk, rest) = read_disk(alloc, rest, &block)?;
+    let (port, rest) = read_port(rest, kind)?;
+    let (disk, rest) = read_disk(alloc, rest, &port)?;
     Ok((
         Devices {
             console,
-            block,
+            port,
             disk,
         },
         rest,
     ))
 }
 
-// The block device.
+// The device of a kind.
 #[tactic(auto, unfolding(crate::specs::DeviceForms::port))]
-fn read_port(bytes: &[u8]) -> Result<(BlockState, &[u8]), SnapRefusal>
-    ensures { Gives (λ x. (PortState.Block x.0, x.1.now)) result (port.taken bytes.now) }
+fn read_port(bytes: &[u8], kind: PortKind) -> Result<(PortState, &[u8]), SnapRefusal>
+    ensures { Gives (λ x. (x.0, x.1.now)) result ((port kind).taken bytes.now) }
 {
-    let (block, rest) = read_block(bytes)?;
-    Ok((block, rest))
+    match kind {
+        PortKind::Block => {
+            let (block, rest) = read_block(bytes)?;
+            Ok((PortState::Block(block), rest))
+        }
+        PortKind::Virtio => {
+            let (virtio, rest) = read_virtio(bytes)?;
+            Ok((PortState::Virtio(virtio), rest))
+        }
+    }
+}
+
+// Whether what a device has under way lies on a disk of so many bytes.
+fn lies_on_disk(port: &PortState, size: u64) -> bool
+    ensures { result ≡ lies_on port.now size }
+{
+    match port {
+        PortState::Block(block) => lies_on(block, size),
+        PortState::Virtio(virtio) => holds_data(&virtio.request, size),
+    }
+}
+
+// Whether a disk of so many bytes is whole sectors, and holds what its device has under way.
+fn holds_disk(port: &PortState, size: u64) -> bool
+    ensures { result ≡ holds_disk port.now size }
+{
+    size <= MAX_DISK_BYTES && size % SECTOR_BYTES == 0 && lies_on_disk(port, size)
 }
 
 #[tactic(auto, unfolding(crate::specs::DeviceForms::console))]
@@ -59,12 +89,12 @@ fn read_console(alloc: Global, bytes: &[u8]) -> Result<(Vec<u8>, &[u8]), ReadErr
 fn read_disk<'a>(
     alloc: Global,
     bytes: &'a [u8],
-    block: &BlockState,
+    port: &PortState,
 ) -> Result<(Vec<u8>, &'a [u8]), ReadError>
-    ensures { Reads (λ x. (x.0.items, x.1.now)) result ((disk block.now).taken bytes.now) }
+    ensures { Reads (λ x. (x.0.items, x.1.now)) result ((disk port.now).taken bytes.now) }
 {
     let (size, rest) = read_number(bytes)?;
-    if !holds_transfer(block, size) {
+    if !holds_disk(port, size) {
         return Err(ReadError::Refused(SnapRefusal::OutOfRange));
     }
     read_bytes(alloc, rest, size)

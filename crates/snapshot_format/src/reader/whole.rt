@@ -2,7 +2,7 @@
 
 ghost use Rattle.std.specs.Prelude.{◌≡◌, ◌≤◌, true, Ok, IfOk};
 ghost use Rattle.sv_types.specs.Limits.{max_harts};
-ghost use Rattle.snapshot_format.specs.Snapshots.{Contents, magic_form, body, contents, header, magic, snapshot, snapshot_read, whole_of};
+ghost use Rattle.snapshot_format.specs.Snapshots.{Contents, magic_form, body, contents, header, snapshot, snapshot_read, whole_of};
 ghost use Rattle.snapshot_format.specs.Reading.{Gives, Reads};
 ghost use Rattle.snapshot_format.specs.Rows.{header_numbers};
 ghost use Rattle.snapshot_format.specs.Views.{body_parts, header_view};
@@ -14,12 +14,14 @@ use crate::reader::modules::{Gate, read_gate};
 use crate::reader::pages::{Pages, read_pages};
 use crate::reader::read_error::ReadError;
 use crate::reader::row::{Range, read_row};
-use crate::{MAGIC, MAGIC_BYTES, SnapRefusal, Snapshot, law_snapshot};
+use crate::{
+    BLOCK_MAGIC, MAGIC_BYTES, PortKind, SnapRefusal, Snapshot, VIRTIO_MAGIC, law_snapshot,
+};
 use policy_limits::{MAX_RAM_PAGES, MIN_RAM_PAGES};
 use spec_processor::PAGE_BYTES;
 use spec_reference::saved_machine::{Saved, SavedHart};
 use std::alloc::Global;
-use sv_types::{MAX_EVENTS, MAX_HARTS, PortState};
+use sv_types::{MAX_EVENTS, MAX_HARTS};
 
 /// The most bytes that a snapshot has.
 pub const MAX_SNAPSHOT_BYTES: usize = 1300 << 20;
@@ -72,7 +74,7 @@ fn put_together(header: Header, body: Body) -> Snapshot
         },
         devices: Devices {
             console,
-            block,
+            port,
             disk,
         },
         recorded: Recorded {
@@ -90,7 +92,7 @@ fn put_together(header: Header, body: Body) -> Snapshot
         retired,
         loading,
         console,
-        port: PortState::Block(block),
+        port,
         disk,
         time: header.time,
         counts,
@@ -104,9 +106,10 @@ fn put_together(header: Header, body: Body) -> Snapshot
     }
 }
 
-/// Events, harts, pages of RAM and time.
+/// The kind of the device, events, harts, pages of RAM and time.
 #[derive(Clone, Copy, Drop)]
 struct Header {
+    kind: PortKind,
     events: u64,
     harts: u8,
     ram_pages: u32,
@@ -118,11 +121,30 @@ fn read_header(bytes: &[u8]) -> Result<(Header, &[u8]), SnapRefusal>
     ensures range { IfOk result (λ x. x.0.harts ≤ max_harts) }
     ensures header { Gives (λ x. (header_view x.0, x.1.now)) result (header.taken bytes.now) }
 {
-    let rest = read_magic(bytes)?;
-    read_header_numbers(rest)
+    let (kind, rest) = read_magic(bytes)?;
+    let (numbers, rest) = read_header_numbers(rest)?;
+    Ok((
+        Header {
+            kind,
+            events: numbers.events,
+            harts: numbers.harts,
+            ram_pages: numbers.ram_pages,
+            time: numbers.time,
+        },
+        rest,
+    ))
 }
 
-fn read_header_numbers(bytes: &[u8]) -> Result<(Header, &[u8]), SnapRefusal>
+/// Events, harts, pages of RAM and time.
+#[derive(Clone, Copy, Drop)]
+struct HeaderNumbers {
+    events: u64,
+    harts: u8,
+    ram_pages: u32,
+    time: u64,
+}
+
+fn read_header_numbers(bytes: &[u8]) -> Result<(HeaderNumbers, &[u8]), SnapRefusal>
     ensures range { IfOk result (λ x. x.0.harts ≤ max_harts) }
     ensures numbers { Gives (λ x. ((x.0.events, (x.0.harts, (x.0.ram_pages, x.0.time))), x.1.now)) result (header_numbers.taken bytes.now) }
 {
@@ -134,7 +156,7 @@ fn read_header_numbers(bytes: &[u8]) -> Result<(Header, &[u8]), SnapRefusal>
     ];
     let ([events, harts, ram_pages, time], rest) = read_row(bytes, ranges)?;
     Ok((
-        Header {
+        HeaderNumbers {
             events,
             harts: harts as u8,
             ram_pages: ram_pages as u32,
@@ -145,16 +167,19 @@ fn read_header_numbers(bytes: &[u8]) -> Result<(Header, &[u8]), SnapRefusal>
 }
 
 #[tactic(auto, unfolding(crate::specs::Snapshots::magic_at))]
-fn read_magic(bytes: &[u8]) -> Result<&[u8], SnapRefusal>
-    ensures { Gives (λ rest. (magic, rest.now)) result (magic_form.taken bytes.now) }
+fn read_magic(bytes: &[u8]) -> Result<(PortKind, &[u8]), SnapRefusal>
+    ensures { Gives (λ x. (x.0, x.1.now)) result (magic_form.taken bytes.now) }
 {
     let Some((front, rest)) = bytes.split_first_chunk::<MAGIC_BYTES>() else {
         return Err(SnapRefusal::OtherLength);
     };
-    if front != MAGIC {
-        return Err(SnapRefusal::OtherBeginning);
+    if front == BLOCK_MAGIC {
+        return Ok((PortKind::Block, rest));
     }
-    Ok(rest)
+    if front == VIRTIO_MAGIC {
+        return Ok((PortKind::Virtio, rest));
+    }
+    Err(SnapRefusal::OtherBeginning)
 }
 
 /// What stands after the header.
@@ -176,7 +201,7 @@ fn read_body(alloc: Global, bytes: &[u8], header: Header) -> Result<(Body, &[u8]
     let (harts, rest) = read_harts(alloc, bytes, header.ram_pages, header.harts)?;
     let (pages, rest) = read_pages(alloc, rest, header.ram_pages)?;
     let (gate, rest) = read_gate(alloc, rest, &harts)?;
-    let (devices, rest) = read_devices(alloc, rest)?;
+    let (devices, rest) = read_devices(alloc, rest, header.kind)?;
     let (recorded, rest) = read_journal(alloc, rest, header.events, header.harts)?;
     let (ram, rest) = read_bytes(alloc, rest, PAGE_BYTES * u64::from(header.ram_pages))?;
     Ok((

@@ -1,8 +1,9 @@
 // The bytes of the block device.
 
-ghost use Rattle.std.specs.Prelude.{◌≡◌, ◌++◌, OnOk};
+ghost use Rattle.std.specs.Prelude.{◌≡◌, ◌++◌, true, OnOk};
 ghost use Rattle.spec_reference.specs.BlockDisk.{beats_done};
 ghost use Rattle.snapshot_format.specs.DeviceForms.{block, command_under_way};
+ghost use Rattle.snapshot_format.specs.Typed.{is_typed_block};
 
 use crate::writer::values::write_number;
 use std::alloc::AllocError;
@@ -30,7 +31,8 @@ fn beats_done(status: BlockStatus) -> u64
 
 #[tactic(auto, unfolding(crate::specs::DeviceForms::block, crate::specs::DeviceForms::standing_status, crate::specs::DeviceForms::transfer))]
 pub(crate) fn write_block(out: &mut Vec<u8>, state: &BlockState) -> Result<(), AllocError>
-    ensures { OnOk result (out.new.items ≡ out.old.items ++ block.encode state.now) }
+    ensures encoded { OnOk result (out.new.items ≡ out.old.items ++ block.encode state.now) }
+    ensures typed { OnOk result (is_typed_block state.now ≡ true) }
 {
     write_number(out, state.sector)?;
     write_number(out, state.gpa)?;

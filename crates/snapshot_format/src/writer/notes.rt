@@ -23,7 +23,7 @@ pub(crate) fn write_notes(out: &mut Vec<u8>, kept: &[Note]) -> Result<(), AllocE
     Ok(())
 }
 
-#[tactic(auto, unfolding(crate::specs::JournalForms::note_form, crate::specs::JournalForms::note_after, crate::specs::JournalForms::demote_form, crate::specs::JournalForms::denied_note, crate::specs::JournalForms::load_note, crate::specs::JournalForms::unload, crate::specs::JournalForms::retire, crate::specs::JournalForms::answer, crate::specs::JournalForms::code, crate::specs::JournalForms::hart_number, crate::specs::HartForms::multiple_of))]
+#[tactic(auto, unfolding(crate::proofs::WrittenForms::note_forms))]
 fn write_note(out: &mut Vec<u8>, n: Note) -> Result<(), AllocError>
     ensures encoded { (harts : ℕ) → OnOk result (out.new.items ≡ out.old.items ++ (note_form harts).encode n) }
     ensures typed { OnOk result (is_typed_note n ≡ true) }

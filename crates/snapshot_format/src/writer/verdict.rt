@@ -10,7 +10,7 @@ use crate::writer::values::write_number;
 use std::alloc::AllocError;
 use sv_types::{Rule, Verdict};
 
-#[tactic(auto, unfolding(crate::specs::JournalForms::verdict, crate::specs::JournalForms::verdict_after, crate::specs::JournalForms::stopped_entry, crate::specs::JournalForms::stopped_write, crate::specs::JournalForms::hart_number, crate::specs::HartForms::multiple_of))]
+#[tactic(auto, unfolding(crate::proofs::WrittenForms::verdict_forms))]
 pub(crate) fn write_verdict(out: &mut Vec<u8>, v: Verdict) -> Result<(), AllocError>
     ensures encoded { (harts : ℕ) → OnOk result (out.new.items ≡ out.old.items ++ (verdict harts).encode v) }
     ensures typed { OnOk result (are_words (verdict_numbers v) ≡ true) }

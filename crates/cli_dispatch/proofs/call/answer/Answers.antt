@@ -1,5 +1,5 @@
 use Rattle.std.proofs.Common.{refl, sym, ◌∙◌}
-use Rattle.cli_dispatch.specs.declared.choice.TopCall.TheVariants.{Live, Sweep, Shrink, Resume, Others, Survey}
+use Rattle.cli_dispatch.specs.declared.choice.TopCall.TheVariants.{Live, Sweep, Shrink, Resume, Others, Survey, Debug}
 use Rattle.cli_dispatch.proofs.Owing.{owed_of}
 use Rattle.cli_dispatch.proofs.call.answer.Goals as goal
 
@@ -10,6 +10,16 @@ returns-in-Survey-clause-owed g c = owed_of Survey _ _ _ _ _ (sym c.in-Survey.is
       unread = c.secvisor_survey.ensures.unread;
       unsaved = c.secvisor_survey.ensures.same;
       keys = refl;
+    })
+
+pub returns-in-Debug-clause-owed : goal.returns-in-Debug-clause-owed
+returns-in-Debug-clause-owed g c = owed_of Debug _ _ _ _ _ (sym c.in-Debug.is ∙ c.top_call_of.ensures)
+    (record {
+      headline = c.secvisor_debug.ensures.headline;
+      read_fault = c.secvisor_debug.ensures.read_fault;
+      unread = c.secvisor_debug.ensures.unread;
+      unsaved = c.secvisor_debug.ensures.same;
+      bench = refl;
     })
 
 pub returns-in-Live-clause-owed : goal.returns-in-Live-clause-owed

@@ -18,7 +18,7 @@ returns g c = λ start new.
           c.report-result.result)
           c.in_ok-try_place.ensures.1
           (runs_live c.args.ready c.run-end.new.self c.run-end.result start _ _ _ _ _ _ _ _ _ c.requires.fresh new (record { on = c.run-end.ensures.on; broke = c.run-end.ensures.broke })
-          c.run-end.ensures.keys c.run-end.ensures.others c.run-end.ensures.autos c.run-end.ensures.end c.run-end.ensures.harts c.report-result.ensures),
+          c.run-end.ensures.keys c.run-end.ensures.others c.run-end.ensures.autos c.run-end.ensures.end c.run-end.ensures.harts c.run-end.ensures.events c.report-result.ensures),
     )
 
 pub try_place-requires-clause-permitted : goal.try_place-requires-clause-permitted

@@ -1,4 +1,4 @@
-use Rattle.std.proofs.Common.{◌+◌, ◌∷◌, ◌++◌, [], false, sym, ◌∙◌, subst}
+use Rattle.std.proofs.Common.{◌+◌, ◌∷◌, ◌++◌, [], sym, ◌∙◌, subst}
 use Rattle.spec_reference.specs.Run.{step}
 use Rattle.spec_hardware.specs.Machine.{Machine}
 use Rattle.machine.specs.Standing.{HasState}
@@ -6,7 +6,7 @@ use Rattle.machine.proofs.ConsoleLemmas.{room_after}
 use Rattle.machine.proofs.Repeated.{step_counts}
 use Rattle.machine.specs.Repeats.{Makes}
 use Rattle.cli_live.specs.Drives.{Breaks}
-use Rattle.cli_live.proofs.MadeEvents.{made_one, broken_one, cleared_state, cleared_counts, cleared_verdict, key_verdict, ok_both, err_both}
+use Rattle.cli_live.proofs.MadeEvents.{made_one, broken_one, cleared_state, cleared_counts, cleared_verdict, key_verdict, ok_both, err_three}
 use Rattle.cli_live.proofs.making.make.Goals as goal
 
 pub flush_due-requires-clause-room : goal.flush_due-requires-clause-room
@@ -22,11 +22,11 @@ returns-clause-on g c =
 pub returns-clause-broke : goal.returns-clause-broke
 returns-clause-broke g c =
     let steps : Makes c.args.machine.now c.args.event c.step.new.self = record { stands = c.step.ensures.stands; event = c.step.ensures.event } in
-    err_both c.flush_due.result _ _ _
-    (λ same off made.
-    subst (λ (m : Machine). Breaks false made (made ++ c.args.event ∷ []) c.args.machine.now m (g.O.Sink.state c.args.out.now) (g.O.Sink.state c.flush_due.new.out)) (sym same)
-    (broken_one _ _ _ _ _ c.requires.came steps off made))
-    c.flush_due.ensures.machine c.flush_due.ensures.failed
+    err_three c.flush_due.result _ _ _ _
+    (λ same off due made.
+    subst (λ (m : Machine). Breaks ⊥ made (made ++ c.args.event ∷ []) c.args.machine.now m (g.O.Sink.state c.args.out.now) (g.O.Sink.state c.flush_due.new.out)) (sym same)
+    (broken_one _ _ _ _ _ c.requires.came steps off due made))
+    c.flush_due.ensures.machine c.flush_due.ensures.failed c.flush_due.ensures.due
 
 pub returns-clause-state : goal.returns-clause-state
 returns-clause-state g c =

@@ -8,17 +8,17 @@ use Rattle.cli_snap.proofs.answer.run_and_save.Goals as goal
 
 pub returns-in_err-text : goal.returns-in_err-text
 returns-in_err-text g c = λ start new.
-    err_by _ Memory (λ r. SnapsTo start (first_events c.args.events c.args.script) c.args.name.now c.args.machine.now (g.F.Files.state c.args.files.now)
+    err_by _ Memory (λ r. SnapsTo start (first_events c.args.order.events c.args.order.script) c.args.order.name.now c.args.machine.now (g.F.Files.state c.args.files.now)
     (g.F.Files.state c.args.files.now) (g.O.Sink.state c.args.out.now) (g.O.Sink.state c.args.out.now) r)
-    c.from_residual.ensures.1 (snaps_none start _ c.args.name.now c.args.machine.now _ _ new)
+    c.from_residual.ensures.1 (snaps_none start _ c.args.order.name.now c.args.machine.now _ _ new)
 
 pub returns-in_err-status : goal.returns-in_err-status
 returns-in_err-status g c = λ start new.
     err_by _ c.in_err-status.field-0.0
-    (λ r. SnapsTo start (first_events c.args.events c.args.script) c.args.name.now c.run_and_print.new.machine (g.F.Files.state c.args.files.now)
+    (λ r. SnapsTo start (first_events c.args.order.events c.args.order.script) c.args.order.name.now c.run_and_print.new.machine (g.F.Files.state c.args.files.now)
     (g.F.Files.state c.args.files.now) (g.O.Sink.state c.args.out.now) (g.O.Sink.state c.run_and_print.new.out) r)
     c.from_residual-in_err-status.ensures.1
-    (snaps_broke start _ c.args.name.now c.run_and_print.new.machine _ _ _ c.in_err-status.field-0.0 (c.in_err-status.ensures.writes start new) (c.in_err-status.ensures.stands start new))
+    (snaps_broke start _ c.args.order.name.now c.run_and_print.new.machine _ _ _ c.in_err-status.field-0.0 (c.in_err-status.ensures.writes start new) (c.in_err-status.ensures.stands start new))
 
 pub save_snapshot-requires-clause-state : goal.save_snapshot-requires-clause-state
 save_snapshot-requires-clause-state g c =
@@ -33,16 +33,16 @@ save_snapshot-requires-clause-kind g c =
 pub save_snapshot-requires-clause-few : goal.save_snapshot-requires-clause-few
 save_snapshot-requires-clause-few g c =
     let s = c.requires.starts in
-    few_counted c.args.machine.now c.run_and_print.new.machine s.start c.args.events c.args.script s.new c.requires.counts c.requires.events
+    few_counted c.args.machine.now c.run_and_print.new.machine s.start c.args.order.events c.args.order.script s.new c.requires.counts c.requires.events
     (stands_all s.start _ c.run_and_print.new.machine _ _ c.in_ok-status.status (c.in_ok-status.ensures.stands s.start s.new))
 
 pub returns-in_err-save_snapshot : goal.returns-in_err-save_snapshot
 returns-in_err-save_snapshot g c = λ start new.
     err_by _ c.in_err-save_snapshot.field-0.0
-    (λ r. SnapsTo start (first_events c.args.events c.args.script) c.args.name.now c.run_and_print.new.machine (g.F.Files.state c.args.files.now)
+    (λ r. SnapsTo start (first_events c.args.order.events c.args.order.script) c.args.order.name.now c.run_and_print.new.machine (g.F.Files.state c.args.files.now)
     (g.F.Files.state c.save_snapshot.new.files) (g.O.Sink.state c.args.out.now) (g.O.Sink.state c.run_and_print.new.out) r)
     c.from_residual-in_err-save_snapshot.ensures.1
-    (snaps_err c.args.machine.now c.run_and_print.new.machine start _ c.args.name.now c.in_ok-text.text.items _ _ _ _ c.in_ok-status.status c.in_err-save_snapshot.field-0.0
+    (snaps_err c.args.machine.now c.run_and_print.new.machine start _ c.args.order.name.now c.in_ok-text.text.items _ _ _ _ c.in_ok-status.status c.in_err-save_snapshot.field-0.0
     (record {
       is_new = new;
       few = c.requires.counts;
@@ -53,7 +53,7 @@ returns-in_err-save_snapshot g c = λ start new.
 
 pub returns : goal.returns
 returns g c = λ start new.
-    snaps_ok c.args.machine.now c.run_and_print.new.machine start _ c.args.name.now c.in_ok-text.text.items _ _ _ _ c.in_ok-status.status c.in_ok-save_snapshot.field-0
+    snaps_ok c.args.machine.now c.run_and_print.new.machine start _ c.args.order.name.now c.in_ok-text.text.items _ _ _ _ c.in_ok-status.status c.in_ok-save_snapshot.field-0
     (record {
       is_new = new;
       few = c.requires.counts;

@@ -12,15 +12,16 @@ use Rattle.machine.proofs.running.run_one_by_one.Given as goal
 abbrev pub invariant-events : goal.invariant-events
 invariant-events g l = record {
   on : (start : State) → IsNew l.initial.machine start →
-      RunsOn l.initial.machine start (first_events l.events (g.S.EventSource.schedule l.fn.source)) (first_events l.left (g.S.EventSource.schedule l.source)) l.machine
+      RunsOn l.initial.machine start (first_events l.events (g.S.EventSource.schedule l.fn.source))
+      (first_events (l.left.now + l.left.later) (g.S.EventSource.schedule l.source)) l.machine
       (g.O.Sink.state l.initial.out) (g.O.Sink.state l.out);
   has : HasState l.machine;
   taken : HasTaken (g.O.Sink.state l.initial.out) (g.O.Sink.state l.out);
-  few : l.left ≤ l.events;
-  counts : CountsAtMost (max_events + (l.events - l.left)) l.machine.journal.counts;
+  few : l.left.now + l.left.later ≤ l.events;
+  counts : CountsAtMost (max_events + (l.events - (l.left.now + l.left.later))) l.machine.journal.counts;
   room : length l.machine.journal.printed < max_printed;
   rest : IsFalse (flush_is_due l.machine.journal.printed);
 }
 
 abbrev pub decreases-events : goal.decreases-events
-decreases-events g l = l.left
+decreases-events g l = l.left.now + l.left.later

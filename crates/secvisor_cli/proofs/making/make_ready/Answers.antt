@@ -1,4 +1,4 @@
-use Rattle.std.proofs.Common.{◌≡◌, List, true, map, subst, sym, ◌∙◌}
+use Rattle.std.proofs.Common.{◌≡◌, List, true, map, refl, subst, sym, ◌∙◌}
 use Rattle.sv_types.specs.Policies.{Rules, rules_of}
 use Rattle.policy_making.specs.Making.{Terms, file_names, file_of}
 use Rattle.policy_making.specs.Ranges.{terms_within}
@@ -25,13 +25,13 @@ returns-in_err-policy g c = λ files.
     c.from_residual-in_err-policy.ensures.1
     (making_stops (policy_value c.args.asked.now) (kernel_value c.args.kernel.now) (modules_value c.args.modules.now) files c.in_err-policy.field-0.0
     (subst (λ (j : Judged Rules). Refuses j c.in_err-policy.field-0.0)
-    (after_same _ _ _ _ _ _ _ _ _ c.in_ok-settings.ensures c.deref.ensures.value c.deref-2.ensures.value c.deref-3.ensures.value) c.in_err-policy.ensures.refused))
+    (after_same _ _ _ _ _ _ _ _ _ c.in_ok-settings.ensures refl c.deref.ensures.value c.deref-2.ensures.value) c.in_err-policy.ensures.refused))
 
 pub measured_policy-requires : goal.measured_policy-requires
 measured_policy-requires g c = record {
   within =
       c.in_ok-policy.ensures.within (subst (λ (t : Terms). terms_within t ≡ true) (sym c.in_ok-settings.ensures) c.requires.terms)
-      (subst (λ (os : List ObjectFile). are_module_names (file_names (map file_of os)) ≡ true) (sym c.deref-3.ensures.value) c.requires.names);
+      (subst (λ (os : List ObjectFile). are_module_names (file_names (map file_of os)) ≡ true) (sym c.deref-2.ensures.value) c.requires.names);
 }
 
 pub returns-in_err-made : goal.returns-in_err-made
@@ -42,4 +42,4 @@ returns-in_err-made g c = λ files.
 pub returns : goal.returns
 returns g c = λ files.
     making_ready (policy_value c.args.asked.now) (kernel_value c.args.kernel.now) (modules_value c.args.modules.now) files (rules_of c.in_ok-policy.policy) c.in_ok-made.made
-    (sym (after_same _ _ _ _ _ _ _ _ _ c.in_ok-settings.ensures c.deref.ensures.value c.deref-2.ensures.value c.deref-3.ensures.value) ∙ c.in_ok-policy.ensures.policy) c.in_ok-made.ensures
+    (sym (after_same _ _ _ _ _ _ _ _ _ c.in_ok-settings.ensures refl c.deref.ensures.value c.deref-2.ensures.value) ∙ c.in_ok-policy.ensures.policy) c.in_ok-made.ensures

@@ -1,7 +1,7 @@
 use Rattle.std.proofs.Common.{◌≡◌, List, ℕ, subst, Ok}
 use Rattle.policy_making.specs.Making.{kernel_digest}
 use Rattle.policy_making.specs.Refusals.{Refuses}
-use Rattle.secvisor_cli.specs.declared.making.MeasuredKernel.{MeasuredKernel}
+use Rattle.policy_making.specs.declared.policy.MeasuredKernel.{MeasuredKernel}
 use Rattle.cli_plans.specs.Plans.{digest_part}
 use Rattle.secvisor_cli.specs.Ready.{Staged, stop_of_making, kernel_value}
 use Rattle.secvisor_cli.proofs.ReadyLemmas.{err_by}

@@ -2,7 +2,7 @@ use Rattle.std.proofs.Common.{ℕ, sym, ◌∙◌, ap}
 use Rattle.sv_types.specs.Schedule.{Schedule, first_events}
 use Rattle.live_keys.specs.Placed.{keys_among}
 use Rattle.cli_live.specs.LiveRuns.{harts_of, events_made}
-use Rattle.cli_live.proofs.MadeEvents.{on_then, both_on, both_break, ok_gives, ok_map}
+use Rattle.cli_live.proofs.MadeEvents.{on_then, both_on, both_break, broke_taken, err_map, ok_gives, ok_map}
 use Rattle.cli_live.proofs.SettledKeys.{has_keys}
 use Rattle.cli_live.proofs.live_run.LiveRun.run.Goals as goal
 
@@ -16,7 +16,7 @@ pub returns-clause-broke : goal.returns-clause-broke
 returns-clause-broke g c = λ broke.
     both_break c.feed_and_drive-fed.result.1 c.drive_again-ended.result c.args.self.now (record c.feed_and_drive-fed.new.self { taker = c.settle.new.taker }) c.drive_again-ended.new.self _ _ _
     (sym c.is_err.ensures.value ∙ broke) (ok_map c.feed_and_drive-fed.result.1 _ _ (λ on. on.went) c.feed_and_drive-fed.ensures.drives.on)
-    c.feed_and_drive-fed.ensures.drives.broke c.drive_again-ended.ensures.stays c.drive_again-ended.ensures.broke
+    (err_map c.feed_and_drive-fed.result.1 _ _ (broke_taken c.args.self.now c.feed_and_drive-fed.new.self c.settle.new.taker _ _) c.feed_and_drive-fed.ensures.drives.broke) c.drive_again-ended.ensures.stays c.drive_again-ended.ensures.broke
 
 pub returns-clause-keys : goal.returns-clause-keys
 returns-clause-keys g c =
@@ -25,6 +25,9 @@ returns-clause-keys g c =
     c.feed_and_drive-fed.ensures.fed (c.drive_again-ended.ensures.under.all ∙ c.settle.ensures.all) c.law_taken.ensures.prefix
     (λ done. ok_gives c.drive_again-ended.result _ c.drive_again-ended.ensures.whole (sym c.is_err.ensures.value ∙ done))
     (c.law_journal_events.ensures.keys (harts_of last.script) 0 last.journal.keys.items last.journal.autos ∙ c.drive_again-ended.ensures.under.way.keys)
+
+pub returns-clause-events : goal.returns-clause-events
+returns-clause-events g c = c.drive_again-ended.ensures.under.events ∙ c.feed_and_drive-fed.ensures.drives.stays.events
 
 pub returns-clause-others : goal.returns-clause-others
 returns-clause-others g c =

@@ -1,7 +1,6 @@
-use Rattle.std.proofs.Common.{◌≡◌, ◌+◌, ◌*◌, ◌<◌, ◌≤◌, ℕ, List, length, sym, subst}
+use Rattle.std.proofs.Common.{◌+◌, ◌*◌, ◌<◌, ◌≤◌, ℕ, List, length, sym, subst}
 use Rattle.spec_hardware.specs.Machine.{Machine}
 use Rattle.spec_hardware.specs.StandsFor.{StandsFor}
-use Rattle.spec_reference.specs.States.{State}
 use Rattle.machine.specs.Batches.{AreFreeWhere}
 use Rattle.machine.proofs.Passes.{pass_rest, free_after, pass_addresses}
 use Rattle.laws_simulation.specs.HwPassing.{hw_passed_over}

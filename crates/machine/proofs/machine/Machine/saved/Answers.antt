@@ -10,5 +10,6 @@ saved-requires c = machine_keepable c.self.inside.system c.self.invariant.state 
 
 pub returns : goal.returns
 returns c = record {
-  state = kept_states c.args.self.now c.saved.result (subst (λ (m : Machine). IfOk c.saved.result (IsKept m)) c.self.view_is c.saved.ensures);
+  state = kept_states c.args.self.now c.saved.result (subst (λ (m : Machine). IfOk c.saved.result (IsKept m)) c.self.view_is c.saved.ensures.kept);
+  port = c.saved.ensures.port;
 }

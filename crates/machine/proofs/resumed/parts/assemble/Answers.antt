@@ -48,7 +48,7 @@ devices_of-devices-requires-clause-form c =
     let rules = rules_of c.args.policy.now in
     let s = contents c.args.snapshot in
     let k = known rules s c.requires.within c.requires.form c.requires.accepted in
-    subst (λ (input : List ℕ). form.devices.has (input, (s.port, s.disk)) ≡ true) (sym c.deref.ensures.value) k.devices
+    subst (λ (input : List ℕ). (form.devices (form.kind_of s.port)).has (input, (s.port, s.disk)) ≡ true) (sym c.deref.ensures.value) k.devices
 
 pub devices_of-devices-requires-clause-few : goal.devices_of-devices-requires-clause-few
 devices_of-devices-requires-clause-few c =

@@ -1,4 +1,4 @@
-use Rattle.std.proofs.Common.{◌≡◌, ◌<◌, ◌≤◌, length, sym, ◌∙◌, ap, subst, slice_get, slice_set, arith}
+use Rattle.std.proofs.Common.{◌≡◌, ◌∙◌, ap, subst, slice_get, slice_set, arith}
 use Rattle.spec_reference.specs.States.{Journal}
 use Rattle.spec_hardware.specs.Machine.{Machine}
 use Rattle.monitor_exits.specs.HwOfSlots.{hw_harts_of}

@@ -1,0 +1,6 @@
+pub mod OneEvent
+pub mod Drawing
+pub mod Standings
+pub mod OneRun
+pub mod Accepted
+pub mod AnswerLemmas

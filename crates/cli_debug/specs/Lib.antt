@@ -1,0 +1,6 @@
+pub mod Upcoming
+pub mod Debugged
+pub mod Debugging
+pub mod Accepting
+pub mod Beginnings
+pub mod DebugAnswers

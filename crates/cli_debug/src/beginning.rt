@@ -1,0 +1,75 @@
+// A run that begins from files.
+ghost use Rattle.std.specs.Prelude.{◌≡◌, ◌%◌, IfOk, Ok, None, length};
+ghost use Rattle.sv_types.specs.Policies.{rules_of};
+ghost use Rattle.spec_reference.specs.BlockDisk.{sector_size};
+ghost use Rattle.policy.specs.Text.{rules_of_text};
+ghost use Rattle.cli_trials.specs.Orders.{IsAccepted};
+ghost use Rattle.cli_debug.specs.Accepting.{refused_in};
+
+use crate::target::Beginning;
+use cli_trials::Parts;
+use cli_trials::trial::{boot_files, script_of_order};
+use machine::Machine;
+use script::Script;
+use std::alloc::{AllocError, Global};
+use std::thread::Threads;
+use sv_types::Policy;
+
+/// A run that begins from files, which were read and judged as `run` does. Its machine boots as often as asked. A boot that is
+/// refused then is told as out of memory; all that refuses one was judged before.
+#[derive(Drop)]
+pub struct FilesBeginning<'a, R: Threads + Sync> {
+    rt: &'a R,
+    parts: Parts,
+    policy: Policy,
+    ghost reads: { rules_of_text parts.policy.items ≡ Ok (rules_of policy) },
+    ghost sectors: { length parts.disk.items % sector_size ≡ 0 },
+    ghost accepted: { refused_in parts.order ≡ None },
+}
+
+// A policy's text, which was judged before, so that nothing but memory is left to fail.
+fn read_again(alloc: Global, text: &[u8]) -> Result<Policy, AllocError>
+    ensures { IfOk result (λ p. rules_of_text text.now ≡ Ok (rules_of p)) }
+{
+    match policy::read(alloc, text) {
+        Ok(policy) => Ok(policy),
+        Err(_) => Err(AllocError),
+    }
+}
+
+impl<'a, R: Threads + Sync> FilesBeginning<'a, R> {
+    ghost use Rattle.sv_types.specs.Policies.{Rules};
+    ghost use Rattle.cli_debug.specs.Beginnings.{BeginsAs};
+
+    /// From files that were read and judged.
+    pub fn new(rt: &'a R, alloc: Global, parts: Parts) -> Result<FilesBeginning<'a, R>, AllocError>
+        requires sectors { length parts.disk.items % sector_size ≡ 0 }
+        requires accepted { IsAccepted parts.order }
+        ensures { IfOk result (λ b. (rules : Rules) → rules_of_text parts.policy.items ≡ Ok rules → BeginsAs b rules parts) }
+    {
+        let policy = read_again(alloc, &parts.policy)?;
+        Ok(FilesBeginning { rt, parts, policy })
+    }
+}
+
+impl<'a, R: Threads + Sync> Beginning for FilesBeginning<'a, R> {
+    ghost use Rattle.cli_debug.specs.Beginnings.{start_of, schedule_of};
+
+    ghost start = { start_of };
+
+    ghost schedule = { schedule_of };
+
+    fn machine(&self, alloc: Global) -> Result<Machine, AllocError> {
+        match boot_files(self.rt, alloc, &self.parts.files()) {
+            Ok(machine) => Ok(machine),
+            Err(_) => Err(AllocError),
+        }
+    }
+
+    fn script(&self, alloc: Global) -> Result<Script, AllocError> {
+        match script_of_order(alloc, &self.parts.policy, &self.parts.order.order()) {
+            Ok(script) => Ok(script),
+            Err(_) => Err(AllocError),
+        }
+    }
+}

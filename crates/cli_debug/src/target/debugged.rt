@@ -1,0 +1,138 @@
+// A machine that is debugged.
+ghost use Rattle.std.specs.Prelude.{◌≡◌, ◌≤◌, ◌+◌, []};
+ghost use Rattle.sv_types.specs.Limits.{max_events};
+ghost use Rattle.spec_reference.specs.Counting.{CountsAtMost};
+ghost use Rattle.cli_debug.specs.Upcoming.{most_upcoming};
+
+use crate::target::beginning::Beginning;
+use crate::target::stepping::{draw, step, turning};
+use debug_session::Target;
+use machine::Machine;
+use script::Script;
+use spec_reference::saved_machine::SavedHart;
+use std::alloc::{AllocError, Global};
+use sv_types::{Event, Verdict};
+
+/// A machine that is debugged: where its run begins, and where it stands.
+#[derive(Drop)]
+pub struct DebuggedMachine<B: Drop> {
+    beginning: B,
+    // How many events the run may make.
+    events: u64,
+    machine: Machine,
+    // The events that aren't drawn yet.
+    script: Script,
+    // The next event.
+    next: Option<Event>,
+    // How many more may be drawn.
+    left: u64,
+    made: u64,
+    // All bytes that the console printed.
+    console: Vec<u8>,
+    ghost none: { machine.journal.printed ≡ [] },
+    ghost counts: { CountsAtMost made machine.journal.counts },
+    ghost few: { made + most_upcoming next left ≤ events },
+    ghost limit: { events ≤ max_events },
+}
+
+impl<B: Beginning + Drop> DebuggedMachine<B> {
+    ghost use Rattle.std.specs.Prelude.{IfOk};
+    ghost use Rattle.sv_types.specs.Schedule.{first_events};
+    ghost use Rattle.debug_session.specs.Runs.{Run};
+    ghost use Rattle.cli_debug.specs.Debugged.{StandsAt, run_from};
+
+    /// A machine before the first of at most so many events.
+    pub fn new(alloc: Global, beginning: B, events: u64) -> Result<DebuggedMachine<B>, AllocError>
+        requires { events ≤ max_events }
+        ensures { IfOk result (λ t. StandsAt B.start B.schedule t (run_from (B.start beginning) (first_events events (B.schedule beginning)))) }
+    {
+        let machine = beginning.machine(alloc)?;
+        let mut script = beginning.script(alloc)?;
+        let (next, left) = draw(&mut script, events);
+        Ok(DebuggedMachine {
+            beginning,
+            events,
+            machine,
+            script,
+            next,
+            left,
+            made: 0,
+            console: Vec::new(alloc),
+        })
+    }
+}
+
+impl<B: Beginning + Drop> Target for DebuggedMachine<B> {
+    ghost use Rattle.cli_debug.specs.Debugged.{StandsAt};
+
+    ghost stands = { StandsAt B.start B.schedule };
+
+    fn most_left(&self) -> u64 {
+        match self.next {
+            Some(_) => self.left + 1,
+            None => 0,
+        }
+    }
+
+    fn is_left(&self) -> bool {
+        self.next.is_some()
+    }
+
+    fn events_made(&self) -> u64 {
+        self.made
+    }
+
+    fn next_turn(&self) -> Option<u8> {
+        turning(self.next)
+    }
+
+    fn fetch_place(&self, hart: u8) -> Option<u64> {
+        let seen = self.machine.hart(hart)?;
+        if seen.started { Some(seen.pc) } else { None }
+    }
+
+    fn verdict(&self) -> Verdict {
+        self.machine.verdict()
+    }
+
+    fn hart_count(&self) -> u8 {
+        self.machine.hart_count()
+    }
+
+    fn hart(&self, hart: u8) -> Option<SavedHart> {
+        self.machine.hart(hart)
+    }
+
+    fn ram(&self) -> &[u8] {
+        self.machine.ram()
+    }
+
+    fn console(&self) -> &[u8] {
+        &self.console
+    }
+
+    fn advance(&mut self) -> Result<(), AllocError> {
+        let Some(event) = self.next else {
+            return Ok(());
+        };
+        let told = step(&mut self.machine, event, &mut self.console);
+        let (next, left) = draw(&mut self.script, self.left);
+        self.next = next;
+        self.left = left;
+        self.made += 1;
+        told
+    }
+
+    fn restart(&mut self, alloc: Global) -> Result<(), AllocError> {
+        let machine = self.beginning.machine(alloc)?;
+        let mut script = self.beginning.script(alloc)?;
+        let (next, left) = draw(&mut script, self.events);
+        self.machine = machine;
+        self.script = script;
+        self.next = next;
+        self.left = left;
+        self.made = 0;
+        self.console.clear();
+        Ok(())
+    }
+}

@@ -1,0 +1,60 @@
+// Trials.
+ghost use Rattle.std.specs.Prelude.{◌≡◌, ◌≤◌, ◌%◌, IfOk, IsErrOf, Ok, Some, None, length};
+ghost use Rattle.sv_types.specs.Limits.{max_events};
+ghost use Rattle.sv_types.specs.Policies.{Rules};
+ghost use Rattle.spec_reference.specs.BlockDisk.{sector_size};
+ghost use Rattle.spec_reference.specs.Start.{boot_start};
+ghost use Rattle.spec_hardware.specs.Reaches.{IsNew};
+ghost use Rattle.policy.specs.Text.{rules_of_text};
+ghost use Rattle.cli_trials.specs.Trials as spec;
+
+use crate::trial::beginning::{boot, read_policy};
+use crate::trial::ending::{Ending, end_of_run};
+use crate::trial::files::{NoOutcome, RunFiles};
+use crate::trial::order::{Order, script_for};
+use machine::Machine;
+use script::Script;
+use std::alloc::Global;
+use std::thread::Threads;
+
+/// How the run of these files ends over the first events of an order. `Script` is answered only of a text that is refused.
+pub fn try_order<R: Threads + Sync>(
+    rt: &R,
+    alloc: Global,
+    files: &RunFiles<'_>,
+    order: &Order<'_>,
+    events: u64,
+) -> Result<Ending, NoOutcome>
+    requires sectors { length files.now.disk.now % sector_size ≡ 0 }
+    requires few { events ≤ max_events }
+    ensures outcome { IfOk result (λ ending. spec.outcome_in files.now events order.now ≡ Some ending.outcome) }
+    ensures refused { IsErrOf result NoOutcome.Script → spec.outcome_in files.now events order.now ≡ None }
+{
+    let policy = read_policy(alloc, files.policy)?;
+    let script = script_for(alloc, order, policy.harts)?;
+    let machine = boot(rt, alloc, files, policy)?;
+    Ok(end_of_run(machine, script, events))
+}
+
+/// A machine of these files, before its first event.
+pub fn boot_files<R: Threads + Sync>(
+    rt: &R,
+    alloc: Global,
+    files: &RunFiles<'_>,
+) -> Result<Machine, NoOutcome>
+    requires sectors { length files.now.disk.now % sector_size ≡ 0 }
+    ensures new { IfOk result (λ m. (rules : Rules) → rules_of_text files.now.policy.now ≡ Ok rules →
+        IsNew m (boot_start rules files.now.image.now files.now.disk.now)) }
+    ensures booted { IfOk result spec.IsBooted }
+{
+    let policy = read_policy(alloc, files.policy)?;
+    boot(rt, alloc, files, policy)
+}
+
+/// The events of an order for the harts of a policy's text.
+pub fn script_of_order(alloc: Global, policy: &[u8], order: &Order<'_>) -> Result<Script, NoOutcome>
+    ensures { IfOk result (λ script. (rules : Rules) → rules_of_text policy.now ≡ Ok rules → spec.schedule_of order.now rules.harts ≡ Some script) }
+{
+    let policy = read_policy(alloc, policy)?;
+    script_for(alloc, order, policy.harts)
+}

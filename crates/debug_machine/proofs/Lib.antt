@@ -1,4 +1,0 @@
-pub mod OneEvent
-pub mod Drawing
-pub mod Standings
-pub mod OneRun

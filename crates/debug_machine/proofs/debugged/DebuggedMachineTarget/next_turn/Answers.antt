@@ -1,6 +1,0 @@
-use Rattle.std.proofs.Common.{◌∙◌}
-use Rattle.debug_machine.proofs.Standings.{turn_by}
-use Rattle.debug_machine.proofs.debugged.DebuggedMachineTarget.next_turn.Goals as goal
-
-pub returns : goal.returns
-returns g c = λ run at. c.turning.ensures ∙ turn_by c.args.self.now.next c.args.self.now.left c.args.self.now.script run at.left_are

@@ -1,3 +1,0 @@
-pub mod Upcoming
-pub mod Debugged
-pub mod Debugging

@@ -1,4 +1,0 @@
-pub mod ByteLaws
-pub mod Fields
-pub mod Filling
-pub mod Values
