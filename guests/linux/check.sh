@@ -4,6 +4,7 @@
 #   exact  policies, words of `measure` and output are the stored ones, byte for byte; takes the packages named in
 #          docs/LINUX.md
 #   kinds  notes and verdict are the stored ones but for turns, harts, addresses and pages; for other packages
+#          Both also type into the guest `disk`, as a person does, and replay that.
 #   seeds  the boots on one and on four harts end with a shutdown under four other seeds
 #   write  stores policies, words and output
 set -uo pipefail
@@ -79,6 +80,18 @@ run_all() {
     done < <(grep -v '^#' "$here/guests.txt")
 }
 
+# Lines that are typed into a live run, each at the prompt, are answered as those of the script are; and `vrun` replays what
+# happened, up to the saved disk.
+type_lines() {
+    wanted disk || return
+    "$here/../tools/type_lines.py" '# ' "$program" vlive disk.elf disk.policy root.disk 4000000000 typed.script \
+        < "$here/disk.txt" > typed.txt || fail "typed: status $?"
+    "$program" vrun disk.elf disk.policy root.disk typed.script 4294967296 typed.saved | cmp - typed.txt || fail "typed differs"
+    look_at typed.saved >> typed.txt
+    diff <(kinds typed.txt) <(kinds "$expected/disk.txt") || fail "typed ends otherwise"
+    echo "typed: $(grep ^verdict typed.txt)"
+}
+
 run_seeds() {
     for name in boot four; do
         wanted "$name" || continue
@@ -98,10 +111,12 @@ exact)
     diff measure.txt "$expected/measure.txt" || fail "measure.txt differs"
     measure_all
     run_all
+    type_lines
     ;;
 kinds)
     measure_all
     run_all
+    type_lines
     ;;
 seeds)
     measure_all

@@ -3,7 +3,7 @@ import struct
 
 MAGIC, VERSION, COMPATIBLE_VERSION = 0xd00dfeed, 17, 16
 BEGIN_NODE, END_NODE, PROPERTY, END = 1, 2, 3, 9
-VIRTIO, VIRTIO_LENGTH = 0x10001000, 0x1000
+CONSOLE, VIRTIO, DEVICE_LENGTH = 0x10000000, 0x10001000, 0x1000
 EXTERNAL_INTERRUPT = 9
 FIRST_HART = 1      # the name of its interrupts in the tree
 
@@ -59,7 +59,7 @@ def wide(*numbers):
 
 def machine(harts, begin, length, arguments, archive=None, virtio=False):
     """The tree of a machine with RAM from `begin` on; `archive` is the begin and end of the initial file system, and with
-    `virtio` the disk is a virtio device, whose line is the external interrupt of the first hart.
+    `virtio` the disk is a virtio device, whose line is the external interrupt of the first hart, as is the console's.
 
     Time runs at 10 MHz: at about one tick a turn, a hart then spends a few turns in a hundred on its timer at 100 Hz."""
     chosen = {'bootargs': arguments}
@@ -80,8 +80,9 @@ def machine(harts, begin, length, arguments, archive=None, virtio=False):
     }
     if virtio:
         processors['cpu@0']['interrupt-controller']['phandle'] = FIRST_HART
-        tree['virtio_mmio@%x' % VIRTIO] = {
-            'compatible': 'virtio,mmio', 'reg': wide(VIRTIO, VIRTIO_LENGTH),
-            'interrupts-extended': [FIRST_HART, EXTERNAL_INTERRUPT],
-        }
+        for name, compatible, place in ('virtio_mmio', 'virtio,mmio', VIRTIO), ('console', 'secvisor,console', CONSOLE):
+            tree['%s@%x' % (name, place)] = {
+                'compatible': compatible, 'reg': wide(place, DEVICE_LENGTH),
+                'interrupts-extended': [FIRST_HART, EXTERNAL_INTERRUPT],
+            }
     return tree

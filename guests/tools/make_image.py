@@ -80,7 +80,7 @@ def parsed(arguments):
     words.add_argument('--harts', type=int, default=1)
     words.add_argument('--archive', help='the initial file system')
     words.add_argument('--arguments', default='', help='the command line of the kernel')
-    words.add_argument('--virtio', action='store_true', help='the tree names a virtio disk, for `vrun`')
+    words.add_argument('--virtio', action='store_true', help='the tree names a virtio disk and the console\'s line, for `vrun` and `vlive`')
     return words.parse_args(arguments)
 
 

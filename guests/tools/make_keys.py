@@ -1,9 +1,9 @@
 #!/usr/bin/env python3
 """Prints a script for one hart that types lines.
 
-Time passes by one tick a turn. BOOT turns pass, then each LINE is typed at once, and GAP turns pass behind it. A kernel
-that polls its console takes a while to see a key (Linux up to two seconds of its time, 20 million turns), and the
-console's queue holds 256."""
+Time passes by one tick a turn. BOOT turns pass, then each LINE is typed at once, and GAP turns pass behind it; with
+--auto these are so many events of `auto`, in which a disk has its beats too. A kernel that polls its console takes a
+while to see a key (Linux up to two seconds of its time, 20 million turns), and the console's queue holds 256."""
 import argparse
 
 STEP = 20_000
@@ -14,12 +14,17 @@ def passing(turns):
     return ['turn 0 %d\ntick %d' % (STEP, STEP)] * (turns // STEP)
 
 
-def script(boot, gap, lines):
+def drawn(events):
+    """The line of a script in which so many events are drawn."""
+    return ['auto %d' % events]
+
+
+def script(boot, gap, lines, pause=passing):
     """The lines of the script."""
-    made = passing(boot)
+    made = pause(boot)
     for line in lines:
         made += ['key %d' % byte for byte in line.encode() + b'\n']
-        made += passing(gap)
+        made += pause(gap)
     return made
 
 
@@ -28,8 +33,9 @@ def main():
     words.add_argument('boot', type=int)
     words.add_argument('gap', type=int)
     words.add_argument('line', nargs='*')
+    words.add_argument('--auto', action='store_true')
     words = words.parse_args()
-    print('\n'.join(script(words.boot, words.gap, words.line)))
+    print('\n'.join(script(words.boot, words.gap, words.line, drawn if words.auto else passing)))
 
 
 if __name__ == '__main__':

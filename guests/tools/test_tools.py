@@ -13,6 +13,7 @@ import elf_file
 import make_archive
 import make_image
 import make_keys
+import type_lines
 from elf_file import ABSOLUTE, ALLOCATED, EXECUTABLE, GLOBAL, NO_BITS, PAGE, STRING_TABLE, SYMBOL_TABLE, WEAK
 
 HIGH, LOW = 0xffffffff80000000, 0x80200000
@@ -100,14 +101,16 @@ class Trees(unittest.TestCase):
         self.assertEqual(tree['chosen']['linux,initrd-end'], [0, 0x83fe1234])
         self.assertEqual([tree['cpus']['cpu@%d' % hart]['reg'] for hart in range(4)], [0, 1, 2, 3])
         self.assertNotIn('cpu@1', device_tree.machine(1, LOW, PAGE, '')['cpus'])
-        self.assertFalse([name for name in tree if name.startswith('virtio')])
+        self.assertFalse([name for name in tree if name.startswith(('virtio', 'console'))])
 
-    def test_a_virtio_disk_has_the_external_interrupt_of_the_first_hart(self):
+    def test_a_virtio_disk_and_the_console_have_the_external_interrupt_of_the_first_hart(self):
         tree = device_tree.machine(2, LOW, PAGE, '', virtio=True)
-        disk = tree['virtio_mmio@10001000']
+        disk, console = tree['virtio_mmio@10001000'], tree['console@10000000']
         self.assertEqual((disk['compatible'], disk['reg']), ('virtio,mmio', [0, 0x10001000, 0, 0x1000]))
-        self.assertEqual(disk['interrupts-extended'],
-                         [tree['cpus']['cpu@0']['interrupt-controller']['phandle'], 9])
+        self.assertEqual((console['compatible'], console['reg']), ('secvisor,console', [0, 0x10000000, 0, 0x1000]))
+        for device in disk, console:
+            self.assertEqual(device['interrupts-extended'],
+                             [tree['cpus']['cpu@0']['interrupt-controller']['phandle'], 9])
         self.assertNotIn('phandle', tree['cpus']['cpu@1']['interrupt-controller'])
 
     @unittest.skipUnless(shutil.which('dtc'), 'without dtc')
@@ -182,6 +185,15 @@ class Keys(unittest.TestCase):
     def test_script(self):
         step = 'turn 0 20000\ntick 20000'
         self.assertEqual(make_keys.script(40_000, 20_000, ['a', '']), [step, step, 'key 97', 'key 10', step, 'key 10', step])
+        self.assertEqual(make_keys.script(40, 20, [''], make_keys.drawn), ['auto 40', 'key 10', 'auto 20'])
+
+
+class Typing(unittest.TestCase):
+    def test_each_line_is_typed_at_its_prompt(self):
+        shell = 'while printf "# " && read line; do echo "got $line"; [ "$line" = end ] && exit 5; done'
+        out = io.BytesIO()
+        self.assertEqual(type_lines.type_lines(['sh', '-c', shell], b'# ', [b'one', b'end'], out), 5)
+        self.assertEqual(out.getvalue(), b'# got one\n# got end\n')
 
 
 if __name__ == '__main__':
