@@ -194,7 +194,8 @@ broken_last early first start journal asked m old new shown b = record {
 pub runs_live : (ready : LiveReady) (last : LiveRun) (ended : LiveEnd) (start : State) (f0 f1 : FilesState) (old mid new : SinkState) (k0 k1 : KeysState) (b0 : Option Machine)
     (result : Result Status Trouble) → IsLiveFresh ready → IsNew ready.live.machine start → DroveLive ready.live last ended old mid → HasKeys k0 k1 (keys_among (events_made last)) ended →
     others_among (events_made last) ≡ first_events last.journal.autos (Schedule.Auto (harts_of ready.live.script) 0) → last.journal.autos ≤ ready.live.events →
-    (ended.write_failed ≡ false → (last.journal.autos ≡ ready.live.events) ⊎ (last.machine.journal.verdict ≢ Running)) → harts_of last.script ≡ harts_of ready.live.script → last.events ≡ ready.live.events →
+    (ended.write_failed ≡ false → (last.journal.autos ≡ ready.live.events) ⊎ (last.machine.journal.verdict ≢ Running)) → harts_of last.script ≡ harts_of ready.live.script →
+    last.events ≡ ready.live.events →
     Reports last ended ready.out.now f0 f1 mid new result →
     RunsLive start (first_events ready.live.events ready.live.script) ready.out.now (live_outside f0 old k0 b0) (live_outside f1 new k1 (Some last.machine)) result
 runs_live ready last ended start f0 f1 old mid new k0 k1 b0 result fresh is_new drove keys others most all same events r =

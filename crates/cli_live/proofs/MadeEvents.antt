@@ -122,7 +122,8 @@ made_one m next flushed e s t may rest steps f made = record {
   };
 }
 
-pub broken_one : (m next : Machine) (e : Event) (s t : SinkState) → MayCome m.journal.verdict e → Makes m e next → BreaksOff s t next.journal.printed → IsTrue (flush_is_due next.journal.printed) → (made : List Event) →
+pub broken_one : (m next : Machine) (e : Event) (s t : SinkState) → MayCome m.journal.verdict e → Makes m e next → BreaksOff s t next.journal.printed →
+    IsTrue (flush_is_due next.journal.printed) → (made : List Event) →
     Breaks ⊥ made (made ++ e ∷ []) m next s t
 broken_one m next e s t may steps off due made = record {
   broke = λ first start sink on. record {

@@ -16,7 +16,8 @@ pub returns-clause-broke : goal.returns-clause-broke
 returns-clause-broke g c = λ broke.
     both_break c.feed_and_drive-fed.result.1 c.drive_again-ended.result c.args.self.now (record c.feed_and_drive-fed.new.self { taker = c.settle.new.taker }) c.drive_again-ended.new.self _ _ _
     (sym c.is_err.ensures.value ∙ broke) (ok_map c.feed_and_drive-fed.result.1 _ _ (λ on. on.went) c.feed_and_drive-fed.ensures.drives.on)
-    (err_map c.feed_and_drive-fed.result.1 _ _ (broke_taken c.args.self.now c.feed_and_drive-fed.new.self c.settle.new.taker _ _) c.feed_and_drive-fed.ensures.drives.broke) c.drive_again-ended.ensures.stays c.drive_again-ended.ensures.broke
+    (err_map c.feed_and_drive-fed.result.1 _ _ (broke_taken c.args.self.now c.feed_and_drive-fed.new.self c.settle.new.taker _ _) c.feed_and_drive-fed.ensures.drives.broke)
+    c.drive_again-ended.ensures.stays c.drive_again-ended.ensures.broke
 
 pub returns-clause-keys : goal.returns-clause-keys
 returns-clause-keys g c =
