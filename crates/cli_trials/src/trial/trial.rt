@@ -4,10 +4,10 @@ ghost use Rattle.sv_types.specs.Limits.{max_events};
 ghost use Rattle.spec_reference.specs.BlockDisk.{sector_size};
 ghost use Rattle.cli_trials.specs.Trials as spec;
 
-use crate::machine::beginning::{boot, read_policy};
-use crate::machine::ending::{Ending, end_of_run};
-use crate::machine::files::{NoOutcome, RunFiles};
-use crate::machine::order::{Order, script_for};
+use crate::trial::beginning::{boot, read_policy};
+use crate::trial::ending::{Ending, end_of_run};
+use crate::trial::files::{NoOutcome, RunFiles};
+use crate::trial::order::{Order, script_for};
 use script::Script;
 use std::alloc::Global;
 use std::thread::Threads;
