@@ -8,7 +8,7 @@ ghost use Rattle.cli_debug.specs.Accepting.{refused_in};
 
 use crate::machine::Beginning;
 use cli_trials::Parts;
-use cli_trials::machine::{boot_files, script_of_order};
+use cli_trials::trial::{boot_files, script_of_order};
 use machine::Machine;
 use script::Script;
 use std::alloc::{AllocError, Global};

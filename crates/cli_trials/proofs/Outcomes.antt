@@ -6,7 +6,7 @@ use Rattle.spec_reference.specs.Start.{boot_start, start as begin}
 use Rattle.policy.specs.Refusals.{Judged}
 use Rattle.policy.specs.Text.{rules_of_text}
 use Rattle.script_lines.specs.declared.tally.outcome.Outcome.{Outcome}
-use Rattle.cli_trials.specs.declared.machine.order.Order.{Order}
+use Rattle.cli_trials.specs.declared.trial.order.Order.{Order}
 use Rattle.cli_trials.specs.Trials.{end_from, end_under, outcome_in, schedule_of}
 use Rattle.cli_trials.specs.declared.sweep.sweeping.Sweep.{Sweep}
 use Rattle.cli_trials.specs.Sweeps.{end_by, outcome_at, outcome_under, schedule_at}

@@ -22,8 +22,8 @@ use Rattle.secvisor_cli.specs.Ready.{IsReadyWhere, Prepares}
 use Rattle.secvisor_cli.specs.declared.ready.Stop.TheVariants.{Refused}
 use Rattle.secvisor_cli.specs.declared.ready.Stop.TheVariants as stop
 use Rattle.script_lines.specs.Tallies.{outcome_of}
-use Rattle.cli_trials.specs.declared.machine.files.RunFiles.{RunFiles}
-use Rattle.cli_trials.specs.declared.machine.order.Order.{Order}
+use Rattle.cli_trials.specs.declared.trial.files.RunFiles.{RunFiles}
+use Rattle.cli_trials.specs.declared.trial.order.Order.{Order}
 use Rattle.cli_trials.specs.Trials.{end_from, end_under, schedule_of, text_schedule}
 use Rattle.cli_trials.specs.declared.parts.Parts.{Parts}
 use Rattle.cli_trials.specs.Orders.{order_schedule}

@@ -5,8 +5,8 @@ use Rattle.script_lines.specs.Minimal.{IsOneMinimal}
 use Rattle.script_lines.specs.declared.tally.outcome.Outcome.{Outcome}
 use Rattle.script_lines.specs.Tallies.{same}
 use Rattle.script_lines.specs.TallyLines.{is_stop}
-use Rattle.cli_trials.specs.declared.machine.files.RunFiles.{RunFiles}
-use Rattle.cli_trials.specs.declared.machine.order.Order.{Order}
+use Rattle.cli_trials.specs.declared.trial.files.RunFiles.{RunFiles}
+use Rattle.cli_trials.specs.declared.trial.order.Order.{Order}
 use Rattle.cli_trials.specs.Trials.{outcome_in, text_outcome}
 use Rattle.cli_trials.specs.declared.shrink.shrinking.Script.{Script}
 use Rattle.cli_trials.specs.declared.shrink.shrinking.Shrunk.{Shrunk}

@@ -13,9 +13,9 @@ use Rattle.policy.specs.Text.{rules_of_text}
 use Rattle.script.specs.AutoScripts.{events_of_text, first_refused}
 use Rattle.script_lines.specs.declared.tally.outcome.Outcome.{Outcome}
 use Rattle.script_lines.specs.Tallies.{outcome_of}
-use Rattle.cli_trials.specs.declared.machine.files.RunFiles.{RunFiles}
-use Rattle.cli_trials.specs.declared.machine.order.Order.{Order}
-use Rattle.cli_trials.specs.declared.machine.order.Order.TheVariants as order
+use Rattle.cli_trials.specs.declared.trial.files.RunFiles.{RunFiles}
+use Rattle.cli_trials.specs.declared.trial.order.Order.{Order}
+use Rattle.cli_trials.specs.declared.trial.order.Order.TheVariants as order
 
 -- a machine that starts somewhere, before its first event
 pub record IsBooted (machine : Machine) : Type 0 where

@@ -2,11 +2,11 @@
 //! and what such a command writes where nothing is run.
 #![tactic(auto)]
 
-pub mod machine;
 mod order;
 mod parts;
 pub mod shrink;
 pub mod sweep;
+pub mod trial;
 mod writing;
 
 pub use order::OwnOrder;

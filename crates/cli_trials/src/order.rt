@@ -10,7 +10,7 @@ ghost use Rattle.cli_plans.specs.Words.{source_value};
 ghost use Rattle.secvisor_cli.specs.Ready.{MayStage, Staged};
 ghost use Rattle.cli_trials.specs.Orders.{IsAccepted, order_schedule};
 
-use crate::machine::Order;
+use crate::trial::Order;
 use cli_plans::{Part, Source};
 use host_io::Files;
 use secvisor_cli::{MAX_SCRIPT_BYTES, Stop, judge_script, read_part};

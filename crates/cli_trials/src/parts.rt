@@ -14,8 +14,8 @@ ghost use Rattle.secvisor_cli.specs.Ready.{Staged, MayStage};
 ghost use Rattle.cli_trials.specs.Orders.{IsAccepted};
 ghost use Rattle.cli_trials.specs.Reading.{BootsFrom, PartsRead};
 
-use crate::machine::RunFiles;
 use crate::order::{OwnOrder, read_order};
+use crate::trial::RunFiles;
 use cli_plans::{DiskKind, Part, Run};
 use elf64_load::KernelImage;
 use host_io::Files;

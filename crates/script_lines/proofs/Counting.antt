@@ -10,7 +10,7 @@ use Rattle.indexmap.specs.IndexMap.{insert_entry}
 use Rattle.script_lines.specs.declared.tally.outcome.Outcome.{Outcome}
 use Rattle.script_lines.specs.declared.tally.outcome.Outcome.TheVariants.{ShutDown, Entry, Write, Ended}
 use Rattle.script_lines.specs.declared.tally.tally.Tally.{Tally}
-use Rattle.script_lines.specs.tally.contracts.outcome.OutcomePartialEq.TheImpl.{eq-value as eq}
+use Rattle.script_lines.specs.contracts.tally.outcome.OutcomePartialEq.TheImpl.{eq-value as eq}
 use Rattle.script_lines.specs.Tallies.{same, numbers_of, least, tally_of, distinct, tallies_of, no_runs, tally_in, with_run}
 
 -- ---- the same way to end

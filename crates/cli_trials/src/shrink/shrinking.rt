@@ -5,8 +5,8 @@ ghost use Rattle.spec_reference.specs.BlockDisk.{sector_size};
 ghost use Rattle.cli_trials.specs.Trials.{text_outcome};
 ghost use Rattle.cli_trials.specs.Shrinking.{IsShrunk, AreShrunk};
 
-use crate::machine::{NoOutcome, Order, RunFiles, keep_memory, script_of_order, try_order};
 use crate::shrink::trial::Trial;
+use crate::trial::{NoOutcome, Order, RunFiles, keep_memory, script_of_order, try_order};
 use script::EventRun;
 use script_lines::delta_debugging::Stops;
 use script_lines::{script_text, shrink_lines, write_out};

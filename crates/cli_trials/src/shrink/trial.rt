@@ -6,7 +6,7 @@ ghost use Rattle.script_lines.specs.Lines.{text_of};
 ghost use Rattle.cli_trials.specs.Trials.{text_outcome};
 ghost use Rattle.cli_trials.specs.Shrinking.{is_outcome};
 
-use crate::machine::{NoOutcome, Order, RunFiles, try_order};
+use crate::trial::{NoOutcome, Order, RunFiles, try_order};
 use script::EventRun;
 use script_lines::delta_debugging::Stops;
 use script_lines::script_text;

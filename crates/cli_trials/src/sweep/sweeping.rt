@@ -6,9 +6,9 @@ ghost use Rattle.spec_reference.specs.BlockDisk.{sector_size};
 ghost use Rattle.cli_trials.specs.Trials.{schedule_of};
 ghost use Rattle.cli_trials.specs.Sweeps as spec;
 
-use crate::machine::{NoOutcome, Order, RunFiles, keep_memory, try_order};
 use crate::sweep::numbers::{numbers_each, numbers_from};
 use crate::sweep::progress::Progress;
+use crate::trial::{NoOutcome, Order, RunFiles, keep_memory, try_order};
 use cli_plans::DrawnOrder;
 use script_lines::tally::{Outcome, Tallies, tally_runs};
 use std::alloc::Global;

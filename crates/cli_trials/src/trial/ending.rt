@@ -8,7 +8,7 @@ ghost use Rattle.spec_hardware.specs.Reaches.{IsNew};
 ghost use Rattle.script_lines.specs.Tallies.{outcome_of};
 ghost use Rattle.cli_trials.specs.Trials.{IsBooted};
 
-use crate::machine::silent::Silent;
+use crate::trial::silent::Silent;
 use machine::{Machine, run};
 use script::Script;
 use script_lines::tally::Outcome;

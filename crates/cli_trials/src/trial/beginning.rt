@@ -8,7 +8,7 @@ ghost use Rattle.policy.specs.Text.{rules_of_text};
 ghost use Rattle.machine.specs.Boot.{IsImageOf};
 ghost use Rattle.cli_trials.specs.Trials.{IsBooted};
 
-use crate::machine::files::{NoOutcome, RunFiles};
+use crate::trial::files::{NoOutcome, RunFiles};
 use elf64_load::{ElfRefusal, KernelImage, read_kernel};
 use machine::{BootRefusal, Machine};
 use policy::PolicyRefusal;

@@ -3,7 +3,7 @@ ghost use Rattle.std.specs.Prelude.{◌≡◌, IfOk, IsErrOf, Some, None};
 ghost use Rattle.script.specs.HartCounts.{IsHartCount};
 ghost use Rattle.cli_trials.specs.Trials as spec;
 
-use crate::machine::files::NoOutcome;
+use crate::trial::files::NoOutcome;
 use script::{Script, ScriptRefusal, auto, bursts, read, rounds};
 use std::alloc::Global;
 

@@ -8,10 +8,10 @@ ghost use Rattle.spec_hardware.specs.Reaches.{IsNew};
 ghost use Rattle.policy.specs.Text.{rules_of_text};
 ghost use Rattle.cli_trials.specs.Trials as spec;
 
-use crate::machine::beginning::{boot, read_policy};
-use crate::machine::ending::{Ending, end_of_run};
-use crate::machine::files::{NoOutcome, RunFiles};
-use crate::machine::order::{Order, script_for};
+use crate::trial::beginning::{boot, read_policy};
+use crate::trial::ending::{Ending, end_of_run};
+use crate::trial::files::{NoOutcome, RunFiles};
+use crate::trial::order::{Order, script_for};
 use machine::Machine;
 use script::Script;
 use std::alloc::Global;

@@ -1,7 +1,7 @@
 use Rattle.std.proofs.Common.{rules, ◌≡◌, ◌<◌, ◌∙◌, ap, arith}
 use Rattle.script_lines.specs.Tallies.{outcome_of}
 use Rattle.machine.proofs.Standing.{stands_verdict}
-use Rattle.cli_trials.proofs.machine.ending.end_of_run.Goals as goal
+use Rattle.cli_trials.proofs.trial.ending.end_of_run.Goals as goal
 
 -- no write fails
 pub unreachable-requires : goal.unreachable-requires
