@@ -97,7 +97,8 @@ fn advance_watching<T: Target>(
     alloc: Global,
     watches: &[Watch],
 ) -> Result<Option<Change>, AllocError>
-    ensures moved { OnOk result ((run : spec.Run) → T.stands target.old run → run.made < length run.events → T.stands target.new (spec.after run (run.made + 1))) }
+    ensures moved { OnOk result ((run : spec.Run) → T.stands target.old run → run.made < length run.events →
+        T.stands target.new (spec.after run (run.made + 1))) }
     ensures change { IfOk result (λ change. (run : spec.Run) → T.stands target.old run → run.made < length run.events →
         change ≡ spec.change_at watches.now run run.made) }
 {
