@@ -92,7 +92,7 @@ answers_ok judged words files read old new result is it = subst (λ (j : Result 
 pub answers_refused : (judged : Result RunWords Refusal) (why : Refusal) (files : FilesState) (keys : KeysState) (old new : SinkState) (result : Result Status Trouble) → judged ≡ Err why →
     Refuses why old new result → AnswersDebug judged files files (wire keys old) (wire keys new) result
 answers_refused judged why files keys old new result is it =
-    subst (λ (j : Result RunWords Refusal). AnswersDebug j files files (wire keys old) (wire keys new) result) (sym is) (refl, refl, it)
+    subst (λ (j : Result RunWords Refusal). AnswersDebug j files files (wire keys old) (wire keys new) result) (sym is) (refl, (refl, it))
 
 pub answers_want : (judged : Result RunWords Refusal) (files : FilesState) (old : Wire) → IsTrue (is_ok judged) → AnswersDebug judged files files old old (Err Memory)
 answers_want (Ok words) files old good = inl (refl, refl, refl)

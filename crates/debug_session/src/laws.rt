@@ -6,8 +6,8 @@ pub fn law_ahead()
     ensures { AheadLaw }
 {}
 
-/// Backwards a run goes to the greatest earlier number of events at which a break is met or the hart's turn is next, or to its
-/// beginning where there is none.
+/// Backwards a run goes to the greatest earlier number of events at which a break is met, the next event changes a watched word, or
+/// the turn of the hart that steps is next; and to its beginning where there is none.
 pub fn law_behind()
     ensures { BehindLaw }
 {}

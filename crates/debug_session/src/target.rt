@@ -1,4 +1,5 @@
 // What is debugged.
+ghost use Rattle.std.specs.Thread.{IsSync};
 ghost use Rattle.std.specs.Prelude.{◌≡◌, ◌<◌, ◌≤◌, ◌+◌, ℕ, OnOk, option_map, slice_get, length, nat_lt};
 ghost use Rattle.spec_reference.specs.SavedStates.{saved_hart};
 ghost use Rattle.debug_session.specs.Runs.{Run, after, events_left, next_turn, place_of, state};
@@ -60,5 +61,6 @@ pub trait Target {
 
     /// Begins anew.
     fn restart<R: Threads + Sync>(&mut self, rt: &R, alloc: Global) -> Result<(), AllocError>
+        requires { IsSync R.row }
         ensures { OnOk result ((run : Run) → stands self.old run → stands self.new (after run 0)) };
 }

@@ -1,4 +1,5 @@
 // Where a run begins.
+ghost use Rattle.std.specs.Thread.{IsSync};
 ghost use Rattle.std.specs.Prelude.{◌≡◌, IfOk};
 ghost use Rattle.sv_types.specs.Schedule.{Schedule};
 ghost use Rattle.spec_reference.specs.States.{State};
@@ -20,6 +21,7 @@ pub trait Beginning {
 
     /// A machine before its first event.
     fn machine<R: Threads + Sync>(&self, rt: &R, alloc: Global) -> Result<Machine, AllocError>
+        requires { IsSync R.row }
         ensures new { IfOk result (λ m. IsNew m (start self.now)) }
         ensures journal { IfOk result (λ m. m.journal ≡ journal_at_boot) };
 
