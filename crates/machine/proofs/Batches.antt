@@ -23,7 +23,7 @@ use Rattle.machine.proofs.Stepped.{Bounded, step_bounded, step_happens, step_sta
 use Rattle.machine.proofs.Turns.{quiet_served, turn_served}
 use Rattle.hw_platform.specs.Attempts.{hart_in}
 use Rattle.machine.specs.Machines.{HaveAddresses}
-use Rattle.machine.specs.Repeats.{IsQuiet, Repeats}
+use Rattle.machine.specs.Repeats.{IsQuiet, Rows}
 use Rattle.machine.specs.Batches.{counted_batch, after_batch, MayBatch}
 use Rattle.machine.specs.Turns.{Finished}
 use Rattle.hw_platform.proofs.Batches.{there_updated, still_there, updated_twice, updated_same, still_free, forgets_nothing}
@@ -98,7 +98,7 @@ module _ (m : Machine) (h n : ℕ) (mid : Region) (before : Core) (region : Regi
 
 -- the machine after so many turns, with all that is known of it
 pub record Rowed (n : ℕ) (m : Machine) (h : ℕ) (after : Machine) : Type 0 where
-  pub chain : Repeats n m (Turn h) after
+  pub chain : Rows n m (Turn h) after
   pub quiet : IsQuiet m after
   pub state : State
   pub stands : StandsFor after state
@@ -121,14 +121,14 @@ no_turn m h r region core e f stands addresses bounded =
       counts = λ k counts. subst (λ (i : ℕ). CountsAtMost i m.journal.counts) (omega arith) counts;
     })
 
-pub one_step : (m now after : Machine) (h n : ℕ) → Rowed n m h now → (m.journal.verdict ≡ Running → now.journal.verdict ≡ Running) → IsStep now (Turn h) after → IsQuiet m after
-    → Rowed (suc n) m h after
-one_step m now after h n batch on is quiet =
+pub one_step : (m now after : Machine) (h n : ℕ) → Rowed n m h now → (m.journal.verdict ≡ Running → now.journal.verdict ≡ Running) → now.loading ≡ m.loading
+    → IsStep now (Turn h) after → IsQuiet m after → Rowed (suc n) m h after
+one_step m now after h n batch on loading is quiet =
     let behind : StandsFor after (step batch.state (Turn h)) = step_stands now after (Turn h) is batch.state batch.stands in
     record {
       chain = (
         now,
-        (batch.chain, (record { quiet = batch.quiet; running = on }, record { stands = step_stands now after (Turn h) is; event = step_happens now after batch.state (Turn h) batch.stands is })),
+        (batch.chain, (record { on = record { quiet = batch.quiet; running = on }; loading = λ none. loading ∙ none }, record { stands = step_stands now after (Turn h) is; event = step_happens now after batch.state (Turn h) batch.stands is })),
       );
       quiet = quiet;
       state = step batch.state (Turn h);
@@ -143,7 +143,7 @@ one_step m now after h n batch on is quiet =
 one_turn : (m : Machine) (h n : ℕ) (mid : Region) (before : Core) (region : Region) (core : Core) → MayBatch m h
     → Carries (attempt mid before (lines_at m.devices h)) region core → Rowed n m h (after_batch m h n mid before) → Rowed (suc n) m h (after_batch m h (suc n) region core)
 one_turn m h n mid before region core may carries batch =
-    one_step m (after_batch m h n mid before) (after_batch m h (suc n) region core) h n batch (λ is. batch_verdict n m.journal ∙ is) (steps m h n mid before region core may carries)
+    one_step m (after_batch m h n mid before) (after_batch m h (suc n) region core) h n batch (λ is. batch_verdict n m.journal ∙ is) refl (steps m h n mid before region core may carries)
     (ap (λ (xs : List ℕ). length xs) (batch_printed (suc n) m.journal))
 
 pub rowed : (n : ℕ) (m : Machine) (h : ℕ) (r : State) (region : Region) (core : Core) → MayBatch m h → StandsFor m r → HaveAddresses r.harts → Bounded m

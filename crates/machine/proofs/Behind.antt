@@ -190,7 +190,7 @@ module _ (m : Machine) (h n : ℕ) (region : Region) (last core : Core) (exit : 
   pub after_rowed : Rowed n m h now → (answered_exit behind h answer).journal.printed ≡ behind.journal.printed → Rowed (n + 1) m h after
   after_rowed batch quiet =
       subst (λ (k : ℕ). Rowed k m h after) (sym (add-one n))
-      (one_step m now after h n batch (λ is. batch_verdict n m.journal ∙ is) steps_after
+      (one_step m now after h n batch (λ is. batch_verdict n m.journal ∙ is) refl steps_after
       (ap (λ (x : Machine). length x.journal.printed) done.same ∙ ap (λ (xs : List ℕ). length xs) (quiet ∙ batch_printed n m.journal)))
 
 -- ---- a row with its end
@@ -237,6 +237,17 @@ pub ends_running : (left : Leaving) (n : ℕ) (m mid after : Machine) (h : ℕ) 
     → m.journal.verdict ≡ Running → after.journal.verdict ≡ Running
 ends_running left n m mid after h ends answers stays is =
     ends_running_by left n m mid after h (ap (λ (x : Machine). x.journal) ends.same) answers stays is
+
+-- nor does it begin a load
+stays_unloaded_by : (left : Leaving) (mid after : Machine) (h : ℕ) → AnswersLeaving left mid h after → left ≡ Stays → after.loading ≡ mid.loading
+stays_unloaded_by Stays mid after h same stays = ap (λ (x : Machine). x.loading) same
+stays_unloaded_by Calls mid after h answers stays = absurd (cc)
+stays_unloaded_by Returns mid after h answers stays = absurd (cc)
+
+pub stays_unloaded : (left : Leaving) (n : ℕ) (m mid after : Machine) (h : ℕ) → EndsBatch left n m h mid → AnswersLeaving left mid h after → left ≡ Stays
+    → after.loading ≡ m.loading
+stays_unloaded left n m mid after h ends answers stays =
+    stays_unloaded_by left mid after h answers stays ∙ ap (λ (x : Machine). x.loading) ends.same
 
 pub stays_there : (left : Leaving) → is_left left ≡ false → left ≡ Stays
 stays_there Stays is = refl

@@ -12,7 +12,7 @@ use Rattle.laws_simulation.specs.GrowthLaws.{RiseByOne}
 use Rattle.laws_simulation.proofs.StepsGrow.{grows_law}
 use Rattle.spec_hardware.specs.Machine.{Machine}
 use Rattle.spec_hardware.specs.StandsFor.{StandsFor, machine_of}
-use Rattle.machine.specs.Repeats.{GoesOn, Makes, Repeats}
+use Rattle.machine.specs.Repeats.{GoesOn, Made, MadeRow, Makes, Repeats, Rows, StaysUnloaded}
 
 -- ---- counts
 
@@ -129,3 +129,27 @@ pub counts_on : (made more : ℕ) (old now new : Counts) → ((n : ℕ) → Coun
     (n : ℕ) → CountsAtMost n old → CountsAtMost (n + (made + more)) new
 counts_on made more old now new so_far then n counts =
     let sum : n + made + more ≡ n + (made + more) = omega arith in subst (λ (k : ℕ). CountsAtMost k new) sum (then (n + made) (so_far n counts))
+
+-- ---- in a row in which the last event alone may begin a load
+
+pub rows_repeat : (n : ℕ) (m after : Machine) (e : Event) → Rows n m e after → Repeats n m e after
+rows_repeat zero m after e same = same
+rows_repeat (suc n) m after e (before, (those, (on, makes))) = (before, (rows_repeat n m before e those, (on.on, makes)))
+
+pub made_of : (n asked : ℕ) (m after : Machine) (e : Event) → MadeRow n asked m e after → Made n asked m e after
+made_of n asked m after e made = record { chain = rows_repeat n m after e made.chain; counts = made.counts; some = made.some; most = made.most }
+
+pub rows_more : (n : ℕ) (m before after : Machine) (e : Event) → Rows n m e before → StaysUnloaded m before → Makes before e after → Rows (n + 1) m e after
+rows_more n m before after e those on makes = subst (λ (k : ℕ). Rows k m e after) (sym (add-one n)) (before, (those, (on, makes)))
+
+unloaded_then : (m mid after : Machine) → StaysUnloaded m mid → StaysUnloaded mid after → StaysUnloaded m after
+unloaded_then m mid after first second = record { on = goes_then m mid after first.on second.on; loading = λ none. second.loading (first.loading none) }
+
+pub rows_on : (n k : ℕ) (m mid after : Machine) (e : Event) → Rows n m e mid → StaysUnloaded m mid → Rows k mid e after → Rows (n + k) m e after
+rows_on n zero m mid after e those on same =
+    let sum : n ≡ n + 0 = omega arith in
+    subst (λ (i : ℕ). Rows i m e after) sum (subst (λ (x : Machine). Rows n m e x) (sym same) those)
+rows_on n (suc k) m mid after e those on (before, (more, (still, makes))) =
+    let rest : Rows (suc (n + k)) m e after = (before, (rows_on n k m mid before e those on more, (unloaded_then m mid before on still, makes))) in
+    let sum : suc (n + k) ≡ n + suc k = omega arith in
+    subst (λ (i : ℕ). Rows i m e after) sum rest

@@ -45,7 +45,7 @@ unfolding fields_right piece_sites
 judged_by exports bases first size text site rest true e = rw e refl
 judged_by exports bases first size text site rest false e = rw e refl
 
-front : (sites : List Site) (i : ℕ) (d : Site) → i < length sites → drop i sites ≡ get_or sites i d ∷ drop (i + 1) sites
+pub front : (sites : List Site) (i : ℕ) (d : Site) → i < length sites → drop i sites ≡ get_or sites i d ∷ drop (i + 1) sites
 front sites i d within = drop_more sites i d within
 
 -- the first of the sites that are left is cleared or judged, and then the rest

@@ -5,6 +5,8 @@ mod field;
 mod laws;
 mod pieces;
 mod value;
+mod wrong;
 
 pub use laws::{law_fields_right, law_mask};
 pub use pieces::{fields_right, mask};
+pub use wrong::{WrongField, first_wrong};

@@ -32,9 +32,9 @@ fn site_from(first: u32, site: &Site) -> Site
     }
 }
 
-// The bytes of a site's field.
+/// The bytes of a site's field.
 #[tactic(auto, using(spec_reference::proofs::FieldWidths::sizes))]
-fn width_of(site: &Site) -> u8
+pub(crate) fn width_of(site: &Site) -> u8
     ensures value { result ≡ spec.width_of site.now }
     ensures width { IsWidth result }
 {
@@ -52,8 +52,9 @@ fn clear_field(text: &mut [u8], site: &Site)
     put_word(text, at, width_of(site), word & !field_bits(field));
 }
 
+/// Whether the field has the value for the bases, and the value fits.
 #[tactic(auto, unfolding(spec_reference::specs::Relocations::field_right))]
-fn field_right(text: &[u8], site: &Site, bases: &Bases, exports: &[Export]) -> bool
+pub(crate) fn field_right(text: &[u8], site: &Site, bases: &Bases, exports: &[Export]) -> bool
     requires { field_end site.now ≤ length text.now }
     ensures { result ≡ spec.field_right exports.now bases.now text.now site.now }
 {

@@ -3,7 +3,7 @@ use Rattle.sv_types.specs.declared.event.Event.TheVariants.{Turn}
 use Rattle.spec_reference.specs.Counting.{CountsAtMost}
 use Rattle.spec_hardware.specs.Machine.{Machine}
 use Rattle.hw_fast_path.specs.Ends.{turns_of}
-use Rattle.machine.proofs.Behind.{Begins, after_counts, ends_rowed, ends_running, in_kernel, may_count, may_trap}
+use Rattle.machine.proofs.Behind.{Begins, after_counts, ends_rowed, ends_running, in_kernel, may_count, may_trap, stays_unloaded}
 use Rattle.machine.proofs.Ready.{ready_at}
 use Rattle.machine.proofs.Reservations.{free_where, leaving_free}
 use Rattle.machine.proofs.Batches.{Rowed}
@@ -108,6 +108,8 @@ returns c =
       chain = rowed.chain;
       quiet = rowed.quiet;
       running = ends_running c.batch-batch.result.left c.batch-batch.result.made c.self.inside.system c.batch-batch.new.self c.answer_leaving.new.self c.args.hart c.batch-batch.ensures.ends
+          c.answer_leaving.ensures;
+      loading = stays_unloaded c.batch-batch.result.left c.batch-batch.result.made c.self.inside.system c.batch-batch.new.self c.answer_leaving.new.self c.args.hart c.batch-batch.ensures.ends
           c.answer_leaving.ensures;
       counts = rowed.counts;
       most = c.batch-batch.ensures.most;

@@ -9,7 +9,7 @@ make-requires-clause-counts c =
 
 pub returns : goal.returns
 returns c = record {
-  chain = (c.args.self.now, (refl, (record { quiet = refl; running = λ is. is }, c.make.ensures.makes)));
+  chain = (c.args.self.now, (refl, (record { on = record { quiet = refl; running = λ is. is }; loading = λ none. none }, c.make.ensures.makes)));
   counts = c.make.ensures.counts;
   some = omega arith;
   most = omega (arith, c.requires.asked);
