@@ -16,3 +16,4 @@ pub mod Counting
 pub mod Parts
 pub mod Seating
 pub mod Timing
+pub mod Measured

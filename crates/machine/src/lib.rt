@@ -6,6 +6,7 @@ mod boot;
 mod drawing;
 pub mod events;
 mod image_start;
+mod loading;
 mod machine;
 mod machine_start;
 mod resume;

@@ -14,7 +14,7 @@ ghost use Rattle.spec_hardware.specs.StandsFor.{StandsFor};
 ghost use Rattle.laws_simulation.specs.HwPassing.{hw_passed_over};
 ghost use Rattle.laws_simulation.specs.Passing.{passed_over};
 ghost use Rattle.machine.specs.Limits.{max_counts};
-ghost use Rattle.machine.specs.Repeats.{Made, MadeInBatch, Makes, MayMake, Repeats};
+ghost use Rattle.machine.specs.Repeats.{Made, MadeInBatch, MadeRow, Makes, MayMake, Repeats};
 ghost use Rattle.hw_platform.specs.Batches.{AreFree};
 ghost use Rattle.machine.specs.Batches.{MayBatch, reserves_nothing};
 ghost use Rattle.hw_fast_path.specs.Ends.{turns_of};
@@ -77,6 +77,29 @@ impl Machine {
         self.rounds(event, count)
     }
 
+    /// The same, and no more of it after an event after which a load is under way.
+    #[inline(always)]
+    pub fn repeat_to_load(&mut self, event: Event, count: u64) -> u64
+        requires asked { 0 < count }
+        requires few { count ≤ max_counts }
+        requires room { length self.old.journal.printed < max_printed }
+        requires counts { CountsAtMost (max_counts - count) self.old.journal.counts }
+        ensures { MadeRow result count self.old event self.new }
+    {
+        let printed = self.printed().len();
+        let mut made = 0;
+        'events: while made < count {
+            made += self.round(event, count - made);
+            if self.printed().len() != printed || self.verdict() != Verdict::Running {
+                return made;
+            }
+            if self.is_loading() {
+                return made;
+            }
+        }
+        made
+    }
+
     // Rounds of one event, up to `count` times.
     #[inline(always)]
     fn rounds(&mut self, event: Event, count: u64) -> u64
@@ -100,7 +123,7 @@ impl Machine {
     #[inline(always)]
     fn round(&mut self, event: Event, most: u64) -> u64
         requires { MayMake self.old most }
-        ensures { Made result most self.old event self.new }
+        ensures { MadeRow result most self.old event self.new }
     {
         if let Event::Turn(hart) = event {
             return self.hart_turns(hart, most);
@@ -113,7 +136,7 @@ impl Machine {
     #[inline(always)]
     fn hart_turns(&mut self, hart: u8, most: u64) -> u64
         requires { MayMake self.old most }
-        ensures { Made result most self.old (Turn hart) self.new }
+        ensures { MadeRow result most self.old (Turn hart) self.new }
     {
         let batch = self.batch(hart, most);
         let made = batch.turns();

@@ -65,7 +65,8 @@ fn saved(system: &System, alloc: Global) -> Result<Saved, AllocError>
     })
 }
 
-fn saved_loading(modules: &Modules) -> Option<SavedLoad>
+/// The load under way, as plain data.
+pub(crate) fn saved_loading(modules: &Modules) -> Option<SavedLoad>
     ensures { result ≡ option_map kept_load (loading_of modules.now) }
 {
     let under_way = modules.loading.as_ref()?;
