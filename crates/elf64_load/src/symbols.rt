@@ -7,5 +7,5 @@ mod symbols;
 mod tests;
 
 pub use kernel::{KernelNames, kernel_names};
-pub use printed::location_text;
+pub use printed::{location_text, push_name};
 pub use symbols::{CodeSymbol, Location};

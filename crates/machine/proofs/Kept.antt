@@ -111,7 +111,7 @@ unfolding load_kept_by
 about_kept rules ram load None = refl
 about_kept rules ram load (Some rule) = refl
 
-loading_kept : (rules : Rules) (ram : List ℕ) (loading : Option Loading) → option_map kept_load (option_map (load_kept rules ram) loading) ≡ option_map saved_load loading
+pub loading_kept : (rules : Rules) (ram : List ℕ) (loading : Option Loading) → option_map kept_load (option_map (load_kept rules ram) loading) ≡ option_map saved_load loading
 loading_kept rules ram None = refl
 loading_kept rules ram (Some load) = ap Some (about_kept rules ram load (slice_get rules.modules load.about.id))
 

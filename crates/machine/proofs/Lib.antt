@@ -29,3 +29,4 @@ pub mod Counted
 pub mod DeviceParts
 pub mod Regions
 pub mod Seated
+pub mod Loadings

@@ -1,5 +1,6 @@
 -- One event several times in a row: the state that the machine stands for after it, and how far its counts rise.
-use Rattle.std.proofs.Common.{◌≡◌, ℕ, zero, suc, ◌+◌, ◌≤◌, List, [], ◌∷◌, ◌++◌, replicate, sym, ◌∙◌, ap, subst, arith, add-one}
+use Rattle.std.proofs.Common.{◌≡◌, ℕ, zero, suc, ◌+◌, ◌-◌, ◌<◌, ◌≤◌, List, [], ◌∷◌, ◌++◌, replicate, refl, sym, ◌∙◌, ap, subst, arith, add-one, false}
+use Rattle.std.specs.Prelude.{Option, Some, None, is_some}
 use Rattle.std.proofs.lemmas.List.{replicate-append-replicate}
 use Rattle.sv_types.specs.declared.event.Counts.{Counts}
 use Rattle.sv_types.specs.declared.event.Event.{Event}
@@ -153,3 +154,17 @@ rows_on n (suc k) m mid after e those on (before, (more, (still, makes))) =
     let rest : Rows (suc (n + k)) m e after = (before, (rows_on n k m mid before e those on more, (unloaded_then m mid before on still, makes))) in
     let sum : suc (n + k) ≡ n + suc k = omega arith in
     subst (λ (i : ℕ). Rows i m e after) sum rest
+
+-- and so more of them
+pub row_made : (n k asked : ℕ) (m mid after : Machine) (e : Event) → Rows n m e mid → StaysUnloaded m mid
+    → ((i : ℕ) → CountsAtMost i m.journal.counts → CountsAtMost (i + n) mid.journal.counts) → n < asked → MadeRow k (asked - n) mid e after → MadeRow (n + k) asked m e after
+row_made n k asked m mid after e those on counts less more = record {
+  chain = rows_on n k m mid after e those on more.chain;
+  counts = counts_on n k m.journal.counts mid.journal.counts after.journal.counts counts more.counts;
+  some = let some = more.some in omega (arith, some);
+  most = let most = more.most in omega (arith, less, most);
+}
+
+pub none_loading : {A : Type 0} (x : Option A) → is_some x ≡ false → x ≡ None
+none_loading None is = refl
+none_loading (Some a) is = absurd (cc)

@@ -44,7 +44,7 @@ impl Machine {
 
     /// The policy.
     pub fn policy(&self) -> &Policy
-        ensures { (r : State) → StandsFor self.now r → rules_of result.now ≡ r.rules }
+        ensures { rules_of result.now ≡ self.now.rules }
     {
         policy_of(&self.system)
     }
@@ -59,7 +59,7 @@ fn load_of(system: &System) -> Option<SavedLoad>
 fn is_measured_in(system: &System) -> bool
     ensures { result ≡ hw_is_measured system.now.rules system.now.loading }
 {
-    is_measured(&system.visor.modules, &system.visor.policy)
+    is_measured_by(&system.visor.modules, &system.visor.policy)
 }
 
 fn policy_of(system: &System) -> &Policy
@@ -69,7 +69,7 @@ fn policy_of(system: &System) -> &Policy
 }
 
 #[tactic(auto, unfolding(crate::specs::Measured::hw_is_measured))]
-fn is_measured(modules: &Modules, policy: &Policy) -> bool
+fn is_measured_by(modules: &Modules, policy: &Policy) -> bool
     ensures { result ≡ hw_is_measured (rules_of policy.now) (loading_of modules.now) }
 {
     let Some(pending) = &modules.loading else {

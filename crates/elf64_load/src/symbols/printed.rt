@@ -37,7 +37,9 @@ fn push_escaped(text: &mut Vec<u8>, byte: u8) -> Result<(), AllocError>
     }
 }
 
-fn push_name(text: &mut Vec<u8>, name: &[u8]) -> Result<(), AllocError>
+/// A name: each of its bytes that isn't a seen character of ASCII, and a backslash, is printed as `\x` and two hexadecimal digits.
+/// Fails where memory runs out.
+pub fn push_name(text: &mut Vec<u8>, name: &[u8]) -> Result<(), AllocError>
     ensures { OnOk result (text.new.items ≡ text.old.items ++ flat_map spec.escaped name.now) }
 {
     'name: for byte in name {
