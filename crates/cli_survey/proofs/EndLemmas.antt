@@ -18,12 +18,16 @@ use Rattle.host_io.specs.declared.trouble.Trouble.TheVariants.{Write, Memory}
 use Rattle.machine.proofs.Standing.{prints_after, stands_printed, stands_verdict}
 use Rattle.secvisor_cli.specs.Answers.{Writes, is_answer}
 use Rattle.secvisor_cli.proofs.EndLemmas.{broken_writes, run_is_answer}
-use Rattle.report.specs.Findings.{PassedWrites}
-use Rattle.report.specs.Views.{writes_view}
-use Rattle.report.specs.declared.findings.findings.Writes.{Writes as Passed}
+use Rattle.report.specs.Findings.{PassedWrites, RefusedLoads}
+use Rattle.report.specs.Views.{loads_view, writes_view}
+use Rattle.sv_types.specs.Policies.{Rules}
+use Rattle.machine.proofs.Loadings.{rules_seen}
+use Rattle.cli_survey.specs.Refusals.{loads_in}
+use Rattle.report.specs.declared.findings.found.Found.{Found as Passed}
 use Rattle.cli_survey.specs.Surveys.{HasSurveyed, StandsAmong, SurveyBroke, SurveyWants, Surveyed, writes_in}
-use Rattle.cli_survey.specs.SurveyAnswers.{SurveysTo, bytes_due, ending_of, lines_of, lines_due, status_due, survey_status}
-use Rattle.cli_survey.proofs.SurveyLemmas.{passed_prints, survey_on}
+use Rattle.cli_survey.specs.SurveyAnswers.{SurveysTo, bytes_due, ending_of, lines_of, lines_found, lines_due, status_due, survey_status}
+use Rattle.cli_survey.proofs.LookLemmas.{survey_on}
+use Rattle.cli_survey.proofs.SurveyLemmas.{passed_prints}
 
 -- ---- two writes, one after the other
 
@@ -67,7 +71,7 @@ printed_front : (file : List ℕ) (start : State) (done left events : List Event
     (rest : List ℕ) × ((survey start done).journal.printed ++ rest ≡ bytes_due file start events)
 printed_front file start done left events split =
     let grown = grows (survey start done) left in
-    let after : List ℕ = ending_of file (writes_in start events) (survey start events) in
+    let after : List ℕ = ending_of file (writes_in start events) (loads_in start events) (survey start events) in
     let all : (survey start done).journal.printed ++ grown.0 ≡ (survey start events).journal.printed =
     sym grown.1 ∙ ap (λ (s : State). s.journal.printed) (sym (survey_on start done left)) ∙ ap (λ (es : List Event). (survey start es).journal.printed) split in
     (grown.0 ++ after, sym (append_assoc (survey start done).journal.printed grown.0 after) ∙ ap (λ (p : List ℕ). p ++ after) all)
@@ -153,20 +157,24 @@ none_left events (Err trouble) = tt
 
 -- what the machine tells is what the survey's state tells
 ending_same : (file : List ℕ) (start : State) (events : List Event) (m : Machine) (w : Passed) (old new : SinkState) → HasSurveyed start events m w old new →
-    lines_of file (writes_view w) m.journal.notes ≡ lines_due file start events
+    lines_found file m w ≡ lines_due file start events
 ending_same file start events m w old new s =
-    ap (λ (x : PassedWrites). lines_of file x m.journal.notes) s.writes_are ∙ ap (λ (n : List Note). lines_of file (writes_in start events) n) (notes_are m (survey start events) s.stands.stands)
+    ap (λ (k : Rules). lines_of file k.modules (writes_view w.writes) (loads_view w.loads) m.journal.notes) (rules_seen m (survey start events) s.stands.stands)
+    ∙ ap (λ (x : PassedWrites). lines_of file (survey start events).rules.modules x (loads_view w.loads) m.journal.notes) s.writes_are
+    ∙ ap (λ (x : RefusedLoads). lines_of file (survey start events).rules.modules (writes_in start events) x m.journal.notes) s.loads_are
+    ∙ ap (λ (n : List Note). lines_of file (survey start events).rules.modules (writes_in start events) (loads_in start events) n)
+    (notes_are m (survey start events) s.stands.stands)
 
 pub survey_finished : (file : List ℕ) (start : State) (events : List Event) (m : Machine) (w : Passed) (old mid new : SinkState) (result : Result Status Trouble) →
     HasSurveyed start events m w old mid →
-    Writes (survey_status (lines_of file (writes_view w) m.journal.notes) m.journal.verdict)
-    (m.journal.printed ++ (lines_of file (writes_view w) m.journal.notes ++ report m.journal)) mid new result → SurveysTo file start events m old new result
+    Writes (survey_status (lines_found file m w) m.journal.verdict)
+    (m.journal.printed ++ (lines_found file m w ++ report m.journal)) mid new result → SurveysTo file start events m old new result
 survey_finished file start events m w old mid new result s writes =
     let last : State = survey start events in
-    let lines : lines_of file (writes_view w) m.journal.notes ≡ lines_due file start events = ending_same file start events m w old mid s in
-    let due : survey_status (lines_of file (writes_view w) m.journal.notes) m.journal.verdict ≡ status_due file start events =
+    let lines : lines_found file m w ≡ lines_due file start events = ending_same file start events m w old mid s in
+    let due : survey_status (lines_found file m w) m.journal.verdict ≡ status_due file start events =
     ap (λ (x : List ℕ). survey_status x m.journal.verdict) lines ∙ ap (λ (v : Verdict). survey_status (lines_due file start events) v) (stands_verdict m last s.cleared s.stands) in
-    let after : List ℕ = lines_of file (writes_view w) m.journal.notes ++ report m.journal in
+    let after : List ℕ = lines_found file m w ++ report m.journal in
     let whole : s.cleared ++ (m.journal.printed ++ after) ≡ bytes_due file start events =
     sym (append_assoc s.cleared m.journal.printed after)
     ∙ ap (λ (p : List ℕ). p ++ after) (stands_printed m last s.cleared s.stands)

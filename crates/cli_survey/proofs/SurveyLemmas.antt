@@ -40,16 +40,15 @@ use Rattle.machine.proofs.ConsoleLemmas.{flushed_counts, room_again}
 use Rattle.machine.proofs.Passes.{pass_rest}
 use Rattle.machine.proofs.Repeated.{counts_within, one_more, repeats_stand}
 use Rattle.machine.proofs.Standing.{stands_new, stands_step, stands_away, stands_verdict, verdict_is}
-use Rattle.report.specs.Findings.{PassedWrites, no_writes, with_write}
-use Rattle.report.specs.Views.{writes_view}
-use Rattle.report.specs.declared.findings.findings.Writes.{Writes}
+use Rattle.report.specs.Findings.{PassedWrites, RefusedLoads, no_loads, no_writes, with_write}
+use Rattle.report.specs.Views.{loads_view, writes_view}
+use Rattle.report.specs.declared.findings.found.Found.{Found}
+use Rattle.report.specs.declared.findings.loads.RefusedLoad.{RefusedLoad}
+use Rattle.cli_survey.specs.Refusals.{loads_in, refusals, refused, with_loads}
+use Rattle.cli_survey.proofs.LookLemmas.{loads_on, none_after, survey_on}
 use Rattle.cli_survey.specs.Surveys.{HasSurveyed, StandsAmong, SurveyBroke, SurveyWants, is_running, occurrence_of, with_passes, writes_in}
 
 -- ---- events after others
-
-pub survey_on : (r : State) (front back : List Event) → survey r (front ++ back) ≡ survey (survey r front) back
-survey_on r [] back = refl
-survey_on r (e ∷ front) back = survey_on (survey_step r e) front back
 
 passed_on : (w : PassedWrites) (ps qs : List Pass) → with_passes w (ps ++ qs) ≡ with_passes (with_passes w ps) qs
 passed_on w [] qs = refl
@@ -151,10 +150,10 @@ calm_after r k s = calm_under r.journal.verdict r refl k.journal.last s.number
 -- ---- the survey so far
 
 -- the survey goes on: so far the machine has been surveyed over some of the events, and the others are left
-pub record SurveysOn (start : State) (all left : List Event) (m : Machine) (writes : Writes) (old new : SinkState) : Type 0 where
+pub record SurveysOn (start : State) (all left : List Event) (m : Machine) (found : Found) (old new : SinkState) : Type 0 where
   pub done : List Event
   pub split : done ++ left ≡ all
-  pub surveyed : HasSurveyed start done m writes old new
+  pub surveyed : HasSurveyed start done m found old new
   pub calm : IsNoWrite (survey start done).journal.verdict
 
 start_runs : (s : State) → IsStart s → s.journal.verdict ≡ Running
@@ -166,12 +165,13 @@ start_runs s (inr (inr k)) = ap (λ (x : State). x.journal.verdict) k.same
 pub new_runs : (m : Machine) (s : State) → IsNew m s → IsStart s → m.journal.verdict ≡ Running
 new_runs m s new is_start = verdict_is m s new.stands ∙ start_runs s is_start
 
-pub surveys_none : (start : State) (all left : List Event) (m : Machine) (w : Writes) (sink : SinkState) → left ≡ all → IsNew m start → IsStart start → writes_view w ≡ no_writes →
+pub surveys_none : (start : State) (all left : List Event) (m : Machine) (w : Found) (sink : SinkState) → left ≡ all → IsNew m start → IsStart start → writes_view w.writes ≡
+    no_writes → loads_view w.loads ≡ no_loads →
     SurveysOn start all left m w sink sink
-surveys_none start all left m w sink same new is_start none = record {
+surveys_none start all left m w sink same new is_start none unrefused = record {
   done = [];
   split = same;
-  surveyed = record { cleared = []; stands = stands_new m start new; writes_are = none; taken = sym (after_taking-nil sink) };
+  surveyed = record { cleared = []; stands = stands_new m start new; writes_are = none; loads_are = unrefused; taken = sym (after_taking-nil sink) };
   calm = none_running start.journal.verdict (start_runs start is_start);
 }
 
@@ -186,7 +186,7 @@ record HasMoved (start : State) (all rest : List Event) (m next passed : Machine
   reached : survey start (done ++ replicate n e) ≡ passed_over (run (survey start done) (replicate n e))
   stands : Stands passed cleared (survey start (done ++ replicate n e))
 
-moved : (n : ℕ) (start : State) (all left rest : List Event) (m next passed : Machine) (w : Writes) (e : Event) (old now : SinkState) → 0 < n → m.journal.verdict ≡ Running →
+moved : (n : ℕ) (start : State) (all left rest : List Event) (m next passed : Machine) (w : Found) (e : Event) (old now : SinkState) → 0 < n → m.journal.verdict ≡ Running →
     (on : SurveysOn start all left m w old now) → left ≡ replicate n e ++ rest → Repeats n m e next → passed ≡ hw_passed_over next →
     HasMoved start all rest m next passed on.done on.surveyed.cleared n e
 moved zero start all left rest m next passed w e old now some running on parts repeats is = absurd (omega arith)
@@ -206,10 +206,12 @@ moved (suc k) start all left rest m next passed w e old now some running on part
           (subst (λ (x : State). Stands (hw_passed_over next) on.surveyed.cleared x) (sym reached) (stands_passed next on.surveyed.cleared (run r row) before));
     }
 
-pub surveys_more : (n : ℕ) (start : State) (all left rest : List Event) (m next passed : Machine) (w after : Writes) (e : Event) (old now : SinkState) → IsStart start → 0 < n →
+pub surveys_more : (n : ℕ) (start : State) (all left rest : List Event) (m next passed : Machine) (w after : Found) (e : Event) (old now : SinkState) → IsStart start → 0 < n →
     m.journal.verdict ≡ Running → SurveysOn start all left m w old now → left ≡ replicate n e ++ rest → Repeats n m e next → passed ≡ hw_passed_over next →
-    writes_view after ≡ with_passes (writes_view w) (pass_of next.journal.verdict) → SurveysOn start all rest passed after old now
-surveys_more n start all left rest m next passed w after e old now is_start some running on parts repeats is kept =
+    writes_view after.writes ≡ with_passes (writes_view w.writes) (pass_of next.journal.verdict) →
+    ((r : State) → StandsFor m r → r.journal.verdict ≡ Running → loads_view after.loads ≡ with_loads (loads_view w.loads) (refusals r e)) →
+    ((r : State) → StandsFor m r → refused r (replicate n e) ≡ refusals r e) → SurveysOn start all rest passed after old now
+surveys_more n start all left rest m next passed w after e old now is_start some running on parts repeats is kept added row_refuses =
     let r : State = survey start on.done in
     let row : List Event = replicate n e in
     let it : HasMoved start all rest m next passed on.done on.surveyed.cleared n e = moved n start all left rest m next passed w e old now some running on parts repeats is in
@@ -226,6 +228,11 @@ surveys_more n start all left rest m next passed w after e old now is_start some
             ∙ ap (λ (v : Verdict). with_passes (writes_in start on.done) (pass_of v)) (verdict_is next (run r row) it.before.stands)
             ∙ ap (λ (ps : List Pass). with_passes (writes_in start on.done) ps) (sym it.row)
             ∙ sym (writes_on start on.done row);
+        loads_are =
+            added r on.surveyed.stands.stands (sym (verdict_is m r on.surveyed.stands.stands) ∙ running)
+            ∙ ap (λ (l : RefusedLoads). with_loads l (refusals r e)) on.surveyed.loads_are
+            ∙ ap (λ (xs : List RefusedLoad). with_loads (loads_in start on.done) xs) (sym (row_refuses r on.surveyed.stands.stands))
+            ∙ sym (loads_on start on.done row);
         taken = on.surveyed.taken;
       };
       calm =
@@ -233,7 +240,7 @@ surveys_more n start all left rest m next passed w after e old now is_start some
           (calm_after (run r row) (keeps_law r row on.surveyed.stands.stands.sound keeps) it.before.stands.sound);
     }
 
-pub surveys_want : (n : ℕ) (start : State) (all left rest : List Event) (m next passed : Machine) (w : Writes) (e : Event) (old now : SinkState) → 0 < n →
+pub surveys_want : (n : ℕ) (start : State) (all left rest : List Event) (m next passed : Machine) (w : Found) (e : Event) (old now : SinkState) → 0 < n →
     m.journal.verdict ≡ Running → SurveysOn start all left m w old now → left ≡ replicate n e ++ rest → Repeats n m e next → passed ≡ hw_passed_over next →
     SurveyWants start all passed old now
 surveys_want n start all left rest m next passed w e old now some running on parts repeats is =
@@ -243,16 +250,23 @@ surveys_want n start all left rest m next passed w e old now some running on par
       taken = on.surveyed.taken;
     }
 
-abbrev among_on : (start : State) (all left : List Event) (m : Machine) (w : Writes) (old new : SinkState) → SurveysOn start all left m w old new → StandsAmong start all m
+-- memory may run out before the next event
+pub surveys_want_now : (start : State) (all left : List Event) (m : Machine) (w : Found) (old new : SinkState) → SurveysOn start all left m w old new → SurveyWants start all m old new
+surveys_want_now start all left m w old new on = record {
+  among = record { done = on.done; left = left; split = on.split; cleared = on.surveyed.cleared; stands = on.surveyed.stands };
+  taken = on.surveyed.taken;
+}
+
+abbrev among_on : (start : State) (all left : List Event) (m : Machine) (w : Found) (old new : SinkState) → SurveysOn start all left m w old new → StandsAmong start all m
 among_on start all left m w old new on = record { done = on.done; left = left; split = on.split; cleared = on.surveyed.cleared; stands = on.surveyed.stands }
 
-pub surveys_break : (start : State) (all left : List Event) (m stays : Machine) (w : Writes) (old now new : SinkState) → SurveysOn start all left m w old now → stays ≡ m →
+pub surveys_break : (start : State) (all left : List Event) (m stays : Machine) (w : Found) (old now new : SinkState) → SurveysOn start all left m w old now → stays ≡ m →
     BreaksOff now new m.journal.printed → SurveyBroke start all stays old new
 surveys_break start all left m stays w old now new on same broke =
     subst (λ (x : Machine). SurveyBroke start all x old new) (sym same)
     (record { among = among_on start all left m w old now on; broke = subst (λ (k : SinkState). BreaksOff k new m.journal.printed) on.surveyed.taken broke })
 
-pub surveys_flush : (start : State) (all left : List Event) (m flushed : Machine) (w : Writes) (old now new : SinkState) → SurveysOn start all left m w old now → Flushed m flushed now new →
+pub surveys_flush : (start : State) (all left : List Event) (m flushed : Machine) (w : Found) (old now new : SinkState) → SurveysOn start all left m w old now → Flushed m flushed now new →
     SurveysOn start all left flushed w old new
 surveys_flush start all left m flushed w old now new on f =
     let c : List ℕ = on.surveyed.cleared in
@@ -263,6 +277,7 @@ surveys_flush start all left m flushed w old now new on f =
         cleared = c ++ f.cleared;
         stands = stands_away m flushed (survey start on.done) c f.cleared on.surveyed.stands f.away;
         writes_are = on.surveyed.writes_are;
+        loads_are = on.surveyed.loads_are;
         taken = f.taken ∙ ap (λ (s : SinkState). after_taking s f.cleared) on.surveyed.taken ∙ after_taking-append old c f.cleared;
       };
       calm = on.calm;
@@ -297,7 +312,7 @@ same_after r left ended none =
     same_run_law r left (subst (λ (x : State). IsNoWrite x.journal.verdict) (sym same) none) ∙ same
 
 -- the machine has ended: a survey of what is left changes nothing
-pub surveys_ended : (start : State) (all left : List Event) (m : Machine) (w : Writes) (old new : SinkState) → SurveysOn start all left m w old new → m.journal.verdict ≢ Running →
+pub surveys_ended : (start : State) (all left : List Event) (m : Machine) (w : Found) (old new : SinkState) → SurveysOn start all left m w old new → m.journal.verdict ≢ Running →
     HasSurveyed start all m w old new
 surveys_ended start all left m w old new on ended =
     let r : State = survey start on.done in
@@ -305,15 +320,18 @@ surveys_ended start all left m w old new on ended =
     let same : r ≡ survey start (on.done ++ left) = sym (same_after r left over on.calm) ∙ sym (survey_on start on.done left) in
     let none : with_passes (writes_in start on.done) (passes r left) ≡ writes_in start on.done =
     ap (λ (ps : List Pass). with_passes (writes_in start on.done) ps) (nothing_after r left over on.calm) in
+    let unrefused : with_loads (loads_in start on.done) (refused r left) ≡ loads_in start on.done =
+    ap (λ (xs : List RefusedLoad). with_loads (loads_in start on.done) xs) (none_after r left over on.calm) in
     subst (λ (es : List Event). HasSurveyed start es m w old new) on.split (record {
       cleared = on.surveyed.cleared;
       stands = subst (λ (x : State). Stands m on.surveyed.cleared x) same on.surveyed.stands;
       writes_are = on.surveyed.writes_are ∙ sym none ∙ sym (writes_on start on.done left);
+      loads_are = on.surveyed.loads_are ∙ sym unrefused ∙ sym (loads_on start on.done left);
       taken = on.surveyed.taken;
     })
 
 -- none is left
-pub surveys_all : (start : State) (all left : List Event) (m : Machine) (w : Writes) (old new : SinkState) → SurveysOn start all left m w old new → left ≡ [] →
+pub surveys_all : (start : State) (all left : List Event) (m : Machine) (w : Found) (old new : SinkState) → SurveysOn start all left m w old new → left ≡ [] →
     HasSurveyed start all m w old new
 surveys_all start all left m w old new on none =
     subst (λ (es : List Event). HasSurveyed start es m w old new) (sym (append-nil on.done) ∙ ap (λ (es : List Event). on.done ++ es) (sym none) ∙ on.split) on.surveyed

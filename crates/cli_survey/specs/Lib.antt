@@ -1,3 +1,5 @@
+pub mod Refusals
+pub mod Looking
 pub mod Surveys
 pub mod SurveyAnswers
 pub mod NoFindings

@@ -3,7 +3,7 @@
 use Rattle.std.specs.Prelude.{◌≡◌, ℕ, List, [], ◌∷◌, ◌++◌, IsTrue, Option, Some, None, Result, Ok, Err, OnOk, IsErrOf}
 use Rattle.sv_types.specs.Kernel.{kernel_segments}
 use Rattle.sv_types.specs.Output.{run_status}
-use Rattle.sv_types.specs.Policies.{Rules}
+use Rattle.sv_types.specs.Policies.{ModuleRule, Rules}
 use Rattle.sv_types.specs.Schedule.{first_events, line_feed}
 use Rattle.sv_types.specs.declared.event.Event.{Event}
 use Rattle.sv_types.specs.declared.event.Note.{Note}
@@ -16,8 +16,10 @@ use Rattle.spec_hardware.specs.Machine.{Machine}
 use Rattle.spec_hardware.specs.Reaches.{IsNew}
 use Rattle.laws_simulation.specs.Passing.{survey}
 use Rattle.elf64_load.specs.Names.{names_in}
-use Rattle.report.specs.Findings.{PassedWrites}
+use Rattle.report.specs.Findings.{PassedWrites, RefusedLoads}
 use Rattle.report.specs.Lines.{survey_lines}
+use Rattle.report.specs.Views.{loads_view, writes_view}
+use Rattle.report.specs.declared.findings.found.Found.{Found}
 use Rattle.host_io.specs.Endings.{status_of_end}
 use Rattle.host_io.specs.Outside.{FilesState, SinkState}
 use Rattle.host_io.specs.declared.trouble.Trouble.{Trouble}
@@ -29,6 +31,7 @@ use Rattle.cli_plans.specs.declared.refusal.Refusal.{Refusal}
 use Rattle.secvisor_cli.specs.Answers.{Outside, outside, Writes, WritesAndSaves}
 use Rattle.secvisor_cli.specs.Ready.{IsFresh, Prepares}
 use Rattle.secvisor_cli.specs.declared.ready.Stop.{Stop}
+use Rattle.cli_survey.specs.Refusals.{loads_in}
 use Rattle.cli_survey.specs.Surveys.{StandsAmong, writes_in}
 use Rattle.cli_survey.specs.declared.ready.ReadySurvey.{ReadySurvey}
 
@@ -39,13 +42,17 @@ abbrev pub set_apart : (lines : List ℕ) → List ℕ
 set_apart [] = []
 set_apart (byte ∷ lines) = line_feed ∷ byte ∷ lines
 
--- the lines of what was found, with the names of the kernel's file
-abbrev pub lines_of : (file : List ℕ) → PassedWrites → List Note → List ℕ
-lines_of file writes notes = set_apart (survey_lines (names_in file (kernel_segments file)) writes notes)
+-- the lines of what was found, with the names of the kernel's file and of the policy's modules
+abbrev pub lines_of : (file : List ℕ) → List ModuleRule → PassedWrites → RefusedLoads → List Note → List ℕ
+lines_of file modules writes loads notes = set_apart (survey_lines (names_in file (kernel_segments file)) modules writes loads notes)
+
+-- the same of what was found so far
+abbrev pub lines_found : (file : List ℕ) → Machine → Found → List ℕ
+lines_found file machine found = lines_of file machine.rules.modules (writes_view found.writes) (loads_view found.loads) machine.journal.notes
 
 -- what stands after the console
-abbrev pub ending_of : (file : List ℕ) → PassedWrites → State → List ℕ
-ending_of file writes last = lines_of file writes last.journal.notes ++ report last.journal
+abbrev pub ending_of : (file : List ℕ) → PassedWrites → RefusedLoads → State → List ℕ
+ending_of file writes loads last = lines_of file last.rules.modules writes loads last.journal.notes ++ report last.journal
 
 -- the machine stopped where a line says so
 abbrev pub survey_status : (lines : List ℕ) → Verdict → Status
@@ -53,11 +60,13 @@ survey_status [] verdict = run_status verdict
 survey_status (byte ∷ lines) verdict = Status.Stopped
 
 abbrev pub lines_due : (file : List ℕ) → State → List Event → List ℕ
-lines_due file start events = lines_of file (writes_in start events) (survey start events).journal.notes
+lines_due file start events =
+    lines_of file (survey start events).rules.modules (writes_in start events) (loads_in start events) (survey start events).journal.notes
 
 -- all bytes that are due: the console of the survey, the lines of its findings, and the report
 abbrev pub bytes_due : (file : List ℕ) → State → List Event → List ℕ
-bytes_due file start events = (survey start events).journal.printed ++ ending_of file (writes_in start events) (survey start events)
+bytes_due file start events =
+    (survey start events).journal.printed ++ ending_of file (writes_in start events) (loads_in start events) (survey start events)
 
 abbrev pub status_due : (file : List ℕ) → State → List Event → Status
 status_due file start events = survey_status (lines_due file start events) (survey start events).journal.verdict

@@ -14,10 +14,11 @@ use Rattle.host_io.specs.declared.trouble.Trouble.{Trouble}
 use Rattle.host_io.specs.declared.trouble.Trouble.TheVariants.{Write, Memory}
 use Rattle.machine.specs.Console.{MayRun}
 use Rattle.machine.specs.Standing.{Stands}
-use Rattle.report.specs.Findings.{PassedWrites, no_writes, with_write}
-use Rattle.report.specs.Views.{writes_view}
+use Rattle.report.specs.Findings.{PassedWrites, no_loads, no_writes, with_write}
+use Rattle.report.specs.Views.{loads_view, writes_view}
 use Rattle.report.specs.declared.findings.findings.Occurrence.{Occurrence}
-use Rattle.report.specs.declared.findings.findings.Writes.{Writes}
+use Rattle.report.specs.declared.findings.found.Found.{Found}
+use Rattle.cli_survey.specs.Refusals.{loads_in}
 
 -- ---- what was passed over
 
@@ -39,12 +40,13 @@ is_running (Stopped rule h turn) = false
 
 -- ---- a survey so far
 
--- The machine stands where the survey is after these events, but for console bytes that the sink took, and the writes are those
--- that it passed over.
-pub record HasSurveyed (start : State) (done : List Event) (machine : Machine) (writes : Writes) (old new : SinkState) : Type 0 where
+-- The machine stands where the survey is after these events, but for console bytes that the sink took, the writes are those that
+-- it passed over, and the loads those that it saw refused.
+pub record HasSurveyed (start : State) (done : List Event) (machine : Machine) (found : Found) (old new : SinkState) : Type 0 where
   pub cleared : List ℕ
   pub stands : Stands machine cleared (survey start done)
-  pub writes_are : writes_view writes ≡ writes_in start done
+  pub writes_are : writes_view found.writes ≡ writes_in start done
+  pub loads_are : loads_view found.loads ≡ loads_in start done
   pub taken : new ≡ after_taking old cleared
 
 -- the machine stands where the survey is after some of these events, and console bytes were taken before
@@ -65,18 +67,19 @@ pub record SurveyWants (start : State) (events : List Event) (machine : Machine)
   pub among : StandsAmong start events machine
   pub taken : new ≡ after_taking old among.cleared
 
-abbrev pub Surveyed : State → List Event → Machine → Writes → SinkState → SinkState → Result (Unit {0}) Trouble → Type 0
-Surveyed start events machine writes old new (Ok _) = HasSurveyed start events machine writes old new
-Surveyed start events machine writes old new (Err Write) = SurveyBroke start events machine old new
-Surveyed start events machine writes old new (Err Memory) = SurveyWants start events machine old new
+abbrev pub Surveyed : State → List Event → Machine → Found → SinkState → SinkState → Result (Unit {0}) Trouble → Type 0
+Surveyed start events machine found old new (Ok _) = HasSurveyed start events machine found old new
+Surveyed start events machine found old new (Err Write) = SurveyBroke start events machine old new
+Surveyed start events machine found old new (Err Memory) = SurveyWants start events machine old new
 
 -- from every start that the first machine is new for
-abbrev pub SurveyedFromStart : Machine → List Event → Machine → Writes → SinkState → SinkState → Result (Unit {0}) Trouble → Type 0
-SurveyedFromStart first events machine writes old new result =
-    (start : State) → IsNew first start → IsStart start → Surveyed start events machine writes old new result
+abbrev pub SurveyedFromStart : Machine → List Event → Machine → Found → SinkState → SinkState → Result (Unit {0}) Trouble → Type 0
+SurveyedFromStart first events machine found old new result =
+    (start : State) → IsNew first start → IsStart start → Surveyed start events machine found old new result
 
--- a running machine may be surveyed over so many events, and nothing was passed over yet
-pub record MaySurvey (machine : Machine) (events : ℕ) (writes : Writes) (to : SinkState) : Type 0 where
+-- a running machine may be surveyed over so many events, and nothing was found yet
+pub record MaySurvey (machine : Machine) (events : ℕ) (found : Found) (to : SinkState) : Type 0 where
   pub run : MayRun machine events to
   pub running : machine.journal.verdict ≡ Running
-  pub none : writes_view writes ≡ no_writes
+  pub none : writes_view found.writes ≡ no_writes
+  pub none_refused : loads_view found.loads ≡ no_loads

@@ -1,5 +1,5 @@
 // The answer to the words of `survey`.
-ghost use Rattle.std.specs.Prelude.{◌≡◌, ◌<◌, ◌≤◌, ◌-◌, map, string_bytes, false};
+ghost use Rattle.std.specs.Prelude.{◌≡◌, ◌<◌, ◌≤◌, ◌-◌, ◌⊎◌, ℕ, List, None, IsTrue, map, string_bytes, false};
 ghost use Rattle.std.specs.Result.{is_ok};
 ghost use Rattle.spec_processor.specs.Counters.{CanCount};
 ghost use Rattle.sv_types.specs.Schedule.{first_events};
@@ -10,7 +10,7 @@ ghost use Rattle.host_io.specs.Outside.{FilesState, MayWrite};
 ghost use Rattle.machine.specs.Console.{MayRun};
 ghost use Rattle.cli_plans.specs.CommandLine.{survey_judged};
 ghost use Rattle.cli_plans.specs.Plans.{run_plan, survey_plan};
-ghost use Rattle.cli_plans.specs.Reading.{MayFollow};
+ghost use Rattle.cli_plans.specs.Reading.{IsNamed, MayFollow};
 ghost use Rattle.cli_plans.specs.Words.{IsSurveyRun, run_value};
 ghost use Rattle.secvisor_cli.specs.Answers.{outside};
 ghost use Rattle.secvisor_cli.specs.Ready.{IsFresh};
@@ -22,7 +22,7 @@ use crate::surveying::survey;
 use cli_plans::{Run, Unread, ask_survey};
 use host_io::{Files, Sink};
 use machine::Machine;
-use report::findings::no_writes;
+use report::findings::nothing_found;
 use script::Script;
 use secvisor_cli::{Bench, Status, Stop, Trouble, refuse, status_of_end};
 use std::alloc::Global;
@@ -48,6 +48,12 @@ pub fn secvisor_survey<R: Threads + Sync, F: Files, O: Sink>(
     ensures headline { SurveyHeadline (survey_judged (map string_bytes words.now))
         (outside (F.state files.old) (O.state out.old) bench.old.machine)
         (outside (F.state files.new) (O.state out.new) bench.new.machine) result }
+
+    // A read fault is answered only where the files tell that a name of the words isn't held, or the count of reads rose.
+    ensures read_fault { result ≡ Status.ReadFault →
+        (IsTrue (F.state files.old).tells ×
+        ((name : List ℕ) × IsNamed (survey_plan (survey_judged (map string_bytes words.now))) name × ((F.state files.old).held name ≡ None)))
+        ⊎ ((F.state files.old).read_faults < (F.state files.new).read_faults) }
 
     // No file changes, nothing is saved, words that are refused read no file, and the counts of faults never fall.
     ensures same { ((F.state files.new).held ≡ (F.state files.old).held) × ((F.state files.new).save_faults ≡ (F.state files.old).save_faults) }
@@ -147,7 +153,7 @@ fn survey_and_report<O: Sink>(
     ensures { (start : State) → IsNew machine.old start → IsStart start →
         SurveysTo kernel.now.bytes.items start (first_events events script) machine.new (O.state out.old) (O.state out.new) result }
 {
-    let mut writes = no_writes(alloc);
-    survey(machine, script, events, &mut writes, out)?;
-    finish(alloc, machine, &writes, kernel, out)
+    let mut found = nothing_found(alloc);
+    survey(machine, script, events, &mut found, out)?;
+    finish(alloc, machine, &found, kernel, out)
 }

@@ -3,21 +3,20 @@ ghost use Rattle.std.specs.Prelude.{◌≡◌, ◌++◌, IfOk, IsErrOf};
 ghost use Rattle.sv_types.specs.Kernel.{kernel_segments};
 ghost use Rattle.spec_reference.specs.Report.{report};
 ghost use Rattle.elf64_load.specs.Images.{segments_of};
-ghost use Rattle.report.specs.Views.{writes_view};
 ghost use Rattle.host_io.specs.Outside.{MayWrite};
 ghost use Rattle.host_io.specs.declared.trouble.Trouble.TheVariants.{Memory};
 ghost use Rattle.secvisor_cli.specs.Answers.{Writes as WritesAll};
-ghost use Rattle.cli_survey.specs.SurveyAnswers.{lines_of, set_apart, survey_status};
+ghost use Rattle.cli_survey.specs.SurveyAnswers.{lines_found, set_apart, survey_status};
 
 use crate::ready::KernelFile;
 use elf64_load::symbols::kernel_names;
 use elf64_load::{KernelImage, read_kernel};
 use host_io::{Sink, Trouble, write_all};
 use machine::Machine;
-use report::findings::{Writes, survey_lines};
+use report::findings::{Found, survey_lines};
 use report::{report, status_of};
 use std::alloc::{AllocError, Global};
-use sv_types::{Note, Status, Verdict};
+use sv_types::{Status, Verdict};
 
 // The image of a kernel's file, which was read before, so that nothing but memory is left to fail.
 fn image_again(alloc: Global, kernel: &KernelFile) -> Result<KernelImage<'_>, AllocError>
@@ -33,13 +32,13 @@ fn image_again(alloc: Global, kernel: &KernelFile) -> Result<KernelImage<'_>, Al
 fn lines(
     alloc: Global,
     kernel: &KernelFile,
-    writes: &Writes,
-    notes: &[Note],
+    machine: &Machine,
+    found: &Found,
 ) -> Result<Vec<u8>, AllocError>
-    ensures { IfOk result (λ lines. lines.items ≡ lines_of kernel.now.bytes.items (writes_view writes.now) notes.now) }
+    ensures { IfOk result (λ lines. lines.items ≡ lines_found kernel.now.bytes.items machine.now found.now) }
 {
     let image = image_again(alloc, kernel)?;
-    lines_with(alloc, &kernel.bytes, &image, writes, notes)
+    lines_with(alloc, &kernel.bytes, &image, machine, found)
 }
 
 // The same with the image of the kernel's file.
@@ -47,14 +46,14 @@ fn lines_with(
     alloc: Global,
     file: &[u8],
     image: &KernelImage<'_>,
-    writes: &Writes,
-    notes: &[Note],
+    machine: &Machine,
+    found: &Found,
 ) -> Result<Vec<u8>, AllocError>
     requires { segments_of image.now ≡ kernel_segments file.now }
-    ensures { IfOk result (λ lines. lines.items ≡ lines_of file.now (writes_view writes.now) notes.now) }
+    ensures { IfOk result (λ lines. lines.items ≡ lines_found file.now machine.now found.now) }
 {
     let names = kernel_names(alloc, file, image)?;
-    let lines = survey_lines(alloc, &names, writes, notes)?;
+    let lines = survey_lines(alloc, &names, machine.policy(), found, machine.journal())?;
     set_apart(alloc, &lines)
 }
 
@@ -87,18 +86,18 @@ fn status_with(lines: &[u8], verdict: Verdict) -> Status
 pub(crate) fn finish<O: Sink>(
     alloc: Global,
     machine: &Machine,
-    writes: &Writes,
+    found: &Found,
     kernel: &KernelFile,
     out: &mut O,
 ) -> Result<Status, Trouble>
     requires sink { MayWrite (O.state out.old) }
     ensures writes { WritesAll
-        (survey_status (lines_of kernel.now.bytes.items (writes_view writes.now) machine.now.journal.notes) machine.now.journal.verdict)
-        (machine.now.journal.printed ++ (lines_of kernel.now.bytes.items (writes_view writes.now) machine.now.journal.notes ++ report machine.now.journal))
+        (survey_status (lines_found kernel.now.bytes.items machine.now found.now) machine.now.journal.verdict)
+        (machine.now.journal.printed ++ (lines_found kernel.now.bytes.items machine.now found.now ++ report machine.now.journal))
         (O.state out.old) (O.state out.new) result }
     ensures quiet { IsErrOf result Memory → O.state out.new ≡ O.state out.old }
 {
-    let lines = lines(alloc, kernel, writes, machine.journal())?;
+    let lines = lines(alloc, kernel, machine, found)?;
     let status = status_with(&lines, machine.verdict());
     let text = ending(alloc, machine, lines)?;
     write_all(out, machine.printed())?;

@@ -4,6 +4,7 @@
 mod answer;
 mod ending;
 mod laws;
+mod looking;
 mod ready;
 mod surveying;
 

@@ -1,13 +1,13 @@
 -- What a survey found, counted by a key, in the order in which each was first seen: the writes that it passed over by the pc of
--- the instruction, and the demotions and the denied moves of devices by the page. This project's own.
-use Rattle.std.specs.Prelude.{ℕ, zero, suc, ◌+◌, ◌-◌, ◌%◌, ◌^◌, List, [], ◌∷◌, length, ◌==◌, ◌||◌, if◌then◌else◌, nat_lt, min, max, Bool, Option}
+-- the instruction, and the demotions and the denied moves of devices by the page; and the loads that were refused, one by one. This project's own.
+use Rattle.std.specs.Prelude.{ℕ, zero, suc, ◌+◌, ◌-◌, ◌%◌, ◌^◌, List, [], ◌∷◌, ◌++◌, length, ◌==◌, ◌||◌, if◌then◌else◌, nat_lt, min, max, Bool, Option}
 use Rattle.std.specs.List.{list_any, position}
 use Rattle.spec_processor.specs.Bytes.{page_size}
 use Rattle.sv_types.specs.declared.event.Note.{Note}
 use Rattle.sv_types.specs.declared.event.Note.TheVariants.{Demote, Denied, Load, Unload, Retire}
-use Rattle.sv_types.specs.declared.sbi.SbiCode.{SbiCode}
 use Rattle.report.specs.declared.findings.findings.Occurrence.{Occurrence}
 use Rattle.report.specs.declared.findings.findings.Finding.{Finding}
+use Rattle.report.specs.declared.findings.loads.RefusedLoad.{RefusedLoad}
 
 -- so many findings of a kind are kept
 abbrev pub max_findings : ℕ
@@ -59,6 +59,19 @@ no_writes = record { findings = []; total = 0 }
 abbrev pub with_write : PassedWrites → Occurrence → PassedWrites
 with_write w o = record { findings = after_occurrence w.findings o; total = raised w.total }
 
+-- ---- the loads that were refused
+
+-- the first of them, and how many they are in all
+pub record RefusedLoads : Type 0 where
+  pub kept : List RefusedLoad
+  pub total : ℕ
+
+abbrev pub no_loads : RefusedLoads
+no_loads = record { kept = []; total = 0 }
+
+abbrev pub with_load : RefusedLoads → RefusedLoad → RefusedLoads
+with_load l load = record { kept = if nat_lt (length l.kept) max_findings then l.kept ++ load ∷ [] else l.kept; total = raised l.total }
+
 -- ---- from notes
 
 -- the address of the page of RAM in which an address lies
@@ -81,25 +94,9 @@ after_denied fs (Load h turn id code) = fs
 after_denied fs (Unload h turn id code) = fs
 after_denied fs (Retire h turn code) = fs
 
--- a load that was refused, since the text isn't the one that the policy permits: by the module's number
-abbrev pub refused_by_code : List Finding → SbiCode → Occurrence → List Finding
-refused_by_code fs SbiCode.RefusedByMeasure o = after_occurrence fs o
-refused_by_code fs _ o = fs
-
-unfoldable pub after_load : List Finding → Note → List Finding
-after_load fs (Demote h turn pc gpa) = fs
-after_load fs (Denied gpa) = fs
-after_load fs (Load h turn id code) = refused_by_code fs code (record { key = id; address = 0; hart = h; turn = turn })
-after_load fs (Unload h turn id code) = fs
-after_load fs (Retire h turn code) = fs
-
 abbrev pub demotions : List Finding → List Note → List Finding
 demotions fs [] = fs
 demotions fs (note ∷ notes) = demotions (after_demotion fs note) notes
-
-abbrev pub refused_loads : List Finding → List Note → List Finding
-refused_loads fs [] = fs
-refused_loads fs (note ∷ notes) = refused_loads (after_load fs note) notes
 
 abbrev pub denied_moves : List Finding → List Note → List Finding
 denied_moves fs [] = fs

@@ -6,7 +6,7 @@ ghost use Rattle.report.specs.Views.{writes_view};
 
 use spec_processor::PAGE_BYTES;
 use std::alloc::{AllocError, Global};
-use sv_types::{Note, SbiCode};
+use sv_types::Note;
 
 /// So many findings of a kind are kept.
 pub const MAX_FINDINGS: usize = 4096;
@@ -49,7 +49,7 @@ fn first_finding(occurrence: &Occurrence) -> Finding
 }
 
 // One more, up to the most that a number of 64 bits holds.
-fn raised(count: u64) -> u64
+pub(crate) fn raised(count: u64) -> u64
     ensures { result ≡ spec.raised count }
 {
     count.saturating_add(1)
@@ -184,56 +184,6 @@ pub(crate) fn demotions(alloc: Global, notes: &[Note]) -> Result<Vec<Finding>, A
     let mut found = Vec::new(alloc);
     'notes: for note in notes {
         add_demotion(&mut found, *note)?;
-    }
-    Ok(found)
-}
-
-#[tactic(auto, unfolding(crate::specs::Findings::after_load))]
-fn add_load(findings: &mut Vec<Finding>, note: Note) -> Result<(), AllocError>
-    ensures { OnOk result (findings.new.items ≡ spec.after_load findings.old.items note) }
-{
-    match note {
-        Note::Load {
-            hart,
-            turn,
-            id,
-            code,
-        } => {
-            let occurrence = Occurrence {
-                key: id,
-                address: 0,
-                hart,
-                turn,
-            };
-            add_refused(findings, code, &occurrence)
-        }
-        Note::Demote { .. } | Note::Denied { .. } | Note::Unload { .. } | Note::Retire { .. } => {
-            Ok(())
-        }
-    }
-}
-
-// A load that was refused, since the text isn't the one that the policy permits.
-fn add_refused(
-    findings: &mut Vec<Finding>,
-    code: SbiCode,
-    load: &Occurrence,
-) -> Result<(), AllocError>
-    ensures { OnOk result (findings.new.items ≡ spec.refused_by_code findings.old.items code load.now) }
-{
-    match code {
-        SbiCode::RefusedByMeasure => add(findings, load),
-        _ => Ok(()),
-    }
-}
-
-/// The modules whose loads were refused for their text, by the notes of a run. Fails where memory runs out.
-pub(crate) fn refused_loads(alloc: Global, notes: &[Note]) -> Result<Vec<Finding>, AllocError>
-    ensures { IfOk result (λ found. found.items ≡ spec.refused_loads [] notes.now) }
-{
-    let mut found = Vec::new(alloc);
-    'notes: for note in notes {
-        add_load(&mut found, *note)?;
     }
     Ok(found)
 }

@@ -1,15 +1,19 @@
 // The lines of a survey's findings.
 
-ghost use Rattle.std.specs.Prelude.{◌≡◌, ◌++◌, IfOk, OnOk, option_map, string_bytes};
+ghost use Rattle.std.specs.Prelude.{◌≡◌, ◌++◌, IfOk, OnOk, option_map, slice_get, string_bytes};
+ghost use Rattle.sv_types.specs.Policies.{rules_of};
 ghost use Rattle.elf64_load.specs.KernelViews.{names_view};
 ghost use Rattle.elf64_load.specs.SymbolsViews.{location_view};
 ghost use Rattle.report.specs.Lines as spec;
-ghost use Rattle.report.specs.Views.{writes_view};
+ghost use Rattle.report.specs.Views.{loads_view, writes_view};
 
-use crate::findings::findings::{Finding, Writes, demotions, denied_moves, refused_loads};
-use elf64_load::symbols::{KernelNames, Location, location_text};
+use crate::findings::findings::{Finding, demotions, denied_moves};
+use crate::findings::found::Found;
+use crate::findings::loads::{Loads, RefusedLoad};
+use elf64_load::symbols::{KernelNames, Location, location_text, push_name};
+use page_measure::fields::WrongField;
 use std::alloc::{AllocError, Global};
-use sv_types::Note;
+use sv_types::{Note, Policy};
 use text_numbers::address_text;
 
 // The name of an address, or a dash.
@@ -176,31 +180,111 @@ fn push_fetch_lines(
     Ok(())
 }
 
-#[tactic(auto, unfolding(crate::specs::Lines::load_line))]
-fn load_line(alloc: Global, finding: &Finding) -> Result<String, AllocError>
-    ensures { IfOk result (λ t. string_bytes t ≡ spec.load_line finding.now) }
+// The name of a module of the policy.
+#[tactic(auto, unfolding(crate::specs::Lines::module_text))]
+fn module_text(alloc: Global, policy: &Policy, id: u64) -> Result<Vec<u8>, AllocError>
+    ensures { IfOk result (λ t. t.items ≡ spec.module_text (slice_get (rules_of policy.now).modules id)) }
 {
-    let id = finding.key;
-    let times = finding.times;
-    let hart = finding.hart;
-    let turn = finding.turn;
-    format!(in alloc; "load id {id} times {times} hart {hart} turn {turn}\n")
+    let mut text = Vec::new(alloc);
+    match policy.modules.get(id as usize) {
+        Some(module) => push_name(&mut text, module.name.text().as_bytes())?,
+        None => text.extend_from_slice(b"-")?,
+    }
+    Ok(text)
 }
 
-// The lines of the modules whose loads were refused for their text.
+// What was found of its text.
+#[tactic(auto, unfolding(crate::specs::Lines::fault_text))]
+fn fault_text(alloc: Global, wrong: Option<WrongField>) -> Result<String, AllocError>
+    ensures { IfOk result (λ t. string_bytes t ≡ spec.fault_text wrong) }
+{
+    match wrong {
+        None => format!(in alloc; " measure"),
+        Some(field) => {
+            let offset = address_text(alloc, field.offset as u64)?;
+            let holds = address_text(alloc, field.holds)?;
+            let due = address_text(alloc, field.due)?;
+            format!(in alloc; " field {offset} holds {holds} due {due}")
+        }
+    }
+}
+
+// In which hart, and when.
+#[tactic(auto, unfolding(crate::specs::Lines::load_end))]
+fn load_end(alloc: Global, load: &RefusedLoad) -> Result<String, AllocError>
+    ensures { IfOk result (λ t. string_bytes t ≡ spec.load_end load.now) }
+{
+    let hart = load.hart;
+    let turn = load.turn;
+    format!(in alloc; " hart {hart} turn {turn}\n")
+}
+
+fn joined_load(alloc: Global, name: &[u8], fault: &[u8], rest: &[u8]) -> Result<Vec<u8>, AllocError>
+    ensures { IfOk result (λ t. t.items ≡ spec.joined_load name.now fault.now rest.now) }
+{
+    let mut line = b"load ".to_vec(alloc)?;
+    line.extend_from_slice(name)?;
+    line.extend_from_slice(fault)?;
+    line.extend_from_slice(rest)?;
+    Ok(line)
+}
+
+#[tactic(auto, unfolding(crate::specs::Lines::load_line))]
+fn load_line(alloc: Global, policy: &Policy, load: &RefusedLoad) -> Result<Vec<u8>, AllocError>
+    ensures { IfOk result (λ t. t.items ≡ spec.load_line (rules_of policy.now).modules load.now) }
+{
+    let name = module_text(alloc, policy, load.id)?;
+    let fault = fault_text(alloc, load.wrong)?;
+    let rest = load_end(alloc, load)?;
+    joined_load(
+        alloc,
+        &name,
+        fault.as_str().as_bytes(),
+        rest.as_str().as_bytes(),
+    )
+}
+
+// The lines of the loads that were refused.
 #[tactic(auto, unfolding(crate::specs::Lines::load_lines))]
 fn push_load_lines(
     alloc: Global,
     text: &mut Vec<u8>,
-    findings: &[Finding],
+    policy: &Policy,
+    loads: &[RefusedLoad],
 ) -> Result<(), AllocError>
-    ensures { OnOk result (text.new.items ≡ text.old.items ++ spec.load_lines findings.now) }
+    ensures { OnOk result (text.new.items ≡ text.old.items ++ spec.load_lines (rules_of policy.now).modules loads.now) }
 {
-    'findings: for finding in findings {
-        let line = load_line(alloc, finding)?;
-        text.extend_from_slice(line.as_str().as_bytes())?;
+    'loads: for load in loads {
+        let line = load_line(alloc, policy, load)?;
+        text.extend_from_slice(&line)?;
     }
     Ok(())
+}
+
+// How many loads were refused, where any were.
+#[tactic(auto, unfolding(crate::specs::Lines::loads_line))]
+fn loads_line(alloc: Global, total: u64) -> Result<String, AllocError>
+    ensures { IfOk result (λ t. string_bytes t ≡ spec.loads_line total) }
+{
+    if total == 0 {
+        return Ok(String::new(alloc));
+    }
+    format!(in alloc; "loads {total}\n")
+}
+
+// All that is said of refused loads.
+#[tactic(auto, unfolding(crate::specs::Lines::all_loads))]
+fn push_all_loads(
+    alloc: Global,
+    text: &mut Vec<u8>,
+    policy: &Policy,
+    loads: &Loads,
+) -> Result<(), AllocError>
+    ensures { OnOk result (text.new.items ≡ text.old.items ++ spec.all_loads (rules_of policy.now).modules (loads_view loads.now)) }
+{
+    push_load_lines(alloc, text, policy, &loads.kept)?;
+    let total = loads_line(alloc, loads.total)?;
+    text.extend_from_slice(total.as_str().as_bytes())
 }
 
 #[tactic(auto, unfolding(crate::specs::Lines::denied_line))]
@@ -230,27 +314,27 @@ fn push_denied_lines(
 
 /// The lines of a survey's findings. First those of the writes that it passed over, in the order of their first turns: of each pc how
 /// often it wrote, the first hart and turn, the lowest and highest address, and the names of the pc and of the lowest address, or a
-/// dash, and then how many writes there were in all, where there were any. Then by the notes those of the pages at
-/// which kernel mode was left, with the first hart, turn and pc, of the modules whose loads were refused for their
-/// text, and of the pages that
-/// devices were kept from. Fails where memory runs out.
+/// dash, and then how many writes there were in all, where there were any. Then by the notes those of the pages at which kernel mode
+/// was left, with the first hart, turn and pc; those of the loads that were refused for their text, with the module's name and what
+/// was found, and how many they were; and by the notes those of the pages that devices were kept from. Fails where memory runs out.
 #[tactic(auto, unfolding(crate::specs::Lines::survey_lines))]
 pub fn survey_lines(
     alloc: Global,
     names: &KernelNames,
-    writes: &Writes,
+    policy: &Policy,
+    found: &Found,
     notes: &[Note],
 ) -> Result<Vec<u8>, AllocError>
-    ensures { IfOk result (λ t. t.items ≡ spec.survey_lines (names_view names.now) (writes_view writes.now) notes.now) }
+    ensures { IfOk result (λ t. t.items ≡
+        spec.survey_lines (names_view names.now) (rules_of policy.now).modules (writes_view found.now.writes) (loads_view found.now.loads) notes.now) }
 {
     let mut text = Vec::new(alloc);
-    push_write_lines(alloc, &mut text, names, &writes.findings)?;
-    let total = total_line(alloc, writes.total)?;
+    push_write_lines(alloc, &mut text, names, &found.writes.findings)?;
+    let total = total_line(alloc, found.writes.total)?;
     text.extend_from_slice(total.as_str().as_bytes())?;
     let demotions = demotions(alloc, notes)?;
     push_fetch_lines(alloc, &mut text, names, &demotions)?;
-    let loads = refused_loads(alloc, notes)?;
-    push_load_lines(alloc, &mut text, &loads)?;
+    push_all_loads(alloc, &mut text, policy, &found.loads)?;
     let denied = denied_moves(alloc, notes)?;
     push_denied_lines(alloc, &mut text, &denied)?;
     Ok(text)

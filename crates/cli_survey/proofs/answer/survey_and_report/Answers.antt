@@ -9,7 +9,8 @@ pub survey-requires : goal.survey-requires
 survey-requires g c = record {
   run = c.requires.may;
   running = new_runs c.args.machine.now c.requires.starts.start c.requires.starts.is_new c.requires.starts.is_start;
-  none = c.no_writes-writes.ensures;
+  none = c.nothing_found-found.ensures.writes;
+  none_refused = c.nothing_found-found.ensures.loads;
 }
 
 pub returns-in_err-survey : goal.returns-in_err-survey
@@ -17,13 +18,13 @@ returns-in_err-survey g c = λ start new is_start.
     err_by _ c.in_err-survey.field-0.0
     (λ r. SurveysTo c.args.kernel.now.bytes.items start (first_events c.args.events c.args.script) c.survey.new.machine (g.O.Sink.state c.args.out.now) (g.O.Sink.state c.survey.new.out) r)
     c.from_residual.ensures.1
-    (survey_failed c.args.kernel.now.bytes.items start _ c.survey.new.machine c.survey.new.writes _ _ c.in_err-survey.field-0.0 (c.in_err-survey.ensures start new is_start))
+    (survey_failed c.args.kernel.now.bytes.items start _ c.survey.new.machine c.survey.new.found _ _ c.in_err-survey.field-0.0 (c.in_err-survey.ensures start new is_start))
 
 pub finish-requires : goal.finish-requires
 finish-requires g c =
     let s = c.requires.starts in
-    record { sink = may_write s.start _ c.survey.new.machine c.survey.new.writes _ _ (c.in_ok-survey.ensures s.start s.is_new s.is_start) c.requires.may.sink }
+    record { sink = may_write s.start _ c.survey.new.machine c.survey.new.found _ _ (c.in_ok-survey.ensures s.start s.is_new s.is_start) c.requires.may.sink }
 
 pub returns : goal.returns
 returns g c = λ start new is_start.
-    survey_finished c.args.kernel.now.bytes.items start _ c.survey.new.machine c.survey.new.writes _ _ _ c.finish.result (c.in_ok-survey.ensures start new is_start) c.finish.ensures.writes
+    survey_finished c.args.kernel.now.bytes.items start _ c.survey.new.machine c.survey.new.found _ _ _ c.finish.result (c.in_ok-survey.ensures start new is_start) c.finish.ensures.writes

@@ -15,7 +15,7 @@ use Rattle.cli_survey.proofs.surveying.survey_in_batches.Given as goal
 abbrev pub invariant-events : goal.invariant-events
 invariant-events g l = record {
   on : (start : State) → IsNew l.initial.machine start → IsStart start →
-      SurveysOn start (first_events l.events (g.S.EventSource.schedule l.fn.source)) (events_left g.S.EventSource.schedule l.drawing) l.machine l.writes
+      SurveysOn start (first_events l.events (g.S.EventSource.schedule l.fn.source)) (events_left g.S.EventSource.schedule l.drawing) l.machine l.found
       (g.O.Sink.state l.initial.out) (g.O.Sink.state l.out);
   running : l.machine.journal.verdict ≡ Running;
   has : HasState l.machine;

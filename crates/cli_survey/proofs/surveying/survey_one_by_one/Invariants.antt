@@ -14,7 +14,7 @@ use Rattle.cli_survey.proofs.surveying.survey_one_by_one.Given as goal
 abbrev pub invariant-events : goal.invariant-events
 invariant-events g l = record {
   on : (start : State) → IsNew l.initial.machine start → IsStart start →
-      SurveysOn start (first_events l.events (g.S.EventSource.schedule l.fn.source)) (first_events l.left (g.S.EventSource.schedule l.source)) l.machine l.writes
+      SurveysOn start (first_events l.events (g.S.EventSource.schedule l.fn.source)) (first_events l.left (g.S.EventSource.schedule l.source)) l.machine l.found
       (g.O.Sink.state l.initial.out) (g.O.Sink.state l.out);
   running : l.machine.journal.verdict ≡ Running;
   has : HasState l.machine;
