@@ -128,8 +128,13 @@ one_step m now after h n batch on loading is quiet =
     record {
       chain = (
         now,
-        (batch.chain, (record { on = record { quiet = batch.quiet; running = on }; loading = λ none. loading ∙ none },
-            record { stands = step_stands now after (Turn h) is; event = step_happens now after batch.state (Turn h) batch.stands is })),
+        (
+          batch.chain,
+          (
+            record { on = record { quiet = batch.quiet; running = on }; loading = λ none. loading ∙ none },
+            record { stands = step_stands now after (Turn h) is; event = step_happens now after batch.state (Turn h) batch.stands is },
+          ),
+        ),
       );
       quiet = quiet;
       state = step batch.state (Turn h);

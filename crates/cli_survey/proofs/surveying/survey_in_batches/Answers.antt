@@ -57,20 +57,22 @@ returns-in_err-on g c = λ start new is_start.
     let parts : events_left g.S.EventSource.schedule c.events.drawing ≡ replicate c.repeat_to_load-made.result c.in-Some.batch.event ++ events_left g.S.EventSource.schedule c.count_down.new.self =
     sym hand.left ∙ c.count_down.ensures.left ∙ ap (λ (r : EventRun). replicate c.repeat_to_load-made.result r.event ++ events_left g.S.EventSource.schedule c.count_down.new.self) (sym hand.row_is) in
     err_by _ Memory
-    (λ r. Surveyed start (first_events c.args.events (g.S.EventSource.schedule c.args.source)) c.goes_on.new.machine (record { writes = c.goes_on.new.writes;
-        loads = c.at_once.new.loads }) (g.O.Sink.state c.args.out.now)
+    (λ r. Surveyed start (first_events c.args.events (g.S.EventSource.schedule c.args.source)) c.goes_on.new.machine (record {
+      writes = c.goes_on.new.writes;
+      loads = c.at_once.new.loads;
+    }) (g.O.Sink.state c.args.out.now)
     (g.O.Sink.state c.events.out) r)
     c.from_residual-in_err-on.ensures.1
     (surveys_want c.repeat_to_load-made.result start _ (events_left g.S.EventSource.schedule c.events.drawing) (events_left g.S.EventSource.schedule c.count_down.new.self)
     c.events.machine c.repeat_to_load-made.new.self c.goes_on.new.machine
     c.events.found c.in-Some.batch.event _ _ c.repeat_to_load-made.ensures.some c.events.invariant.running (c.events.invariant.on start new is_start) parts
-        (rows_repeat c.repeat_to_load-made.result c.events.machine c.repeat_to_load-made.new.self c.in-Some.batch.event c.repeat_to_load-made.ensures.chain)
+    (rows_repeat c.repeat_to_load-made.result c.events.machine c.repeat_to_load-made.new.self c.in-Some.batch.event c.repeat_to_load-made.ensures.chain)
     c.in_err-on.ensures.passed)
 
 pub flush_due-requires-clause-room : goal.flush_due-requires-clause-room
 flush_due-requires-clause-room g c =
     room_passed c.repeat_to_load-made.result c.events.machine c.repeat_to_load-made.new.self c.goes_on.new.machine c.in-Some.batch.event c.events.invariant.has
-        (rows_repeat c.repeat_to_load-made.result c.events.machine c.repeat_to_load-made.new.self c.in-Some.batch.event c.repeat_to_load-made.ensures.chain)
+    (rows_repeat c.repeat_to_load-made.result c.events.machine c.repeat_to_load-made.new.self c.in-Some.batch.event c.repeat_to_load-made.ensures.chain)
     c.in_ok-on.ensures.passed c.events.invariant.room
 
 pub returns-in_err-flush_due : goal.returns-in_err-flush_due
@@ -81,18 +83,20 @@ returns-in_err-flush_due g c = λ start new is_start.
     let on = surveys_more c.repeat_to_load-made.result start _ (events_left g.S.EventSource.schedule c.events.drawing) (events_left g.S.EventSource.schedule c.count_down.new.self)
     c.events.machine c.repeat_to_load-made.new.self c.goes_on.new.machine
     c.events.found (record { writes = c.goes_on.new.writes; loads = c.at_once.new.loads }) c.in-Some.batch.event _ _ is_start c.repeat_to_load-made.ensures.some
-        c.events.invariant.running (c.events.invariant.on start new is_start) parts
+    c.events.invariant.running (c.events.invariant.on start new is_start) parts
     (rows_repeat c.repeat_to_load-made.result c.events.machine c.repeat_to_load-made.new.self c.in-Some.batch.event c.repeat_to_load-made.ensures.chain)
     c.in_ok-on.ensures.passed c.in_ok-on.ensures.kept c.in_ok-most.ensures.kept (λ r s. row_refuses c.repeat_to_load-made.result c.in_ok-most.most c.events.machine
-        c.repeat_to_load-made.new.self c.in-Some.batch.event r s c.events.invariant.running
+    c.repeat_to_load-made.new.self c.in-Some.batch.event r s c.events.invariant.running
     c.repeat_to_load-made.ensures.some c.repeat_to_load-made.ensures.most c.in_ok-most.ensures.alone c.repeat_to_load-made.ensures.chain) in
     err_by _ Write
-    (λ r. Surveyed start (first_events c.args.events (g.S.EventSource.schedule c.args.source)) c.flush_due.new.machine (record { writes = c.goes_on.new.writes;
-        loads = c.at_once.new.loads }) (g.O.Sink.state c.args.out.now)
+    (λ r. Surveyed start (first_events c.args.events (g.S.EventSource.schedule c.args.source)) c.flush_due.new.machine (record {
+      writes = c.goes_on.new.writes;
+      loads = c.at_once.new.loads;
+    }) (g.O.Sink.state c.args.out.now)
     (g.O.Sink.state c.flush_due.new.out) r)
     c.from_residual-in_err-flush_due.ensures.1
     (surveys_break start _ _ c.goes_on.new.machine c.flush_due.new.machine (record { writes = c.goes_on.new.writes; loads = c.at_once.new.loads }) _ _ _ on
-        c.in_err-flush_due.ensures.machine c.in_err-flush_due.ensures.failed)
+    c.in_err-flush_due.ensures.machine c.in_err-flush_due.ensures.failed)
 
 pub returns-then-not-on : goal.returns-then-not-on
 returns-then-not-on g c = λ start new is_start.
@@ -102,15 +106,15 @@ returns-then-not-on g c = λ start new is_start.
     let on = surveys_more c.repeat_to_load-made.result start _ (events_left g.S.EventSource.schedule c.events.drawing) (events_left g.S.EventSource.schedule c.count_down.new.self)
     c.events.machine c.repeat_to_load-made.new.self c.goes_on.new.machine
     c.events.found (record { writes = c.goes_on.new.writes; loads = c.at_once.new.loads }) c.in-Some.batch.event _ _ is_start c.repeat_to_load-made.ensures.some
-        c.events.invariant.running (c.events.invariant.on start new is_start) parts
+    c.events.invariant.running (c.events.invariant.on start new is_start) parts
     (rows_repeat c.repeat_to_load-made.result c.events.machine c.repeat_to_load-made.new.self c.in-Some.batch.event c.repeat_to_load-made.ensures.chain)
     c.in_ok-on.ensures.passed c.in_ok-on.ensures.kept c.in_ok-most.ensures.kept (λ r s. row_refuses c.repeat_to_load-made.result c.in_ok-most.most c.events.machine
-        c.repeat_to_load-made.new.self c.in-Some.batch.event r s c.events.invariant.running
+    c.repeat_to_load-made.new.self c.in-Some.batch.event r s c.events.invariant.running
     c.repeat_to_load-made.ensures.some c.repeat_to_load-made.ensures.most c.in_ok-most.ensures.alone c.repeat_to_load-made.ensures.chain) in
     let flushed = c.in_ok-flush_due.ensures.flushed in
     let same = ap (λ x. x.journal.verdict) flushed.away.cleared.same in
     surveys_ended start _ _ c.flush_due.new.machine (record { writes = c.goes_on.new.writes; loads = c.at_once.new.loads }) _ _
-        (surveys_flush start _ _ c.goes_on.new.machine c.flush_due.new.machine (record { writes = c.goes_on.new.writes; loads = c.at_once.new.loads }) _ _ _ on flushed)
+    (surveys_flush start _ _ c.goes_on.new.machine c.flush_due.new.machine (record { writes = c.goes_on.new.writes; loads = c.at_once.new.loads }) _ _ _ on flushed)
     (λ at. not_running c.goes_on.new.machine.journal.verdict (sym c.in_ok-on.ensures.running ∙ c.if-not-on.true) (sym same ∙ at))
 
 pub events-preserved : goal.events-preserved
@@ -130,15 +134,15 @@ events-preserved g c =
           (surveys_more c.repeat_to_load-made.result start _ (events_left g.S.EventSource.schedule c.events.drawing) (events_left g.S.EventSource.schedule c.count_down.new.self)
           c.events.machine c.repeat_to_load-made.new.self c.goes_on.new.machine
           c.events.found (record { writes = c.goes_on.new.writes; loads = c.at_once.new.loads }) c.in-Some.batch.event _ _ is_start c.repeat_to_load-made.ensures.some
-              c.events.invariant.running (c.events.invariant.on start new is_start)
+          c.events.invariant.running (c.events.invariant.on start new is_start)
           parts (rows_repeat c.repeat_to_load-made.result c.events.machine c.repeat_to_load-made.new.self c.in-Some.batch.event c.repeat_to_load-made.ensures.chain)
           passed c.in_ok-on.ensures.kept c.in_ok-most.ensures.kept (λ r s. row_refuses c.repeat_to_load-made.result c.in_ok-most.most c.events.machine
-              c.repeat_to_load-made.new.self c.in-Some.batch.event r s c.events.invariant.running
+          c.repeat_to_load-made.new.self c.in-Some.batch.event r s c.events.invariant.running
           c.repeat_to_load-made.ensures.some c.repeat_to_load-made.ensures.most c.in_ok-most.ensures.alone c.repeat_to_load-made.ensures.chain)) flushed;
       running = same ∙ running_is c.goes_on.new.machine.journal.verdict (sym c.in_ok-on.ensures.running ∙ c.if-not-on.false);
       has = state_flushed c.goes_on.new.machine c.flush_due.new.machine _ _ (state_passed c.repeat_to_load-made.result c.events.machine c.repeat_to_load-made.new.self c.goes_on.new.machine
           c.in-Some.batch.event c.events.invariant.has (rows_repeat c.repeat_to_load-made.result c.events.machine c.repeat_to_load-made.new.self c.in-Some.batch.event
-              c.repeat_to_load-made.ensures.chain) passed) flushed;
+          c.repeat_to_load-made.ensures.chain) passed) flushed;
       taken = taken_more _ c.goes_on.new.machine c.flush_due.new.machine _ _ c.events.invariant.taken flushed;
       few = omega (arith, fewer, before);
       counts = counts_passed (max_events + (c.args.events - count_left c.events.drawing) + c.repeat_to_load-made.result) (max_events + (c.args.events - count_left c.count_down.new.self))

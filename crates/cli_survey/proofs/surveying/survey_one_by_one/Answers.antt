@@ -52,8 +52,10 @@ returns-in_err-on g c = λ start new is_start.
     let parts : first_events c.events.left before ≡ replicate c.repeat.result c.in-Some.one.event ++ first_events (c.events.left - 1) behind =
     one_drawn c.events.left c.repeat.result c.in-Some.one before behind some one once c.in-Some.ensures.first in
     err_by _ Memory
-    (λ r. Surveyed start (first_events c.args.events (g.S.EventSource.schedule c.args.source)) c.goes_on.new.machine (record { writes = c.goes_on.new.writes;
-        loads = c.at_once.new.loads }) (g.O.Sink.state c.args.out.now)
+    (λ r. Surveyed start (first_events c.args.events (g.S.EventSource.schedule c.args.source)) c.goes_on.new.machine (record {
+      writes = c.goes_on.new.writes;
+      loads = c.at_once.new.loads;
+    }) (g.O.Sink.state c.args.out.now)
     (g.O.Sink.state c.events.out) r)
     c.from_residual-in_err-on.ensures.1
     (surveys_want c.repeat.result start _ (first_events c.events.left before) (first_events (c.events.left - 1) behind) c.events.machine c.repeat.new.self c.goes_on.new.machine
@@ -75,15 +77,17 @@ returns-in_err-flush_due g c = λ start new is_start.
     one_drawn c.events.left c.repeat.result c.in-Some.one before behind some one once c.in-Some.ensures.first in
     let on = surveys_more c.repeat.result start _ (first_events c.events.left before) (first_events (c.events.left - 1) behind) c.events.machine c.repeat.new.self c.goes_on.new.machine
     c.events.found (record { writes = c.goes_on.new.writes; loads = c.at_once.new.loads }) c.in-Some.one.event _ _ is_start c.repeat.ensures.some c.events.invariant.running
-        (c.events.invariant.on start new is_start) parts c.repeat.ensures.chain
+    (c.events.invariant.on start new is_start) parts c.repeat.ensures.chain
     c.in_ok-on.ensures.passed c.in_ok-on.ensures.kept c.in_ok-at_once.ensures.kept (λ r s. one_refuses c.repeat.result c.in-Some.one.event r once) in
     err_by _ Write
-    (λ r. Surveyed start (first_events c.args.events (g.S.EventSource.schedule c.args.source)) c.flush_due.new.machine (record { writes = c.goes_on.new.writes;
-        loads = c.at_once.new.loads }) (g.O.Sink.state c.args.out.now)
+    (λ r. Surveyed start (first_events c.args.events (g.S.EventSource.schedule c.args.source)) c.flush_due.new.machine (record {
+      writes = c.goes_on.new.writes;
+      loads = c.at_once.new.loads;
+    }) (g.O.Sink.state c.args.out.now)
     (g.O.Sink.state c.flush_due.new.out) r)
     c.from_residual-in_err-flush_due.ensures.1
     (surveys_break start _ _ c.goes_on.new.machine c.flush_due.new.machine (record { writes = c.goes_on.new.writes; loads = c.at_once.new.loads }) _ _ _ on
-        c.in_err-flush_due.ensures.machine c.in_err-flush_due.ensures.failed)
+    c.in_err-flush_due.ensures.machine c.in_err-flush_due.ensures.failed)
 
 pub returns-then-not-on : goal.returns-then-not-on
 returns-then-not-on g c = λ start new is_start.
@@ -96,12 +100,12 @@ returns-then-not-on g c = λ start new is_start.
     one_drawn c.events.left c.repeat.result c.in-Some.one before behind some one once c.in-Some.ensures.first in
     let on = surveys_more c.repeat.result start _ (first_events c.events.left before) (first_events (c.events.left - 1) behind) c.events.machine c.repeat.new.self c.goes_on.new.machine
     c.events.found (record { writes = c.goes_on.new.writes; loads = c.at_once.new.loads }) c.in-Some.one.event _ _ is_start c.repeat.ensures.some c.events.invariant.running
-        (c.events.invariant.on start new is_start) parts c.repeat.ensures.chain
+    (c.events.invariant.on start new is_start) parts c.repeat.ensures.chain
     c.in_ok-on.ensures.passed c.in_ok-on.ensures.kept c.in_ok-at_once.ensures.kept (λ r s. one_refuses c.repeat.result c.in-Some.one.event r once) in
     let flushed = c.in_ok-flush_due.ensures.flushed in
     let same = ap (λ x. x.journal.verdict) flushed.away.cleared.same in
     surveys_ended start _ _ c.flush_due.new.machine (record { writes = c.goes_on.new.writes; loads = c.at_once.new.loads }) _ _
-        (surveys_flush start _ _ c.goes_on.new.machine c.flush_due.new.machine (record { writes = c.goes_on.new.writes; loads = c.at_once.new.loads }) _ _ _ on flushed)
+    (surveys_flush start _ _ c.goes_on.new.machine c.flush_due.new.machine (record { writes = c.goes_on.new.writes; loads = c.at_once.new.loads }) _ _ _ on flushed)
     (λ at. not_running c.goes_on.new.machine.journal.verdict (sym c.in_ok-on.ensures.running ∙ c.if-not-on.true) (sym same ∙ at))
 
 pub events-preserved : goal.events-preserved
@@ -122,7 +126,7 @@ events-preserved g c =
           surveys_flush start _ _ c.goes_on.new.machine c.flush_due.new.machine (record { writes = c.goes_on.new.writes; loads = c.at_once.new.loads }) _ _ _
           (surveys_more c.repeat.result start _ (first_events c.events.left before) (first_events (c.events.left - 1) behind) c.events.machine c.repeat.new.self c.goes_on.new.machine
           c.events.found (record { writes = c.goes_on.new.writes; loads = c.at_once.new.loads }) c.in-Some.one.event _ _ is_start c.repeat.ensures.some c.events.invariant.running
-              (c.events.invariant.on start new is_start) parts c.repeat.ensures.chain
+          (c.events.invariant.on start new is_start) parts c.repeat.ensures.chain
           passed c.in_ok-on.ensures.kept c.in_ok-at_once.ensures.kept (λ r s. one_refuses c.repeat.result c.in-Some.one.event r once)) flushed;
       running = same ∙ running_is c.goes_on.new.machine.journal.verdict (sym c.in_ok-on.ensures.running ∙ c.if-not-on.false);
       has = state_flushed c.goes_on.new.machine c.flush_due.new.machine _ _ (state_passed c.repeat.result c.events.machine c.repeat.new.self c.goes_on.new.machine
