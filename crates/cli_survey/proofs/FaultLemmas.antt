@@ -1,5 +1,5 @@
 -- When `survey` answers a read fault.
-use Rattle.std.proofs.Common.{◌≡◌, ◌≢◌, ℕ, List, [], ◌∷◌, sym, ◌∙◌, ap, Option, Some, None, Result, Ok, Err}
+use Rattle.std.proofs.Common.{◌≡◌, ◌≢◌, ℕ, List, [], ◌∷◌, sym, ◌∙◌, Option, Some, None, Result, Ok, Err}
 use Rattle.sv_types.specs.Limits.{max_events}
 use Rattle.sv_types.specs.Numbers.{number_within}
 use Rattle.sv_types.specs.Output.{run_status}

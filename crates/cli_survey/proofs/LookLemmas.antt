@@ -1,5 +1,5 @@
 -- What is looked at in a machine is what the state says that it stands for; and the loads that the events of a row refuse.
-use Rattle.std.proofs.Common.{◌≡◌, ◌≢◌, ℕ, zero, suc, ◌+◌, ◌*◌, ◌<◌, ◌≤◌, ◌⊎◌, inl, inr, List, [], ◌∷◌, ◌++◌, length, replicate, refl, sym, ◌∙◌, ap, subst, append-nil, append_assoc, arith}
+use Rattle.std.proofs.Common.{◌≡◌, ℕ, zero, suc, ◌+◌, ◌*◌, ◌<◌, ◌≤◌, ◌⊎◌, inl, inr, List, [], ◌∷◌, ◌++◌, length, replicate, refl, sym, ◌∙◌, ap, subst, append-nil, append_assoc, arith}
 use Rattle.std.proofs.Common.{Bool, true, false, ◌&&◌, not, OnOk}
 use Rattle.std.specs.Prelude.{Option, Some, None, Result, Ok, Err, option_map, slice_get, slice_index_or, is_some, ◌==◌, if◌then◌else◌}
 use Rattle.std.proofs.lemmas.Bool.{eqb-true}
@@ -30,7 +30,7 @@ use Rattle.laws_simulation.specs.Passing.{passed_over, survey_step, survey}
 use Rattle.laws_simulation.proofs.SitesInPages.{AllLieIn}
 use Rattle.laws_simulation.specs.SurveyLaws.{IsNoWrite}
 use Rattle.laws_simulation.proofs.SurveysHold.{same_run_law, unpassed}
-use Rattle.machine.specs.Repeats.{Makes, Repeats, Rows}
+use Rattle.machine.specs.Repeats.{Rows}
 use Rattle.machine.proofs.Loadings.{IsCounted, none_seen, rules_seen, text_inside, text_lies}
 use Rattle.page_measure.specs.Wrong.{first_wrong, wrong_field}
 use Rattle.page_measure.specs.declared.fields.wrong.WrongField.{WrongField}
@@ -39,7 +39,7 @@ use Rattle.machine.proofs.Repeated.{counts_are as machine_counts, one_more, repe
 use Rattle.machine.proofs.Standing.{verdict_is}
 use Rattle.report.specs.Findings.{RefusedLoads, no_loads, with_load}
 use Rattle.report.specs.declared.findings.loads.RefusedLoad.{RefusedLoad}
-use Rattle.cli_survey.specs.Looking.{IsUnderWay, is_due_to, listed}
+use Rattle.cli_survey.specs.Looking.{IsUnderWay, is_due_to}
 use Rattle.cli_survey.specs.Refusals.{loads_in, refusal, refusal_in, refusal_in_turn, refusal_of, refusals, refusals_under, refused, with_loads, wrong_in}
 
 -- ---- events after others

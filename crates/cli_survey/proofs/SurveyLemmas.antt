@@ -23,7 +23,7 @@ use Rattle.laws_resume.specs.Keepable.{IsKeepable, IsKeepableVerdict}
 use Rattle.laws_resume.proofs.KeepableStarts.{keepable_law}
 use Rattle.laws_resume.proofs.KeepableSteps.{keeps_law}
 use Rattle.laws_simulation.specs.HwPassing.{hw_moved_on, hw_passed_under, hw_passed_over}
-use Rattle.laws_simulation.specs.Passing.{passed_over, survey_step, survey}
+use Rattle.laws_simulation.specs.Passing.{passed_over, survey}
 use Rattle.laws_simulation.specs.Passes.{Pass, pass_of, passes, IsRow}
 use Rattle.laws_simulation.specs.SurveyLaws.{IsNoWrite}
 use Rattle.laws_simulation.proofs.HwPassesHold.{hw_pass_law}

@@ -86,11 +86,11 @@ impl Machine {
         requires counts { CountsAtMost (max_counts - count) self.old.journal.counts }
         ensures { MadeRow result count self.old event self.new }
     {
-        let before = self.printed().len();
+        let shown = self.printed().len();
         let mut made = 0;
         'events: while made < count {
             made += self.round(event, count - made);
-            if self.printed().len() != before || self.verdict() != Verdict::Running {
+            if self.printed().len() != shown || self.verdict() != Verdict::Running {
                 return made;
             }
             if self.is_loading() {

@@ -1,5 +1,4 @@
-use Rattle.std.proofs.Common.{◌≡◌, List, [], ◌∷◌, sym, ◌∙◌, ap}
-use Rattle.std.specs.Prelude.{Option}
+use Rattle.std.proofs.Common.{List, sym, ◌∙◌, ap}
 use Rattle.report.specs.Views.{loads_view}
 use Rattle.report.specs.declared.findings.loads.RefusedLoad.{RefusedLoad}
 use Rattle.cli_survey.specs.Looking.{listed}

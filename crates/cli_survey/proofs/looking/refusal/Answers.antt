@@ -1,16 +1,11 @@
-use Rattle.std.proofs.Common.{Bor, ◌≡◌, ◌+◌, ◌*◌, ◌<◌, ◌≤◌, ℕ, List, [], ◌∷◌, false, true, length, sym, ◌∙◌, ap, subst, slice_get}
-use Rattle.std.specs.Prelude.{Option, Some, None, option_map, slice_index_or}
+use Rattle.std.proofs.Common.{Bor, ◌≡◌, ◌<◌, ◌≤◌, ℕ, List, [], ◌∷◌, false, true, length, sym, ◌∙◌, ap, subst, slice_get}
+use Rattle.std.specs.Prelude.{Some, None, option_map, slice_index_or}
 use Rattle.sv_types.specs.Policies.{Rules, field_end, module_rule, rules_of}
-use Rattle.sv_types.specs.declared.module.Bases.{Bases}
 use Rattle.sv_types.specs.declared.module.Site.{Site}
-use Rattle.sv_types.specs.declared.policy.Export.{Export}
 use Rattle.sv_types.specs.declared.policy.ModulePolicy.{ModulePolicy}
 use Rattle.spec_reference.specs.Loads.{is_as_measured, module_bases, module_text}
-use Rattle.spec_reference.specs.States.{State}
-use Rattle.spec_hardware.specs.StandsFor.{StandsFor}
 use Rattle.machine.proofs.Loadings.{rules_seen}
 use Rattle.page_measure.specs.Wrong.{first_wrong}
-use Rattle.page_measure.specs.declared.fields.wrong.WrongField.{WrongField}
 use Rattle.report.specs.declared.findings.loads.RefusedLoad.{RefusedLoad}
 use Rattle.cli_survey.proofs.LookLemmas.{known_at, refused_none, refused_unknown, refused_unmeasured, refused_wrong, sites_lie, told_now, wrong_there}
 use Rattle.cli_survey.proofs.looking.refusal.Goals as goal

@@ -1,6 +1,5 @@
-use Rattle.std.proofs.Common.{◌≡◌, Bool, List, [], sym, ◌∙◌, ap, slice_get}
+use Rattle.std.proofs.Common.{Bool, [], sym, ◌∙◌, ap, slice_get}
 use Rattle.std.specs.Prelude.{if◌then◌else◌}
-use Rattle.report.specs.declared.findings.loads.RefusedLoad.{RefusedLoad}
 use Rattle.cli_survey.specs.Refusals.{refusal}
 use Rattle.cli_survey.proofs.LookLemmas.{due_left, no_load, turn_by}
 use Rattle.cli_survey.proofs.looking.refusal_in_turn.Goals as goal

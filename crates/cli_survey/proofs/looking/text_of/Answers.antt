@@ -1,4 +1,4 @@
-use Rattle.std.proofs.Common.{◌≡◌, ◌*◌, ◌-◌, ◌≤◌, ℕ, List, length, length-drop, take, drop, sym, ◌∙◌, ap, subst, arith}
+use Rattle.std.proofs.Common.{◌≡◌, ◌*◌, ◌-◌, ℕ, List, length, take, drop, ◌∙◌, ap, arith}
 use Rattle.sv_types.specs.Policies.{module_rule}
 use Rattle.cli_survey.proofs.LookLemmas.{known_at, text_base, text_in_ram}
 use Rattle.cli_survey.proofs.looking.text_of.Goals as goal
