@@ -1,19 +1,18 @@
 -- A device that a machine can have, with whole sectors, has a form.
-use Rattle.std.proofs.Common.{◌≡◌, ℕ, zero, suc, ◌+◌, ◌-◌, ◌*◌, ◌/◌, ◌%◌, ◌^◌, ◌<◌, ◌≤◌, List, [], ◌∷◌, ◌++◌, length, get_or, take, drop, refl, sym, ap, subst, ◌∙◌}
-use Rattle.std.proofs.Common.{Bool, true, false, not, ◌&&◌, ◌||◌, arith, Option, Some, None, IfSome, inl, inr, length-append}
+use Rattle.std.proofs.Common.{◌≡◌, ℕ, zero, suc, ◌+◌, ◌-◌, ◌*◌, ◌/◌, ◌%◌, ◌^◌, ◌<◌, ◌≤◌, List, [], ◌∷◌, ◌++◌, length, get_or, refl, subst}
+use Rattle.std.proofs.Common.{Bool, true, false, not, ◌&&◌, ◌||◌, arith, Option, Some, None, IfSome, length-append}
 use Rattle.std.specs.Prelude.{nat_lt, nat_le, ◌==◌, if◌then◌else◌, is_some}
 use Rattle.std.specs.List.{list_all}
-use Rattle.std.proofs.lemmas.Bool.{cases_lt, eq-eqb}
+use Rattle.std.proofs.lemmas.Bool.{eq-eqb}
 use Rattle.std.proofs.lemmas.Bool.Decides.{nat_tests}
 use Rattle.spec_processor.specs.Bits.{bit}
-use Rattle.spec_reference.specs.BlockDisk.{beats_done, is_busy, is_under_way}
+use Rattle.spec_reference.specs.BlockDisk.{beats_done, is_busy}
 use Rattle.spec_reference.specs.VirtioChain.{between, no_part}
 use Rattle.spec_reference.specs.VirtioRequests.{bytes_in}
-use Rattle.spec_reference.specs.VirtioStates.{last_place, part_at}
+use Rattle.spec_reference.specs.VirtioStates.{part_at}
 use Rattle.spec_reference.specs.VirtioStores.{is_size}
 use Rattle.sv_types.specs.Limits.{max_disk_bytes}
 use Rattle.sv_types.specs.Policies.{is_between}
-use Rattle.sv_types.specs.VirtioResults.{result_number}
 use Rattle.sv_types.specs.declared.block.BlockCommand.{BlockCommand}
 use Rattle.sv_types.specs.declared.block.BlockState.{BlockState}
 use Rattle.sv_types.specs.declared.block.BlockStatus.{BlockStatus}
@@ -22,13 +21,13 @@ use Rattle.sv_types.specs.declared.virtio.VirtioPart.{VirtioPart}
 use Rattle.sv_types.specs.declared.virtio.VirtioRequest.{VirtioRequest}
 use Rattle.sv_types.specs.declared.virtio.VirtioResult.{VirtioResult}
 use Rattle.sv_types.specs.declared.virtio.VirtioState.{VirtioState}
-use Rattle.snapshot_format.specs.DeviceForms.{block, disk, holds_disk, kind_of, lies_on, port, sectors, standing_status, transfer}
+use Rattle.snapshot_format.specs.DeviceForms.{block, disk, kind_of, lies_on, port, standing_status, transfer}
 use Rattle.snapshot_format.specs.Forms.{has_all, is_word, number, within}
 use Rattle.snapshot_format.specs.HartForms.{flag}
 use Rattle.snapshot_format.specs.Snapshots.{Contents}
 use Rattle.snapshot_format.specs.Typed.{are_short, are_words, is_typed_block, is_typed_part, is_typed_port, is_typed_request, is_typed_under_way, is_typed_virtio, selected_numbers}
-use Rattle.snapshot_format.specs.VirtioForms.{accepted, aligned, descriptor, descriptors, holds_data, in_use, is_aligned, is_left, is_ring, may_be_made}
-use Rattle.snapshot_format.specs.VirtioForms.{may_be_moved, may_stand, next_descriptor}
+use Rattle.snapshot_format.specs.VirtioForms.{accepted, aligned, descriptor, descriptors, holds_data, in_use, is_left, is_ring}
+use Rattle.snapshot_format.specs.VirtioForms.{may_stand, next_descriptor}
 use Rattle.snapshot_format.specs.VirtioForms.{place_reached, progress, queue, register, request_after, request_flag, request_form, request_parts, request_under_way}
 use Rattle.snapshot_format.specs.VirtioForms.{result_form, ring_index, selection, state_parts, virtio}
 use Rattle.snapshot_format.proofs.FormLaws.{both_true, first_true, second_true}

@@ -1,17 +1,17 @@
 -- What holds of the virtio block device and its disk after a store, and after a beat.
-use Rattle.std.proofs.Common.{◌≡◌, ℕ, zero, suc, ◌+◌, ◌-◌, ◌*◌, ◌%◌, ◌^◌, ◌≤◌, List, [], ◌∷◌, ◌++◌, length, filter, Bool, true, false, not, ◌&&◌, ◌||◌, arith, refl, subst, sym, ◌∙◌, cond}
-use Rattle.std.specs.Prelude.{Option, Some, None, option_map, if◌then◌else◌, ◌==◌, nat_lt, nat_le}
+use Rattle.std.proofs.Common.{◌≡◌, ℕ, zero, suc, ◌+◌, ◌-◌, ◌*◌, ◌%◌, ◌^◌, ◌≤◌, List, [], ◌∷◌, ◌++◌, length, filter, Bool, true, false, not, ◌&&◌, ◌||◌, arith, refl, subst, ◌∙◌}
+use Rattle.std.specs.Prelude.{Option, Some, None, option_map, if◌then◌else◌, ◌==◌, nat_lt}
 use Rattle.std.specs.List.{list_all}
 use Rattle.std.proofs.lemmas.Bool.Decides.{nat_tests}
-use Rattle.spec_processor.specs.Bytes.{low_bytes, part, overwrite, in_ram, ram_offset, page_of}
+use Rattle.spec_processor.specs.Bytes.{low_bytes, part, in_ram, ram_offset, page_of}
 use Rattle.laws_processor.proofs.ByteLemmas.{length_overwrite}
 use Rattle.sv_types.specs.VirtioResults.{is_done, result_number}
 use Rattle.sv_types.specs.declared.virtio.VirtioMove.{VirtioMove}
 use Rattle.sv_types.specs.declared.virtio.VirtioPart.{VirtioPart}
 use Rattle.sv_types.specs.declared.virtio.VirtioRegister.{VirtioRegister}
 use Rattle.sv_types.specs.declared.virtio.VirtioResult.{VirtioResult}
-use Rattle.spec_reference.specs.Move.{Move, Idle, FromRam, IntoRam, DeniedAt, OutsideRam}
-use Rattle.spec_reference.specs.VirtioDevice.{VirtioDevice, Request, driver_ok, is_broken, is_selected}
+use Rattle.spec_reference.specs.Move.{Move, DeniedAt, OutsideRam}
+use Rattle.spec_reference.specs.VirtioDevice.{VirtioDevice, Request, is_selected}
 use Rattle.spec_reference.specs.VirtioQueue.{rings_in_ram, available_index, next_head, waiting_count}
 use Rattle.spec_reference.specs.VirtioChain.{chain, max_parts, is_good_chain, data_of, result_of}
 use Rattle.spec_reference.specs.VirtioRegisters.{register_at}
@@ -23,8 +23,7 @@ use Rattle.spec_reference.specs.VirtioBeats.{VirtioBeat, nothing, broken_beat, w
 use Rattle.spec_reference.specs.VirtioBeats.{to_disk, put_last, finish_request, make, make_first, next_beat_count, result_in}
 use Rattle.spec_reference.specs.VirtioBeats.{accept_request, accept, look, go_on, is_live, virtio_beat}
 use Rattle.laws_simulation.proofs.Lookups.{part_short}
-use Rattle.snapshot_format.proofs.FormLaws.{first_true, second_true}
-use Rattle.laws_resume.proofs.FormParts.{max_is}
+use Rattle.snapshot_format.proofs.FormLaws.{first_true}
 use Rattle.cli_snap.specs.BlockRuns.{AllLieOn, LiesOn, HoldsVirtio, RequestLies}
 
 -- ---- stores
