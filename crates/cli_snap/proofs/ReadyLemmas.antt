@@ -1,5 +1,5 @@
 -- What is made ready of `snap`, from what is made ready of a run.
-use Rattle.std.proofs.Common.{◌≡◌, refl, Option, Some, None, Result, Ok, Err}
+use Rattle.std.proofs.Common.{refl, Option, Some, None, Result, Ok, Err}
 use Rattle.host_io.specs.Outside.{FilesState}
 use Rattle.cli_plans.specs.Plans.{Due, Refuse, RunFrom, Make, Plan}
 use Rattle.secvisor_cli.specs.Ready.{IsReadyWhere, Prepares, run_ready}

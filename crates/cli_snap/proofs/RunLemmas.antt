@@ -1,5 +1,5 @@
 -- The run of `snap`: the console's bytes and nothing else.
-use Rattle.std.proofs.Common.{◌≡◌, ℕ, suc, ◌<◌, ◌≤◌, ◌^◌, List, [], ◌∷◌, ◌++◌, length, true, refl, sym, ◌∙◌, ap, subst, arith, inl, inr, Result, Ok, Err, OnOk, IsErrOf, IsFalse}
+use Rattle.std.proofs.Common.{◌≡◌, ℕ, suc, ◌<◌, ◌≤◌, ◌^◌, List, [], ◌∷◌, ◌++◌, length, refl, sym, ◌∙◌, ap, subst, arith, inl, inr, Result, Ok, Err, OnOk, IsErrOf, IsFalse}
 use Rattle.std.proofs.lemmas.List.{append-nil}
 use Rattle.sv_types.specs.Limits.{max_events, max_printed}
 use Rattle.sv_types.specs.Schedule.{Schedule, first_events}

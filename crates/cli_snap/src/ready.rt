@@ -1,5 +1,5 @@
 // What is ready of `snap` or `vsnap`.
-ghost use Rattle.std.specs.Prelude.{◌≡◌, ◌<◌, ◌≤◌, ◌-◌};
+ghost use Rattle.std.specs.Prelude.{◌<◌, ◌≤◌, ◌-◌};
 ghost use Rattle.sv_types.specs.Limits.{max_events};
 ghost use Rattle.cli_plans.specs.Plans.{run_plan};
 ghost use Rattle.cli_plans.specs.Reading.{MayFollow};

@@ -1,5 +1,5 @@
 // A machine, saved as a snapshot.
-ghost use Rattle.std.specs.Prelude.{◌≡◌, ◌<◌, ◌-◌, ◌^◌, [], ◌∷◌, true, Some, IfOk, IsTrue};
+ghost use Rattle.std.specs.Prelude.{◌≡◌, ◌<◌, ◌-◌, ◌^◌, [], ◌∷◌, Some, IfOk, IsTrue};
 ghost use Rattle.laws_resume.specs.EventCounts.{events_counted};
 ghost use Rattle.machine.specs.Standing.{HasState};
 ghost use Rattle.secvisor_cli.specs.Answers.{AfterSave};
