@@ -36,7 +36,7 @@ fn judge_command<R: Threads + Sync, A: Reread>(
     };
     match command {
         CommandName::Flat => flat_words(alloc, rest, files, most),
-        CommandName::Run(_) | CommandName::Snap | CommandName::Shrink => {
+        CommandName::Run(_) | CommandName::Snap(_) | CommandName::Shrink => {
             run_words(alloc, rest, files, most)
         }
         CommandName::Sweep => sweep_words(alloc, rest, files, most),

@@ -51,7 +51,7 @@ fn guest_names(words: &[String]) -> Option<(&str, &str)> {
     let Naming { command, rest } = named(words)?;
     match (command, rest) {
         (
-            CommandName::Run(_) | CommandName::Survey | CommandName::Snap | CommandName::Live(_),
+            CommandName::Run(_) | CommandName::Survey | CommandName::Snap(_) | CommandName::Live(_),
             [image, policy, ..],
         ) => Some((image.as_str(), policy.as_str())),
         _ => None,

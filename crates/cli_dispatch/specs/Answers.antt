@@ -79,7 +79,7 @@ pub record LiveOwed (words : List (List ℕ)) (old new : LiveOutside) (answer : 
   pub held : (name : List ℕ) → (name ≡ script_name (live_judged words) → ⊥) → new.files.held name ≡ old.files.held name
   pub unsaved : (is_refusal answer ≡ true) ⊎ (answer ≡ Status.Memory) → SavesNothing old.files new.files
 
--- `snap`
+-- `snap` and `vsnap`
 pub record SnapOwed (words : List (List ℕ)) (old new : LiveOutside) (answer : Status) : Type 0 where
   pub headline : SnapHeadline (snap_judged words) (without_keys old) (without_keys new) answer
   pub read_fault : answer ≡ Status.ReadFault → FailsToRead (snap_plan (snap_judged words)) old.files new.files

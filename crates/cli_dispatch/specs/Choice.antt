@@ -10,7 +10,7 @@ abbrev pub call_of : Option CommandName → TopCall
 call_of (Some command.Survey) = Survey
 call_of (Some command.Debug) = Debug
 call_of (Some (command.Live kind)) = Live
-call_of (Some command.Snap) = Snap
+call_of (Some (command.Snap kind)) = Snap
 call_of (Some command.Sweep) = Sweep
 call_of (Some command.Shrink) = Shrink
 call_of (Some command.Resume) = Resume

@@ -37,7 +37,7 @@ fn call_of_name(name: &str) -> TopCall
         Some(CommandName::Survey) => TopCall::Survey,
         Some(CommandName::Debug) => TopCall::Debug,
         Some(CommandName::Live(_)) => TopCall::Live,
-        Some(CommandName::Snap) => TopCall::Snap,
+        Some(CommandName::Snap(_)) => TopCall::Snap,
         Some(CommandName::Sweep) => TopCall::Sweep,
         Some(CommandName::Shrink) => TopCall::Shrink,
         Some(CommandName::Resume) => TopCall::Resume,

@@ -25,7 +25,7 @@ use Rattle.script.proofs.FirstEvents.{first_listed, first_few}
 use Rattle.script.specs.AutoScripts.{events_of_text, first_refused}
 use Rattle.cli_plans.specs.declared.command_words.table.CommandName.TheVariants as command
 use Rattle.cli_plans.specs.declared.command_words.table.CommandName.{CommandName}
-use Rattle.cli_plans.specs.Commands.{Named, RunSplit, LiveSplit, has_dash, name_of, named_by, named_shape, named_words}
+use Rattle.cli_plans.specs.Commands.{Named, RunSplit, LiveSplit, has_dash, live_name, run_name, name_of, named_by, named_shape, named_words}
 use Rattle.live_keys.specs.Line.{StartsWith, max_keys}
 use Rattle.live_keys.specs.Placed.{keys_among, others_among}
 use Rattle.live_keys.proofs.JournalLines.{number_back}
@@ -44,7 +44,7 @@ use Rattle.cli_plans.proofs.PlanLemmas.{Keeps}
 use Rattle.cli_live.specs.LiveAnswers.{IsScriptOf}
 use Rattle.secvisor_cli.specs.DueIn.{due_in}
 use Rattle.secvisor_cli.proofs.DueLemmas.{held_before, due_held}
-use Rattle.cli_live.specs.Replays.{LiveLine, live_name, run_name, live_line, run_line, NamesScript, Parts, HoldDisk, HoldParts}
+use Rattle.cli_live.specs.Replays.{LiveLine, live_line, run_line, NamesScript, Parts, HoldDisk, HoldParts}
 use Rattle.cli_live.proofs.PlanLemmas.{part_gives, judge_gives}
 
 -- ---- what was judged good

@@ -1,5 +1,5 @@
 -- That `run` replays what `live` did, and `vrun` what `vlive` did: what it is due, where the text that was saved is its script.
-use Rattle.std.specs.Prelude.{◌≡◌, ◌<◌, ◌≤◌, ◌⊎◌, ℕ, List, [], ◌∷◌, length, Bool, true, false, IsTrue, Option, Some, None, codes}
+use Rattle.std.specs.Prelude.{◌≡◌, ◌<◌, ◌≤◌, ◌⊎◌, ℕ, List, [], ◌∷◌, length, Bool, true, false, IsTrue, Option, Some, None}
 use Rattle.std.specs.Fmt.{decimal}
 use Rattle.sv_types.specs.Limits.{max_events}
 use Rattle.sv_types.specs.declared.event.Event.{Event}
@@ -10,7 +10,7 @@ use Rattle.spec_reference.specs.States.{State}
 use Rattle.spec_reference.specs.Report.{output}
 use Rattle.spec_reference.specs.Run.{run}
 use Rattle.spec_hardware.specs.Machine.{Machine}
-use Rattle.cli_plans.specs.Commands.{has_dash}
+use Rattle.cli_plans.specs.Commands.{has_dash, live_name, run_name}
 use Rattle.cli_plans.specs.declared.command_words.command.DiskKind.{DiskKind}
 use Rattle.host_io.specs.Outside.{after_taking}
 use Rattle.live_keys.specs.Keys.{KeysState}
@@ -30,15 +30,6 @@ pub record LiveLine : Type 0 where
   pub disk : List ℕ
   pub events : List ℕ
   pub out : List ℕ
-
-abbrev pub live_name : DiskKind → List ℕ
-live_name DiskKind.Block = codes "live"
-live_name DiskKind.Virtio = codes "vlive"
-
--- the command that replays it
-abbrev pub run_name : DiskKind → List ℕ
-run_name DiskKind.Block = codes "run"
-run_name DiskKind.Virtio = codes "vrun"
 
 abbrev pub live_line : LiveLine → List (List ℕ)
 live_line line = live_name line.kind ∷ line.image ∷ line.policy ∷ line.disk ∷ line.events ∷ line.out ∷ []

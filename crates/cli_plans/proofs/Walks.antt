@@ -163,10 +163,10 @@ live_read : (kind : DiskKind) (words : List Text) → is_some (live_split kind w
 live_read kind (a ∷ b ∷ c ∷ d ∷ e ∷ []) known plain = read_by _ _ live_is _ _ _ plain refl (refl, (refl, (refl, (refl, (refl, tt))))) refl
 live_read kind _ known plain = absurd (true≢false (sym known))
 
-snap_read : (words : List Text) → is_some (snap_split words) ≡ true → list_any has_dash words ≡ false
-    → IsRead snap_wants snap_found words (snap_split words)
-snap_read (a ∷ b ∷ c ∷ d ∷ e ∷ f ∷ []) known plain = read_by _ _ snap_is _ _ _ plain refl (refl, (refl, (refl, (refl, (refl, (refl, tt)))))) refl
-snap_read _ known plain = absurd (true≢false (sym known))
+snap_read : (kind : DiskKind) (words : List Text) → is_some (snap_split kind words) ≡ true → list_any has_dash words ≡ false
+    → IsRead snap_wants (snap_found kind) words (snap_split kind words)
+snap_read kind (a ∷ b ∷ c ∷ d ∷ e ∷ f ∷ []) known plain = read_by _ _ snap_is _ _ _ plain refl (refl, (refl, (refl, (refl, (refl, (refl, tt)))))) refl
+snap_read kind _ known plain = absurd (true≢false (sym known))
 
 sweep_read : (words : List Text) → is_some (sweep_split words) ≡ true → list_any has_dash words ≡ false
     → IsRead sweep_wants sweep_found words (sweep_split words)
@@ -266,12 +266,12 @@ words_read command.Debug words known plain =
     let it = survey_read words known plain in record { taken = it.taken; has = it.has; finds = λ rows e. it.is rows _ e refl }
 words_read (command.Live kind) words known plain =
     let it = live_read kind words known plain in record { taken = it.taken; has = it.has; finds = λ rows e. it.is rows _ e refl }
-words_read command.Snap words known plain =
-    let it = snap_read words known plain in record { taken = it.taken; has = it.has; finds = λ rows e. it.is rows _ e refl }
+words_read (command.Snap kind) words known plain =
+    let it = snap_read kind words known plain in record { taken = it.taken; has = it.has; finds = λ rows e. it.is rows _ e refl }
 words_read command.Sweep words known plain =
     let it = sweep_read words known plain in record { taken = it.taken; has = it.has; finds = λ rows e. it.is rows _ e refl }
 words_read command.Shrink words known plain =
-    let it = snap_read words known plain in record { taken = it.taken; has = it.has; finds = λ rows e. it.is rows _ e refl }
+    let it = snap_read DiskKind.Block words known plain in record { taken = it.taken; has = it.has; finds = λ rows e. it.is rows _ e refl }
 words_read command.Resume words known plain =
     let it = resume_read words known plain in record { taken = it.taken; has = it.has; finds = λ rows e. it.is rows _ e refl }
 words_read command.Show words known plain =

@@ -93,15 +93,15 @@ not_live kind (a ∷ b ∷ c ∷ d ∷ []) other = refl
 not_live kind (a ∷ b ∷ c ∷ d ∷ e ∷ []) other = absurd (other refl)
 not_live kind (a ∷ b ∷ c ∷ d ∷ e ∷ f ∷ rest) other = refl
 
-pub not_snap : (words : List (List ℕ)) → length words ≢ 6 → snap_split words ≡ None
-not_snap [] other = refl
-not_snap (a ∷ []) other = refl
-not_snap (a ∷ b ∷ []) other = refl
-not_snap (a ∷ b ∷ c ∷ []) other = refl
-not_snap (a ∷ b ∷ c ∷ d ∷ []) other = refl
-not_snap (a ∷ b ∷ c ∷ d ∷ e ∷ []) other = refl
-not_snap (a ∷ b ∷ c ∷ d ∷ e ∷ f ∷ []) other = absurd (other refl)
-not_snap (a ∷ b ∷ c ∷ d ∷ e ∷ f ∷ g ∷ rest) other = refl
+pub not_snap : (kind : DiskKind) (words : List (List ℕ)) → length words ≢ 6 → snap_split kind words ≡ None
+not_snap kind [] other = refl
+not_snap kind (a ∷ []) other = refl
+not_snap kind (a ∷ b ∷ []) other = refl
+not_snap kind (a ∷ b ∷ c ∷ []) other = refl
+not_snap kind (a ∷ b ∷ c ∷ d ∷ []) other = refl
+not_snap kind (a ∷ b ∷ c ∷ d ∷ e ∷ []) other = refl
+not_snap kind (a ∷ b ∷ c ∷ d ∷ e ∷ f ∷ []) other = absurd (other refl)
+not_snap kind (a ∷ b ∷ c ∷ d ∷ e ∷ f ∷ g ∷ rest) other = refl
 
 pub not_sweep : (words : List (List ℕ)) → length words ≢ 7 → sweep_split words ≡ None
 not_sweep [] other = refl
@@ -264,11 +264,11 @@ unfolding live_words
 live_no_fault w None = λ e. cc e
 live_no_fault w (Some events) = tt
 
-snap_no_fault : (image policy disk out : List ℕ) (script : Option Source) (events : Option ℕ) → NoReadFault (snap_words image policy disk out script events)
+snap_no_fault : (w : SnapSplit) (script : Option Source) (events : Option ℕ) → NoReadFault (snap_words w script events)
 unfolding snap_words
-snap_no_fault image policy disk out None events = λ e. cc e
-snap_no_fault image policy disk out (Some script) None = λ e. cc e
-snap_no_fault image policy disk out (Some script) (Some events) = tt
+snap_no_fault w None events = λ e. cc e
+snap_no_fault w (Some script) None = λ e. cc e
+snap_no_fault w (Some script) (Some events) = tt
 
 survey_no_fault : (image policy disk : List ℕ) (script : Option Source) (events : Option ℕ) → NoReadFault (survey_words image policy disk script events)
 unfolding survey_words
@@ -315,7 +315,7 @@ command_no_fault command.Convert rest = split_no_fault (λ w. Ok (Convert w)) (c
 command_no_fault (command.Live kind) rest = λ e. cc e
 command_no_fault command.Sweep rest = λ e. cc e
 command_no_fault command.Shrink rest = λ e. cc e
-command_no_fault command.Snap rest = λ e. cc e
+command_no_fault (command.Snap kind) rest = λ e. cc e
 command_no_fault command.Resume rest = λ e. cc e
 command_no_fault command.Show rest = λ e. cc e
 command_no_fault command.Survey rest = λ e. cc e
@@ -332,7 +332,7 @@ live_after_no_fault command.Generated rest = λ e. cc e
 live_after_no_fault (command.Run kind) rest = λ e. cc e
 live_after_no_fault command.Sweep rest = λ e. cc e
 live_after_no_fault command.Shrink rest = λ e. cc e
-live_after_no_fault command.Snap rest = λ e. cc e
+live_after_no_fault (command.Snap kind) rest = λ e. cc e
 live_after_no_fault command.Resume rest = λ e. cc e
 live_after_no_fault command.Show rest = λ e. cc e
 live_after_no_fault command.Survey rest = λ e. cc e
@@ -345,7 +345,7 @@ unfolding live_judged
 live_no_read_fault words = named_no_fault live_after (named_words words) live_after_no_fault
 
 snap_after_no_fault : (name : CommandName) (rest : List (List ℕ)) → NoReadFault (snap_after name rest)
-snap_after_no_fault command.Snap rest = split_no_fault snap_of (snap_split rest) (λ w. snap_no_fault w.image w.policy w.disk w.out (source_of w.script) (number_within 0 max_events w.events))
+snap_after_no_fault (command.Snap kind) rest = split_no_fault snap_of (snap_split kind rest) (λ w. snap_no_fault w (source_of w.script) (number_within 0 max_events w.events))
 snap_after_no_fault command.Flat rest = λ e. cc e
 snap_after_no_fault command.Generated rest = λ e. cc e
 snap_after_no_fault (command.Run kind) rest = λ e. cc e
@@ -369,7 +369,7 @@ sweep_after_no_fault command.Flat rest = λ e. cc e
 sweep_after_no_fault command.Generated rest = λ e. cc e
 sweep_after_no_fault (command.Run kind) rest = λ e. cc e
 sweep_after_no_fault (command.Live kind) rest = λ e. cc e
-sweep_after_no_fault command.Snap rest = λ e. cc e
+sweep_after_no_fault (command.Snap kind) rest = λ e. cc e
 sweep_after_no_fault command.Shrink rest = λ e. cc e
 sweep_after_no_fault command.Resume rest = λ e. cc e
 sweep_after_no_fault command.Show rest = λ e. cc e
@@ -383,12 +383,12 @@ unfolding sweep_judged
 sweep_no_read_fault words = named_no_fault sweep_after (named_words words) sweep_after_no_fault
 
 shrink_after_no_fault : (name : CommandName) (rest : List (List ℕ)) → NoReadFault (shrink_after name rest)
-shrink_after_no_fault command.Shrink rest = split_no_fault snap_of (snap_split rest) (λ w. snap_no_fault w.image w.policy w.disk w.out (source_of w.script) (number_within 0 max_events w.events))
+shrink_after_no_fault command.Shrink rest = split_no_fault snap_of (snap_split DiskKind.Block rest) (λ w. snap_no_fault w (source_of w.script) (number_within 0 max_events w.events))
 shrink_after_no_fault command.Flat rest = λ e. cc e
 shrink_after_no_fault command.Generated rest = λ e. cc e
 shrink_after_no_fault (command.Run kind) rest = λ e. cc e
 shrink_after_no_fault (command.Live kind) rest = λ e. cc e
-shrink_after_no_fault command.Snap rest = λ e. cc e
+shrink_after_no_fault (command.Snap kind) rest = λ e. cc e
 shrink_after_no_fault command.Sweep rest = λ e. cc e
 shrink_after_no_fault command.Survey rest = λ e. cc e
 shrink_after_no_fault command.Debug rest = λ e. cc e
@@ -407,7 +407,7 @@ debug_after_no_fault command.Flat rest = λ e. cc e
 debug_after_no_fault command.Generated rest = λ e. cc e
 debug_after_no_fault (command.Run kind) rest = λ e. cc e
 debug_after_no_fault (command.Live kind) rest = λ e. cc e
-debug_after_no_fault command.Snap rest = λ e. cc e
+debug_after_no_fault (command.Snap kind) rest = λ e. cc e
 debug_after_no_fault command.Sweep rest = λ e. cc e
 debug_after_no_fault command.Shrink rest = λ e. cc e
 debug_after_no_fault command.Survey rest = λ e. cc e
@@ -428,7 +428,7 @@ resume_after_no_fault (command.Run kind) rest = λ e. cc e
 resume_after_no_fault (command.Live kind) rest = λ e. cc e
 resume_after_no_fault command.Sweep rest = λ e. cc e
 resume_after_no_fault command.Shrink rest = λ e. cc e
-resume_after_no_fault command.Snap rest = λ e. cc e
+resume_after_no_fault (command.Snap kind) rest = λ e. cc e
 resume_after_no_fault command.Show rest = λ e. cc e
 resume_after_no_fault command.Survey rest = λ e. cc e
 resume_after_no_fault command.Debug rest = λ e. cc e

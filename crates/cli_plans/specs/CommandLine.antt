@@ -196,15 +196,15 @@ survey_words image policy disk (Some script) (Some events) = Ok (unsaved_run Dis
 abbrev pub survey_of : SurveySplit → Result RunWords Refusal
 survey_of w = survey_words w.image w.policy w.disk (source_of w.script) (number_within 0 max_events w.events)
 
--- ---- snap IMAGE POLICY DISK SCRIPT EVENTS OUT
+-- ---- snap IMAGE POLICY DISK SCRIPT EVENTS OUT, and vsnap with the same words
 
-unfoldable pub snap_words : (image policy disk out : List ℕ) → Option Source → Option ℕ → Result SnapWords Refusal
-snap_words image policy disk out None events = Err (OutOfRange Word.Script)
-snap_words image policy disk out (Some script) None = Err (OutOfRange Word.Events)
-snap_words image policy disk out (Some script) (Some events) = Ok (record { run = unsaved_run DiskKind.Block image policy disk script events; out = out })
+unfoldable pub snap_words : SnapSplit → Option Source → Option ℕ → Result SnapWords Refusal
+snap_words w None events = Err (OutOfRange Word.Script)
+snap_words w (Some script) None = Err (OutOfRange Word.Events)
+snap_words w (Some script) (Some events) = Ok (record { run = unsaved_run w.kind w.image w.policy w.disk script events; out = w.out })
 
 abbrev pub snap_of : SnapSplit → Result SnapWords Refusal
-snap_of w = snap_words w.image w.policy w.disk w.out (source_of w.script) (number_within 0 max_events w.events)
+snap_of w = snap_words w (source_of w.script) (number_within 0 max_events w.events)
 
 -- ---- sweep IMAGE POLICY DISK SCHEDULE FIRST COUNT EVENTS
 
@@ -331,7 +331,7 @@ live_after (command.Live kind) rest = split_judged live_of (live_split kind rest
 live_after _ rest = Err NoCommand
 
 abbrev pub snap_after : CommandName → List (List ℕ) → Result SnapWords Refusal
-snap_after command.Snap rest = split_judged snap_of (snap_split rest)
+snap_after (command.Snap kind) rest = split_judged snap_of (snap_split kind rest)
 snap_after _ rest = Err NoCommand
 
 abbrev pub sweep_after : CommandName → List (List ℕ) → Result SweepWords Refusal
@@ -340,7 +340,7 @@ sweep_after _ rest = Err NoCommand
 
 -- the words of `snap`
 abbrev pub shrink_after : CommandName → List (List ℕ) → Result SnapWords Refusal
-shrink_after command.Shrink rest = split_judged snap_of (snap_split rest)
+shrink_after command.Shrink rest = split_judged snap_of (snap_split DiskKind.Block rest)
 shrink_after _ rest = Err NoCommand
 
 abbrev pub resume_after : CommandName → List (List ℕ) → Result ResumeWords Refusal

@@ -41,8 +41,10 @@ pub record LiveSplit : Type 0 where
   pub events : List ℕ
   pub out : List ℕ
 
--- snap IMAGE POLICY DISK SCRIPT EVENTS OUT, or shrink with the same words
+-- snap IMAGE POLICY DISK SCRIPT EVENTS OUT, or vsnap or shrink with the same words
 pub record SnapSplit : Type 0 where
+  -- which block device the machine has
+  pub kind : DiskKind
   pub image : List ℕ
   pub policy : List ℕ
   pub disk : List ℕ
@@ -97,7 +99,8 @@ name_of name =
     else if bytes_eq name (codes "debug") then Some command.Debug
     else if bytes_eq name (codes "live") then Some (command.Live DiskKind.Block)
     else if bytes_eq name (codes "vlive") then Some (command.Live DiskKind.Virtio)
-    else if bytes_eq name (codes "snap") then Some command.Snap
+    else if bytes_eq name (codes "snap") then Some (command.Snap DiskKind.Block)
+    else if bytes_eq name (codes "vsnap") then Some (command.Snap DiskKind.Virtio)
     else if bytes_eq name (codes "resume") then Some command.Resume
     else if bytes_eq name (codes "sweep") then Some command.Sweep
     else if bytes_eq name (codes "shrink") then Some command.Shrink
@@ -105,6 +108,19 @@ name_of name =
     else if bytes_eq name (codes "measure") then Some command.Measure
     else if bytes_eq name (codes "convert") then Some command.Convert
     else None
+
+-- the names of commands that have a machine, by its block device
+abbrev pub run_name : DiskKind → List ℕ
+run_name DiskKind.Block = codes "run"
+run_name DiskKind.Virtio = codes "vrun"
+
+abbrev pub live_name : DiskKind → List ℕ
+live_name DiskKind.Block = codes "live"
+live_name DiskKind.Virtio = codes "vlive"
+
+abbrev pub snap_name : DiskKind → List ℕ
+snap_name DiskKind.Block = codes "snap"
+snap_name DiskKind.Virtio = codes "vsnap"
 
 -- ---- the words after the name, by their number
 
@@ -138,10 +154,17 @@ live_split kind (image ∷ policy ∷ disk ∷ events ∷ out ∷ []) =
     Some (record { kind = kind; image = image; policy = policy; disk = disk; events = events; out = out })
 live_split kind _ = None
 
-abbrev pub snap_split : List (List ℕ) → Option SnapSplit
-snap_split (image ∷ policy ∷ disk ∷ script ∷ events ∷ out ∷ []) =
-    Some (record { image = image; policy = policy; disk = disk; script = script; events = events; out = out })
-snap_split _ = None
+abbrev pub snap_split : DiskKind → List (List ℕ) → Option SnapSplit
+snap_split kind (image ∷ policy ∷ disk ∷ script ∷ events ∷ out ∷ []) = Some (record {
+  kind = kind;
+  image = image;
+  policy = policy;
+  disk = disk;
+  script = script;
+  events = events;
+  out = out;
+})
+snap_split kind _ = None
 
 abbrev pub sweep_split : List (List ℕ) → Option SweepSplit
 sweep_split (image ∷ policy ∷ disk ∷ schedule ∷ first ∷ count ∷ events ∷ []) = Some (record {

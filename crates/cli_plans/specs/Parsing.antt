@@ -66,7 +66,7 @@ wants_of (command.Run kind) = run_wants
 wants_of command.Survey = survey_wants
 wants_of command.Debug = survey_wants
 wants_of (command.Live kind) = live_wants
-wants_of command.Snap = snap_wants
+wants_of (command.Snap kind) = snap_wants
 wants_of command.Sweep = sweep_wants
 wants_of command.Shrink = snap_wants
 wants_of command.Resume = resume_wants
@@ -141,8 +141,9 @@ live_found kind rows = record {
   out = word_of (codes "OUT") rows;
 }
 
-abbrev pub snap_found : List Row → SnapSplit
-snap_found rows = record {
+abbrev pub snap_found : DiskKind → List Row → SnapSplit
+snap_found kind rows = record {
+  kind = kind;
   image = word_of (codes "IMAGE") rows;
   policy = word_of (codes "POLICY") rows;
   disk = word_of (codes "DISK") rows;
@@ -203,9 +204,9 @@ IsKnown (command.Run kind) words = IsTrue (is_some (run_split kind words))
 IsKnown command.Survey words = IsTrue (is_some (survey_split words))
 IsKnown command.Debug words = IsTrue (is_some (survey_split words))
 IsKnown (command.Live kind) words = IsTrue (is_some (live_split kind words))
-IsKnown command.Snap words = IsTrue (is_some (snap_split words))
+IsKnown (command.Snap kind) words = IsTrue (is_some (snap_split kind words))
 IsKnown command.Sweep words = IsTrue (is_some (sweep_split words))
-IsKnown command.Shrink words = IsTrue (is_some (snap_split words))
+IsKnown command.Shrink words = IsTrue (is_some (snap_split DiskKind.Block words))
 IsKnown command.Resume words = IsTrue (is_some (resume_split words))
 IsKnown command.Show words = IsTrue (is_some (show_split words))
 IsKnown command.Measure words = IsTrue (is_some (measure_split words))
@@ -219,9 +220,9 @@ Finds (command.Run kind) words rows = run_split kind words ≡ Some (run_found k
 Finds command.Survey words rows = survey_split words ≡ Some (survey_found rows)
 Finds command.Debug words rows = survey_split words ≡ Some (survey_found rows)
 Finds (command.Live kind) words rows = live_split kind words ≡ Some (live_found kind rows)
-Finds command.Snap words rows = snap_split words ≡ Some (snap_found rows)
+Finds (command.Snap kind) words rows = snap_split kind words ≡ Some (snap_found kind rows)
 Finds command.Sweep words rows = sweep_split words ≡ Some (sweep_found rows)
-Finds command.Shrink words rows = snap_split words ≡ Some (snap_found rows)
+Finds command.Shrink words rows = snap_split DiskKind.Block words ≡ Some (snap_found DiskKind.Block rows)
 Finds command.Resume words rows = resume_split words ≡ Some (resume_found rows)
 Finds command.Show words rows = show_split words ≡ Some (show_found rows)
 Finds command.Measure words rows = measure_split words ≡ Some (measure_found rows)

@@ -47,6 +47,7 @@ live_split_of w = record {
 
 abbrev pub snap_split_of : SnapWords → SnapSplit
 snap_split_of w = record {
+  kind = w.kind;
   image = w.image.now;
   policy = w.policy.now;
   disk = w.disk.now;

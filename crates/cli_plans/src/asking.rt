@@ -82,7 +82,7 @@ fn ask_after<'a>(
         CommandName::Survey
         | CommandName::Debug
         | CommandName::Live(_)
-        | CommandName::Snap
+        | CommandName::Snap(_)
         | CommandName::Sweep
         | CommandName::Shrink
         | CommandName::Resume
@@ -241,11 +241,11 @@ fn live_after<'a>(
     Ok(read_live(&words)?)
 }
 
-/// What words ask `snap` for.
+/// What words ask `snap` or `vsnap` for.
 #[tactic(auto, unfolding(crate::specs::CommandLine::snap_judged))]
 pub fn ask_snap<'a>(alloc: Global, words: &'a [String]) -> Result<Snap<'a>, Unread>
     ensures asked { IsAsked snap_value (snap_judged (map string_bytes words.now)) result }
-    ensures block { IfOk result IsBlockRun }
+    ensures events { IfOk result (λ snap. snap.run.events ≤ max_events) }
 {
     match named(words) {
         Some(naming) => snap_after(alloc, naming.command, naming.rest),
@@ -260,23 +260,24 @@ fn snap_after<'a>(
 ) -> Result<Snap<'a>, Unread>
     requires plain { list_any has_dash (map string_bytes rest.now) ≡ false }
     ensures asked { IsAsked snap_value (snap_after command (map string_bytes rest.now)) result }
-    ensures block { IfOk result IsBlockRun }
+    ensures events { IfOk result (λ snap. snap.run.events ≤ max_events) }
 {
-    let CommandName::Snap = command else {
+    let CommandName::Snap(kind) = command else {
         return Err(Unread::Refused(Refusal::NoCommand));
     };
-    ask_out(alloc, rest)
+    ask_out(alloc, kind, rest)
 }
 
 // A run, and the name that is saved under.
 #[tactic(auto, using(crate::proofs::WordLemmas::split_is_some))]
-fn ask_out<'a>(alloc: Global, rest: &'a [String]) -> Result<Snap<'a>, Unread>
+fn ask_out<'a>(alloc: Global, kind: DiskKind, rest: &'a [String]) -> Result<Snap<'a>, Unread>
     requires plain { list_any has_dash (map string_bytes rest.now) ≡ false }
-    ensures asked { IsAsked snap_value (split_judged snap_of (snap_split (map string_bytes rest.now))) result }
-    ensures block { IfOk result IsBlockRun }
+    ensures asked { IsAsked snap_value (split_judged snap_of (snap_split kind (map string_bytes rest.now))) result }
+    ensures kind { IfOk result (λ snap. snap.run.kind ≡ kind) }
+    ensures events { IfOk result (λ snap. snap.run.events ≤ max_events) }
 {
-    judge_snap(rest)?;
-    let words = split_snap(alloc, rest)?;
+    judge_snap(kind, rest)?;
+    let words = split_snap(alloc, kind, rest)?;
     Ok(read_snap(&words)?)
 }
 
@@ -304,7 +305,7 @@ fn shrink_after<'a>(
     let CommandName::Shrink = command else {
         return Err(Unread::Refused(Refusal::NoCommand));
     };
-    ask_out(alloc, rest)
+    ask_out(alloc, DiskKind::Block, rest)
 }
 
 /// What words ask `sweep` for.

@@ -28,7 +28,8 @@ pub fn judge(words: &[String]) -> Result<(), Refusal> {
         CommandName::Run(kind) => judge_run(kind, naming.rest),
         CommandName::Survey | CommandName::Debug => judge_survey(naming.rest),
         CommandName::Live(kind) => judge_live(kind, naming.rest),
-        CommandName::Snap | CommandName::Shrink => judge_snap(naming.rest),
+        CommandName::Snap(kind) => judge_snap(kind, naming.rest),
+        CommandName::Shrink => judge_snap(DiskKind::Block, naming.rest),
         CommandName::Sweep => judge_sweep(naming.rest),
         CommandName::Resume => judge_resume(naming.rest),
         CommandName::Show => judge_show(naming.rest),
@@ -162,12 +163,13 @@ pub fn judge_live(kind: DiskKind, rest: &[String]) -> Result<(), Refusal>
 }
 
 #[tactic(auto, using(crate::proofs::WordLemmas::not_snap))]
-pub fn judge_snap(rest: &[String]) -> Result<(), Refusal>
-    ensures { IsJudged (split_judged snap_of (snap_split (map string_bytes rest.now))) result }
+pub fn judge_snap(kind: DiskKind, rest: &[String]) -> Result<(), Refusal>
+    ensures { IsJudged (split_judged snap_of (snap_split kind (map string_bytes rest.now))) result }
 {
     match rest {
         [image, policy, disk, script, events, out] => {
             read_snap(&SnapWords {
+                kind,
                 image: image.as_str(),
                 policy: policy.as_str(),
                 disk: disk.as_str(),

@@ -11,7 +11,7 @@ ghost use Rattle.cli_plans.specs.Values.{resume_split_of, measure_split_of};
 ghost use Rattle.cli_plans.specs.CommandLine.{flat_judged, gen_judged, run_judged, run_of, unsaved_run, survey_of, live_of, snap_of};
 ghost use Rattle.cli_plans.specs.CommandLine.{sweep_of, sweep_with, drawn_order_of, most_runs, resume_of, unless_none, source_of, auto_of};
 ghost use Rattle.cli_plans.specs.CommandLine.{bursts_of, making_judged, terms_judged, terms_with, init_of};
-ghost use Rattle.cli_plans.specs.Words.{IsRead, IsInRange, IsDrawnRun, IsSurveyRun, IsBlockRun, AreNumbers, command_of, source_value};
+ghost use Rattle.cli_plans.specs.Words.{IsRead, IsInRange, IsDrawnRun, IsSurveyRun, AreNumbers, command_of, source_value};
 ghost use Rattle.cli_plans.specs.Words.{run_value, live_value, snap_value, sweep_value, resume_value, terms_value};
 
 use crate::command_words::{
@@ -74,7 +74,7 @@ pub struct Live<'a> {
     pub out: &'a str,
 }
 
-/// `snap IMAGE POLICY DISK SCRIPT EVENTS OUT`, or `shrink` with the same words: a run, and the name that the machine after it, or a
+/// `snap IMAGE POLICY DISK SCRIPT EVENTS OUT`, or `vsnap` or `shrink` with the same words: a run, and the name that the machine after it, or a
 /// small script, is saved under.
 #[derive(Drop)]
 pub struct Snap<'a> {
@@ -237,11 +237,12 @@ pub fn read_live<'a>(words: &LiveWords<'a>) -> Result<Live<'a>, Refusal>
     })
 }
 
-/// The words of `snap`.
+/// The words of `snap`, of `vsnap`, or of `shrink`.
 #[tactic(auto, unfolding(crate::specs::CommandLine::snap_words))]
 pub fn read_snap<'a>(words: &SnapWords<'a>) -> Result<Snap<'a>, Refusal>
     ensures read { IsRead snap_value (snap_of (snap_split_of words.now)) result }
-    ensures block { IfOk result IsBlockRun }
+    ensures kind { IfOk result (λ snap. snap.run.kind ≡ words.now.kind) }
+    ensures events { IfOk result (λ snap. snap.run.events ≤ max_events) }
 {
     let Some(script) = source_of(words.script) else {
         return Err(Refusal::OutOfRange { word: Word::Script });
@@ -250,7 +251,7 @@ pub fn read_snap<'a>(words: &SnapWords<'a>) -> Result<Snap<'a>, Refusal>
         return Err(Refusal::OutOfRange { word: Word::Events });
     };
     let run = unsaved_run(
-        DiskKind::Block,
+        words.kind,
         words.image,
         words.policy,
         words.disk,

@@ -1,5 +1,5 @@
--- What `run` accepts, `snap` does: the words, and the plan up to the run.
-use Rattle.std.proofs.Common.{◌≡◌, ◌||◌, ◌++◌, ℕ, List, [], ◌∷◌, Bool, true, false, refl, ◌∙◌, ap, Option, Some, None, Ok, Err, if◌then◌else◌}
+-- What `run` accepts, `snap` does, and what `vrun` does, `vsnap`: the words, and the plan up to the run.
+use Rattle.std.proofs.Common.{◌≡◌, ◌||◌, ◌++◌, ℕ, List, [], ◌∷◌, Bool, true, false, refl, ◌∙◌, ap, subst, Option, Some, None, Ok, Err, if◌then◌else◌}
 use Rattle.std.specs.List.{list_any}
 use Rattle.std.specs.Str.{bytes_eq}
 use Rattle.std.proofs.lemmas.Bool.{or_parts, or_from}
@@ -13,7 +13,9 @@ use Rattle.policy.specs.Refusals.{Judged}
 use Rattle.policy.specs.Text.{rules_of_text}
 use Rattle.spec_reference.specs.States.{State, has_number}
 use Rattle.script.specs.AutoScripts.{events_of_text, first_refused}
-use Rattle.cli_plans.specs.Commands.{RunSplit, has_dash, named_shape, named_words}
+use Rattle.cli_plans.specs.declared.command_words.table.CommandName.{CommandName}
+use Rattle.cli_plans.specs.declared.command_words.table.CommandName.TheVariants as command
+use Rattle.cli_plans.specs.Commands.{RunSplit, SnapSplit, has_dash, name_of, named_by, named_shape, named_words, run_name, snap_name}
 use Rattle.cli_plans.specs.declared.command_words.command.DiskKind.{DiskKind}
 use Rattle.cli_plans.specs.CommandLine.{RunWords, Source, Rounds, Auto, Bursts, Text, judgement_of_words, run_words, source_of}
 use Rattle.cli_plans.specs.CommandLine.{command_after, named_judged, snap_after, unless_none, SnapWords, unsaved_run, snap_judged, snap_words}
@@ -113,7 +115,7 @@ last_dash (word ∷ words) one other good none =
     let parts = or_parts (has_dash word) (list_any has_dash (words ++ one ∷ [])) none in
     or_from (has_dash word) (list_any has_dash (words ++ other ∷ [])) parts.0 (last_dash words one other good parts.1)
 
--- `snap` is asked for this run too
+-- the snapshot is asked for of this run too
 pub record SnapAccepted (held : List ℕ → Option (List ℕ)) (line : SnapLine) (start : State) (events : List Event) : Type 0 where
   pub words : SnapWords
   pub judged_as : snap_judged (snap_line line) ≡ Ok words
@@ -122,7 +124,7 @@ pub record SnapAccepted (held : List ℕ → Option (List ℕ)) (line : SnapLine
 
 abbrev split_of : SnapLine → (save : List ℕ) → RunSplit
 split_of line save = record {
-  kind = DiskKind.Block;
+  kind = line.kind;
   image = line.image;
   policy = line.policy;
   disk = line.disk;
@@ -131,14 +133,25 @@ split_of line save = record {
   save = save;
 }
 
+abbrev snap_of_line : SnapLine → SnapSplit
+snap_of_line line = record {
+  kind = line.kind;
+  image = line.image;
+  policy = line.policy;
+  disk = line.disk;
+  script = line.script;
+  events = line.events;
+  out = line.out;
+}
+
 words_by : (held : List ℕ → Option (List ℕ)) (line : SnapLine) (save : List ℕ) (source : Option Source) (count : Option ℕ) (start : State) (events : List Event) (kept : Option (List ℕ)) →
-    snap_judged (snap_line line) ≡ snap_words line.image line.policy line.disk line.out source count →
+    snap_judged (snap_line line) ≡ snap_words (snap_of_line line) source count →
     due_in held (plan_of (run_words (split_of line save) source count)) ≡ RunFrom start events kept → SnapAccepted held line start events
 unfolding plan_of command_plan run_words snap_words snap_plan
 words_by held line save None count start events kept words due = absurd (cc due)
 words_by held line save (Some source) None start events kept words due = absurd (cc due)
 words_by held line save (Some source) (Some count) start events kept words due =
-    let asked : RunWords = unsaved_run DiskKind.Block line.image line.policy line.disk source count in
+    let asked : RunWords = unsaved_run line.kind line.image line.policy line.disk source count in
     record {
       words = record { run = asked; out = line.out };
       judged_as = words;
@@ -146,10 +159,25 @@ words_by held line save (Some source) (Some count) start events kept words due =
       due = run_same held None (record asked { save = unless_none save }) ∙ ap (with_save None) due;
     }
 
+-- the names of the commands
+snap_named : (kind : DiskKind) → name_of (snap_name kind) ≡ Some (command.Snap kind)
+snap_named DiskKind.Block = refl
+snap_named DiskKind.Virtio = refl
+
+run_named : (kind : DiskKind) → name_of (run_name kind) ≡ Some (command.Run kind)
+run_named DiskKind.Block = refl
+run_named DiskKind.Virtio = refl
+
+snap_plain : (kind : DiskKind) → has_dash (snap_name kind) ≡ false
+snap_plain DiskKind.Block = refl
+snap_plain DiskKind.Virtio = refl
+
 undashed : (line : SnapLine) → list_any has_dash (snap_line line) ≡ false →
-    snap_judged (snap_line line) ≡ snap_words line.image line.policy line.disk line.out (source_of line.script) (number_within 0 max_events line.events)
+    snap_judged (snap_line line) ≡ snap_words (snap_of_line line) (source_of line.script) (number_within 0 max_events line.events)
 unfolding snap_judged named_words
-undashed line none = ap (λ (b : Bool). named_judged snap_after (if b then None else named_shape (snap_line line))) none
+undashed line none =
+    ap (λ (b : Bool). named_judged snap_after (if b then None else named_shape (snap_line line))) none
+    ∙ ap (λ (name : Option CommandName). named_judged snap_after (named_by name (line.image ∷ line.policy ∷ line.disk ∷ line.script ∷ line.events ∷ line.out ∷ []))) (snap_named line.kind)
 
 no_run : (held : List ℕ → Option (List ℕ)) (refusal : Refusal) (start : State) (events : List Event) (kept : Option (List ℕ)) → due_in held (plan_of (Err refusal)) ≡ RunFrom start events kept → ⊥
 unfolding plan_of
@@ -160,8 +188,12 @@ line_by : (held : List ℕ → Option (List ℕ)) (line : SnapLine) (save : List
     SnapAccepted held line start events
 line_by held line save true start events kept good any due = absurd (no_run held NoCommand start events kept due)
 line_by held line save false start events kept good any due =
-    let none : list_any has_dash (snap_line line) ≡ false = last_dash (line.image ∷ line.policy ∷ line.disk ∷ line.script ∷ line.events ∷ []) save line.out good any in
-    words_by held line save (source_of line.script) (number_within 0 max_events line.events) start events kept (undashed line none) due
+    let rest : List (List ℕ) = line.image ∷ line.policy ∷ line.disk ∷ line.script ∷ line.events ∷ save ∷ [] in
+    let plain = (or_parts (has_dash (run_name line.kind)) (list_any has_dash rest) any).1 in
+    let none : list_any has_dash (snap_line line) ≡ false = or_from (has_dash (snap_name line.kind)) _ (snap_plain line.kind)
+    (last_dash (line.image ∷ line.policy ∷ line.disk ∷ line.script ∷ line.events ∷ []) save line.out good plain) in
+    let is = subst (λ (name : Option CommandName). due_in held (plan_of (named_judged command_after (named_by name rest))) ≡ RunFrom start events kept) (run_named line.kind) due in
+    words_by held line save (source_of line.script) (number_within 0 max_events line.events) start events kept (undashed line none) is
 
 pub snap_accepted : (held : List ℕ → Option (List ℕ)) (line : SnapLine) (start : State) (events : List Event) → has_dash line.out ≡ false → IsAccepted held line start events →
     SnapAccepted held line start events

@@ -22,20 +22,20 @@ use Rattle.host_io.specs.declared.trouble.Trouble.TheVariants.{Write, Memory}
 use Rattle.secvisor_cli.proofs.TopLemmas.{refused_writes}
 use Rattle.cli_plans.proofs.PlanLemmas.{may_follow}
 use Rattle.cli_snap.specs.SnapAnswers.{TriesAndSnaps, AnswersSnapReached, PerformsRun, PerformsSnap}
-use Rattle.cli_snap.specs.SnapReady.{StartsBlock, IsPreparedRunWhere, Boots, out_of}
+use Rattle.cli_snap.specs.SnapReady.{HasStarted, IsPreparedRunWhere, Boots, out_of}
 use Rattle.cli_plans.specs.CommandLine.{SnapWords, snap_judged}
 
 -- ---- what is ready
 
 pub record Begins (booted : PreparedRun) : Type 0 where
   pub fresh : IsFresh booted
-  pub starts : StartsBlock booted.machine
+  pub starts : HasStarted booted.machine
 
 pub begins : (reached : Option Due) (booted : PreparedRun) → IsPreparedRunWhere reached (Ok booted) → Begins booted
 begins None booted it = absurd (cc it)
 begins (Some (Refuse refusal)) booted it = absurd it
 begins (Some (Make name rules line)) booted it = absurd it
-begins (Some (RunFrom start events save)) booted it = record { fresh = it.2; starts = record { start = start; new = it.0; kind = it.3 } }
+begins (Some (RunFrom start events save)) booted it = record { fresh = it.2; starts = record { start = start; new = it.0 } }
 
 pub may_under : (name : List ℕ) (f0 f1 : FilesState) → f1.permits_save ≡ f0.permits_save → MaySaveUnder name f0 → MaySaveUnder name f1
 may_under name f0 f1 same may bytes = subst (λ (permits : List (List ℕ × List ℕ) → _). IsTrue (permits ((name, bytes) ∷ []))) (sym same) (may bytes)

@@ -1,5 +1,5 @@
 -- The run of `snap`: the console's bytes and nothing else.
-use Rattle.std.proofs.Common.{◌≡◌, ℕ, suc, ◌<◌, ◌≤◌, ◌^◌, List, [], ◌∷◌, ◌++◌, length, true, refl, sym, ◌∙◌, ap, subst, arith, inl, inr, Result, Ok, Err, OnOk, IsErrOf, IsFalse}
+use Rattle.std.proofs.Common.{◌≡◌, ℕ, suc, ◌<◌, ◌≤◌, ◌^◌, List, [], ◌∷◌, ◌++◌, length, refl, sym, ◌∙◌, ap, subst, arith, inl, inr, Result, Ok, Err, OnOk, IsErrOf, IsFalse}
 use Rattle.std.proofs.lemmas.List.{append-nil}
 use Rattle.sv_types.specs.Limits.{max_events, max_printed}
 use Rattle.sv_types.specs.Schedule.{Schedule, first_events}
@@ -17,8 +17,6 @@ use Rattle.spec_hardware.specs.StandsFor.{StandsFor, machine_of}
 use Rattle.script.proofs.FirstEvents.{first_few}
 use Rattle.laws_resume.specs.Continues.{drawn_under, draw_count}
 use Rattle.laws_resume.proofs.EventsCounted.{counted_law}
-use Rattle.laws_resume.proofs.KindsStay.{kind_law}
-use Rattle.laws_resume.specs.DiskKinds.{is_block_disk}
 use Rattle.laws_resume.specs.EventCounts.{events_counted}
 use Rattle.host_io.specs.Outside.{SinkState, after_taking, TookPrefix, BreaksOff}
 use Rattle.host_io.proofs.SinkLemmas.{after_taking-append, prefix_after, prefix_of_front, prefix_same, prefix_whole}
@@ -30,7 +28,6 @@ use Rattle.host_io.specs.declared.trouble.Trouble.{Trouble}
 use Rattle.host_io.specs.declared.trouble.Trouble.TheVariants.{Write, Memory}
 use Rattle.secvisor_cli.proofs.EndLemmas.{printed_front, broken_writes}
 use Rattle.cli_snap.specs.SnapAnswers.{StandsAfter}
-use Rattle.cli_snap.specs.SnapReady.{StartsBlock}
 
 -- ---- what was written
 
@@ -138,15 +135,6 @@ done_is start events m old new status it = sym (append-nil it.done) ∙ ap (λ (
 
 pub stands_all : (start : State) (events : List Event) (m : Machine) (old new : SinkState) (status : Status) → StandsAfter start events m old new (Ok status) → StandsFor m (run start events)
 stands_all start events m old new status it = subst (λ (es : List Event). StandsFor m (run start es)) (done_is start events m old new status it) it.stands.stands
-
-disk_is : (m : Machine) (r : State) → StandsFor m r → is_block_disk m.devices.disk ≡ is_block_disk r.devices.disk
-unfolding machine_of
-disk_is m r stands = ap (λ (x : Machine). is_block_disk x.devices.disk) stands.same
-
-pub kind_after : (first : Machine) (m : Machine) (events : List Event) (old new : SinkState) (status : Status) → (s : StartsBlock first) → StandsAfter s.start events m old new (Ok status) →
-    is_block_disk m.devices.disk ≡ true
-kind_after first m events old new status s it =
-    disk_is m (run s.start events) (stands_all s.start events m old new status it) ∙ kind_law s.start events ∙ s.kind
 
 counts_are : (m : Machine) (r : State) → StandsFor m r → events_counted m.journal.counts ≡ events_counted r.journal.counts
 unfolding machine_of

@@ -58,7 +58,7 @@ block_line b =
 unfoldable pub virtio_line : VirtioState → List ℕ
 virtio_line v = codes "virtio status " ++ (decimal v.status ++ (codes " accepted " ++ (decimal v.accepted ++ line_end)))
 
--- a snapshot that is read has a block device
+-- by the device that the disk is behind
 abbrev pub port_line : PortState → List ℕ
 port_line (PortState.Block block) = block_line block
 port_line (PortState.Virtio virtio) = virtio_line virtio

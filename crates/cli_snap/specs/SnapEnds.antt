@@ -1,12 +1,13 @@
--- That `snap` refuses nothing that `run` accepts, and how it ends then. This project's own.
-use Rattle.std.specs.Prelude.{◌≡◌, false, ℕ, List, [], ◌∷◌, Option, Some, codes}
+-- That `snap` refuses nothing that `run` accepts, nor `vsnap` what `vrun` does, and how it ends then. This project's own.
+use Rattle.std.specs.Prelude.{◌≡◌, false, ℕ, List, [], ◌∷◌, Option, Some}
 use Rattle.sv_types.specs.declared.event.Event.{Event}
 use Rattle.sv_types.specs.declared.status.Status.{Status}
 use Rattle.spec_reference.specs.Run.{run}
 use Rattle.spec_reference.specs.States.{State}
 use Rattle.snapshot_format.specs.Snapshots.{contents, snapshot}
 use Rattle.snapshot_format.specs.declared.whole.Snapshot.{Snapshot}
-use Rattle.cli_plans.specs.Commands.{has_dash}
+use Rattle.cli_plans.specs.Commands.{has_dash, run_name, snap_name}
+use Rattle.cli_plans.specs.declared.command_words.command.DiskKind.{DiskKind}
 use Rattle.host_io.specs.Outside.{after_taking}
 use Rattle.secvisor_cli.specs.Answers.{Outside}
 use Rattle.cli_plans.specs.CommandLine.{judgement_of_words, snap_judged}
@@ -17,8 +18,10 @@ use Rattle.cli_snap.specs.SnapAnswers.{SnapHeadline}
 
 -- ---- the words
 
--- IMAGE POLICY DISK SCRIPT EVENTS OUT
+-- IMAGE POLICY DISK SCRIPT EVENTS OUT of `snap`, or of `vsnap`
 pub record SnapLine : Type 0 where
+  -- which block device the machine has
+  pub kind : DiskKind
   pub image : List ℕ
   pub policy : List ℕ
   pub disk : List ℕ
@@ -27,13 +30,13 @@ pub record SnapLine : Type 0 where
   pub out : List ℕ
 
 abbrev pub snap_line : SnapLine → List (List ℕ)
-snap_line line = codes "snap" ∷ line.image ∷ line.policy ∷ line.disk ∷ line.script ∷ line.events ∷ line.out ∷ []
+snap_line line = snap_name line.kind ∷ line.image ∷ line.policy ∷ line.disk ∷ line.script ∷ line.events ∷ line.out ∷ []
 
--- run IMAGE POLICY DISK SCRIPT EVENTS SAVE, where all words but the last are those of `snap`
+-- run IMAGE POLICY DISK SCRIPT EVENTS SAVE, or vrun, over the same device, where all words but the last are those of `snap`
 abbrev pub run_line : SnapLine → (save : List ℕ) → List (List ℕ)
-run_line line save = codes "run" ∷ line.image ∷ line.policy ∷ line.disk ∷ line.script ∷ line.events ∷ save ∷ []
+run_line line save = run_name line.kind ∷ line.image ∷ line.policy ∷ line.disk ∷ line.script ∷ line.events ∷ save ∷ []
 
--- with some word for SAVE, `run` accepts these words and what names hold, and makes this run
+-- with some word for SAVE, `run` or `vrun` accepts these words and what names hold, and makes this run
 pub record IsAccepted (held : List ℕ → Option (List ℕ)) (line : SnapLine) (start : State) (events : List Event) : Type 0 where
   pub save : List ℕ
   -- where the disk would be saved

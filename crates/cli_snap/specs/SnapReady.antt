@@ -1,11 +1,10 @@
--- What is made ready of `snap`, before anything is written.
-use Rattle.std.specs.Prelude.{◌≡◌, ℕ, List, [], true, Option, Some, None, Result, Ok, Err, IsErrOf}
+-- What is made ready of `snap` or `vsnap`, before anything is written.
+use Rattle.std.specs.Prelude.{◌≡◌, ℕ, List, [], Option, Some, None, Result, Ok, Err, IsErrOf}
 use Rattle.sv_types.specs.Schedule.{first_events}
 use Rattle.spec_reference.specs.States.{State}
 use Rattle.spec_hardware.specs.Machine.{Machine}
 use Rattle.spec_hardware.specs.Reaches.{IsNew}
 use Rattle.host_io.specs.Outside.{FilesState}
-use Rattle.laws_resume.specs.DiskKinds.{is_block_disk}
 use Rattle.cli_plans.specs.declared.refusal.Refusal.{Refusal}
 use Rattle.cli_plans.specs.CommandLine.{SnapWords}
 use Rattle.cli_plans.specs.Plans.{Due, Refuse, RunFrom, Make, Plan}
@@ -15,11 +14,10 @@ use Rattle.secvisor_cli.specs.declared.ready.PreparedRun.{PreparedRun}
 use Rattle.secvisor_cli.specs.declared.ready.Stop.{Stop}
 use Rattle.secvisor_cli.specs.declared.ready.Stop.TheVariants.{Refused, Memory}
 
--- a machine that has just started with its disk behind the project's block device
-pub record StartsBlock (m : Machine) : Type 0 where
+-- a machine that has just started
+pub record HasStarted (m : Machine) : Type 0 where
   pub start : State
   pub new : IsNew m start
-  pub kind : is_block_disk start.devices.disk ≡ true
 
 -- the name that the snapshot is saved under
 abbrev pub out_of : Result SnapWords Refusal → List ℕ
@@ -29,7 +27,7 @@ out_of (Err refusal) = []
 -- what is due is ready, or refused
 abbrev pub IsPreparedRun : Due → Result PreparedRun Stop → Type 0
 IsPreparedRun (RunFrom start events save) (Ok booted) =
-    IsNew booted.machine start × (first_events booted.events booted.script ≡ events) × IsFresh booted × (is_block_disk start.devices.disk ≡ true)
+    IsNew booted.machine start × (first_events booted.events booted.script ≡ events) × IsFresh booted
 IsPreparedRun (RunFrom start events save) (Err stop) = ⊥
 IsPreparedRun (Make name rules line) result = ⊥
 IsPreparedRun (Refuse refusal) (Ok booted) = ⊥

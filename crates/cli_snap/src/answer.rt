@@ -1,8 +1,7 @@
-// The answer to the words of `snap`.
+// The answer to the words of `snap` and `vsnap`.
 ghost use Rattle.std.specs.Prelude.{◌≡◌, ◌≢◌, ◌<◌, ◌≤◌, ◌-◌, ◌⊎◌, ℕ, List, [], map, string_bytes, false, IsTrue, None};
 ghost use Rattle.std.specs.Result.{is_ok};
 ghost use Rattle.sv_types.specs.Limits.{max_events};
-ghost use Rattle.cli_plans.specs.declared.command_words.command.DiskKind.{DiskKind};
 ghost use Rattle.spec_reference.specs.Counting.{CountsAtMost};
 ghost use Rattle.spec_reference.specs.Run.{run};
 ghost use Rattle.spec_reference.specs.States.{State};
@@ -18,7 +17,7 @@ ghost use Rattle.cli_plans.specs.Reading.{MayFollow, IsNamed};
 ghost use Rattle.secvisor_cli.specs.Ready.{IsFresh};
 ghost use Rattle.cli_plans.specs.Words.{run_value};
 ghost use Rattle.cli_snap.specs.SnapAnswers.{StandsAfter, SnapsTo, TriesAndSnaps, PerformsSnap, PerformsRun, SnapHeadline};
-ghost use Rattle.cli_snap.specs.SnapReady.{StartsBlock, out_of};
+ghost use Rattle.cli_snap.specs.SnapReady.{HasStarted, out_of};
 ghost use Rattle.cli_plans.specs.CommandLine.{snap_judged};
 
 use crate::ready::prepare_snap;
@@ -31,7 +30,7 @@ use secvisor_cli::{Bench, PreparedRun, Status, Stop, Trouble, refuse, status_of_
 use std::alloc::Global;
 use std::thread::Threads;
 
-/// Does all that `snap` does: judges the words, reads the files that they name, runs the machine, writes its console's bytes and
+/// Does all that `snap` or `vsnap` does: judges the words, reads the files that they name, runs the machine, writes its console's bytes and
 /// no report, and saves the machine as a snapshot.
 pub fn secvisor_snap<R: Threads + Sync, F: Files, O: Sink>(
     rt: &R,
@@ -109,7 +108,6 @@ fn answer_snap<R: Threads + Sync, F: Files, O: Sink>(
 ) -> Result<Status, Trouble>
     requires permitted { MayFollow (run_plan (run_value snap.now.run)) (F.state files.old) }
     requires snapshot { MaySaveUnder snap.now.out.now (F.state files.old) }
-    requires kind { snap.now.run.kind ≡ DiskKind.Block }
     requires events { snap.now.run.events ≤ max_events }
     requires sink { MayWrite (O.state out.old) }
     requires reads { CanCount (F.state files.old).read_faults }
@@ -137,7 +135,7 @@ fn run_on_bench<F: Files, O: Sink>(
     requires sink { MayWrite (O.state out.old) }
     requires saves { CanCount (F.state files.old).save_faults }
     requires fresh { IsFresh ready }
-    requires starts { StartsBlock ready.machine }
+    requires starts { HasStarted ready.machine }
     requires snapshot { MaySaveUnder name.now (F.state files.old) }
     ensures { (start : State) → IsNew ready.entry.machine start → TriesAndSnaps start (first_events ready.entry.events ready.entry.script) name.now
         (outside (F.state files.old) (O.state out.old) bench.old.machine)
@@ -182,7 +180,7 @@ fn run_and_save<F: Files, O: Sink>(
     requires state { HasState machine.old }
     requires counts { CountsAtMost 0 machine.old.journal.counts }
     requires console { machine.old.journal.printed ≡ [] }
-    requires starts { StartsBlock machine.old }
+    requires starts { HasStarted machine.old }
     requires snapshot { MaySaveUnder order.name.now (F.state files.old) }
     ensures { (start : State) → IsNew machine.old start →
         SnapsTo start (first_events order.entry.events order.entry.script) order.entry.name.now machine.new

@@ -1,7 +1,6 @@
-// What is ready of `snap`.
-ghost use Rattle.std.specs.Prelude.{◌≡◌, ◌<◌, ◌≤◌, ◌-◌};
+// What is ready of `snap` or `vsnap`.
+ghost use Rattle.std.specs.Prelude.{◌<◌, ◌≤◌, ◌-◌};
 ghost use Rattle.sv_types.specs.Limits.{max_events};
-ghost use Rattle.cli_plans.specs.declared.command_words.command.DiskKind.{DiskKind};
 ghost use Rattle.cli_plans.specs.Plans.{run_plan};
 ghost use Rattle.cli_plans.specs.Reading.{MayFollow};
 ghost use Rattle.cli_plans.specs.Words.{run_value};
@@ -14,7 +13,7 @@ use secvisor_cli::{PreparedRun, Stop, prepare_run};
 use std::alloc::Global;
 use std::thread::Threads;
 
-/// Reads and judges what `run` does for the same words, and boots a machine with the project's block device.
+/// Reads and judges what `run` or `vrun` does for the same words, and boots a machine.
 pub fn prepare_snap<'a, R: Threads + Sync, F: Files>(
     rt: &R,
     alloc: Global,
@@ -23,7 +22,6 @@ pub fn prepare_snap<'a, R: Threads + Sync, F: Files>(
 ) -> Result<PreparedRun<'a>, Stop>
     requires permitted { MayFollow (run_plan (run_value asked.now)) (F.state files.old) }
     requires reads { CanCount (F.state files.old).read_faults }
-    requires kind { asked.now.kind ≡ DiskKind.Block }
     requires events { asked.now.events ≤ max_events }
     ensures { Boots (run_plan (run_value asked.now)) (F.state files.old) (F.state files.new) result }
 {

@@ -1,6 +1,5 @@
 // A machine, saved as a snapshot.
-ghost use Rattle.std.specs.Prelude.{◌≡◌, ◌<◌, ◌-◌, ◌^◌, [], ◌∷◌, true, Some, IfOk, IsTrue};
-ghost use Rattle.laws_resume.specs.DiskKinds.{is_block_disk};
+ghost use Rattle.std.specs.Prelude.{◌≡◌, ◌<◌, ◌-◌, ◌^◌, [], ◌∷◌, Some, IfOk, IsTrue};
 ghost use Rattle.laws_resume.specs.EventCounts.{events_counted};
 ghost use Rattle.machine.specs.Standing.{HasState};
 ghost use Rattle.secvisor_cli.specs.Answers.{AfterSave};
@@ -26,7 +25,6 @@ pub fn save_snapshot<F: Files>(
     files: &mut F,
 ) -> Result<(), Trouble>
     requires state { HasState machine.now }
-    requires kind { is_block_disk machine.now.devices.disk ≡ true }
     requires few { events_counted machine.now.journal.counts < 2 ^ 64 }
     requires permitted { MaySaveUnder name.now (F.state files.old) }
     requires count { CanCount (F.state files.old).save_faults }
@@ -51,7 +49,6 @@ fn snapshot_bytes(
     text: Vec<TextPage>,
 ) -> Result<Vec<u8>, AllocError>
     requires state { HasState machine.now }
-    requires kind { is_block_disk machine.now.devices.disk ≡ true }
     requires few { events_counted machine.now.journal.counts < 2 ^ 64 }
     ensures { IfOk result (λ bytes. EncodesMachine machine.now text.items bytes.items) }
 {

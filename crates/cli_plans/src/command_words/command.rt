@@ -50,9 +50,11 @@ pub struct LiveWords<'a> {
     pub out: &'a str,
 }
 
-/// `snap IMAGE POLICY DISK SCRIPT EVENTS OUT`, or `shrink` with the same words
+/// `snap IMAGE POLICY DISK SCRIPT EVENTS OUT`, `vsnap` with the same words, whose disk is a virtio block device, or `shrink` with
+/// them.
 #[derive(Drop)]
 pub struct SnapWords<'a> {
+    pub kind: DiskKind,
     pub image: &'a str,
     pub policy: &'a str,
     pub disk: &'a str,

@@ -75,11 +75,13 @@ pub fn live<'a>(kind: DiskKind, matches: &ArgMatches<'a>) -> LiveWords<'a>
     }
 }
 
-pub fn snap<'a>(matches: &ArgMatches<'a>) -> SnapWords<'a>
+pub fn snap<'a>(kind: DiskKind, matches: &ArgMatches<'a>) -> SnapWords<'a>
     requires { HasWords snap_wants (rows_of (found_of matches.now)) }
-    ensures { snap_split_of result ≡ snap_found (rows_of (found_of matches.now)) }
+    ensures split { snap_split_of result ≡ snap_found kind (rows_of (found_of matches.now)) }
+    ensures kind { result.kind ≡ kind }
 {
     SnapWords {
+        kind,
         image: word(matches, "IMAGE"),
         policy: word(matches, "POLICY"),
         disk: word(matches, "DISK"),

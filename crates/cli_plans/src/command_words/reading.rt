@@ -92,14 +92,19 @@ pub fn split_live<'a>(
     Ok(found::live(kind, &matches))
 }
 
-/// `snap IMAGE POLICY DISK SCRIPT EVENTS OUT`, or `shrink` with the same words.
-pub fn split_snap<'a>(alloc: Global, words: &'a [String]) -> Result<SnapWords<'a>, AllocError>
-    requires known { IsTrue (is_some (snap_split (map string_bytes words.now))) }
+/// `snap IMAGE POLICY DISK SCRIPT EVENTS OUT`, or `vsnap` or `shrink` with the same words.
+pub fn split_snap<'a>(
+    alloc: Global,
+    kind: DiskKind,
+    words: &'a [String],
+) -> Result<SnapWords<'a>, AllocError>
+    requires known { IsTrue (is_some (snap_split kind (map string_bytes words.now))) }
     requires plain { list_any has_dash (map string_bytes words.now) ≡ false }
-    ensures { IfOk result (λ found. snap_split (map string_bytes words.entry.now) ≡ Some (snap_split_of found)) }
+    ensures split { IfOk result (λ found. snap_split kind (map string_bytes words.entry.now) ≡ Some (snap_split_of found)) }
+    ensures kind { IfOk result (λ found. found.kind ≡ kind) }
 {
-    let matches = find(alloc, CommandName::Snap, words)?;
-    Ok(found::snap(&matches))
+    let matches = find(alloc, CommandName::Snap(kind), words)?;
+    Ok(found::snap(kind, &matches))
 }
 
 /// `sweep IMAGE POLICY DISK SCHEDULE FIRST COUNT EVENTS`

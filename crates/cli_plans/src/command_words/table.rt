@@ -16,7 +16,8 @@ pub enum CommandName {
     Debug,
     /// With the block device that its machine has.
     Live(DiskKind),
-    Snap,
+    /// With the block device that its machine has.
+    Snap(DiskKind),
     Sweep,
     Shrink,
     Resume,
@@ -61,6 +62,8 @@ const VIRTIO_LIVE_NAME: &str = "vlive";
 
 const SNAP_NAME: &str = "snap";
 
+const VIRTIO_SNAP_NAME: &str = "vsnap";
+
 const SWEEP_NAME: &str = "sweep";
 
 const SHRINK_NAME: &str = "shrink";
@@ -74,7 +77,7 @@ const MEASURE_NAME: &str = "measure";
 const CONVERT_NAME: &str = "convert";
 
 /// All commands, in the order in which they are explained.
-pub static COMMANDS: [CommandRow; 15] = [
+pub static COMMANDS: [CommandRow; 16] = [
     CommandRow {
         name: MEASURE_NAME,
         command: CommandName::Measure,
@@ -117,8 +120,13 @@ pub static COMMANDS: [CommandRow; 15] = [
     },
     CommandRow {
         name: SNAP_NAME,
-        command: CommandName::Snap,
+        command: CommandName::Snap(DiskKind::Block),
         about: "runs a kernel, prints its console alone, and saves the machine as OUT, a snapshot",
+    },
+    CommandRow {
+        name: VIRTIO_SNAP_NAME,
+        command: CommandName::Snap(DiskKind::Virtio),
+        about: "the same with a virtio disk",
     },
     CommandRow {
         name: RESUME_NAME,
@@ -211,7 +219,7 @@ pub static WORDS: [WordRow; 21] = [
     },
     WordRow {
         name: "SNAPSHOT",
-        permitted: "what snap saved",
+        permitted: "what snap or vsnap saved",
     },
     WordRow {
         name: "RAM",
@@ -336,7 +344,7 @@ pub fn arguments_of(command: CommandName) -> &'static [Argument<'static>]
         CommandName::Survey => &SURVEY,
         CommandName::Debug => &SURVEY,
         CommandName::Live(_) => &LIVE,
-        CommandName::Snap => &SNAP,
+        CommandName::Snap(_) => &SNAP,
         CommandName::Sweep => &SWEEP,
         CommandName::Shrink => &SNAP,
         CommandName::Resume => &RESUME,
@@ -359,7 +367,8 @@ pub fn command_of_name(name: &str) -> Option<CommandName>
         DEBUG_NAME => Some(CommandName::Debug),
         LIVE_NAME => Some(CommandName::Live(DiskKind::Block)),
         VIRTIO_LIVE_NAME => Some(CommandName::Live(DiskKind::Virtio)),
-        SNAP_NAME => Some(CommandName::Snap),
+        SNAP_NAME => Some(CommandName::Snap(DiskKind::Block)),
+        VIRTIO_SNAP_NAME => Some(CommandName::Snap(DiskKind::Virtio)),
         RESUME_NAME => Some(CommandName::Resume),
         SWEEP_NAME => Some(CommandName::Sweep),
         SHRINK_NAME => Some(CommandName::Shrink),

@@ -2,7 +2,7 @@ use Rattle.sv_types.specs.Schedule.{first_events}
 use Rattle.secvisor_cli.proofs.ReadyLemmas.{err_by}
 use Rattle.host_io.specs.declared.trouble.Trouble.TheVariants.{Memory}
 use Rattle.cli_snap.specs.SnapAnswers.{SnapsTo}
-use Rattle.cli_snap.proofs.RunLemmas.{has_state, stands_all, kind_after, few_counted}
+use Rattle.cli_snap.proofs.RunLemmas.{has_state, stands_all, few_counted}
 use Rattle.cli_snap.proofs.SaveLemmas.{snaps_ok, snaps_err, snaps_none, snaps_broke}
 use Rattle.cli_snap.proofs.answer.run_and_save.Goals as goal
 
@@ -24,11 +24,6 @@ pub save_snapshot-requires-clause-state : goal.save_snapshot-requires-clause-sta
 save_snapshot-requires-clause-state g c =
     let s = c.requires.starts in
     has_state s.start _ c.run_and_print.new.machine _ _ _ (c.in_ok-status.ensures.stands s.start s.new)
-
-pub save_snapshot-requires-clause-kind : goal.save_snapshot-requires-clause-kind
-save_snapshot-requires-clause-kind g c =
-    let s = c.requires.starts in
-    kind_after c.args.machine.now c.run_and_print.new.machine _ _ _ c.in_ok-status.status s (c.in_ok-status.ensures.stands s.start s.new)
 
 pub save_snapshot-requires-clause-few : goal.save_snapshot-requires-clause-few
 save_snapshot-requires-clause-few g c =
