@@ -135,7 +135,7 @@ impl Machine {
     #[inline(always)]
     fn once(&mut self, event: Event, most: u64) -> u64
         requires { MayMake self.old most }
-        ensures { Made result most self.old event self.new }
+        ensures { MadeRow result most self.old event self.new }
     {
         self.make(event);
         1
