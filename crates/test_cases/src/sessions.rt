@@ -5,6 +5,7 @@ use crate::answers::answer_with;
 use crate::folder::hold_named;
 use crate::memory::Answer;
 use crate::values::line_of;
+use cli_dispatch::Host;
 use gdb_protocol::push_frame;
 use host_io::{MemFiles, MemSink};
 use live_keys::{MemKeys, Still};
@@ -73,7 +74,12 @@ fn serve<R: Threads + Wait + Sync + Files + AllocGlobal>(
     hold_named(rt, words, "", &mut files)?;
     let mut keys = MemKeys::new(sent, Vec::new(alloc));
     let mut out = MemSink::new(alloc, ANSWER_BYTES, ANSWER_BYTES, &[])?;
-    let answer = answer_with(rt, alloc, words, &mut files, &mut keys, &mut out, &Still);
+    let host = Host {
+        rt,
+        alloc,
+        pace: &Still,
+    };
+    let answer = answer_with(&host, words, &mut files, &mut keys, &mut out);
     Ok((answer, out))
 }
 
