@@ -31,7 +31,7 @@ wanted() {
 
 # What a run's notes, verdict and saved disk say, without numbers that another build changes.
 kinds() {
-    sed -nE '/^(demote|denied gpa|load|unload|retire|verdict|file system:|written:) ?/ {
+    sed -nE '/^(demote|denied gpa|load|unload|retire|verdict|file system:|written:) / {
         s/ (hart|turn) [0-9]+//g
         s/0x[0-9a-f]{16}/ADDRESS/g
         p
