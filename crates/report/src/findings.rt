@@ -5,8 +5,6 @@ mod findings;
 mod found;
 mod lines;
 mod loads;
-#[cfg(test)]
-mod tests;
 
 pub use findings::{Finding, MAX_FINDINGS, Occurrence, Writes, add_write};
 pub use found::{Found, nothing_found};

@@ -29,6 +29,8 @@ mod scripts;
 #[cfg(test)]
 mod shrunk;
 #[cfg(test)]
+mod surveys;
+#[cfg(test)]
 mod traps;
 #[cfg(test)]
 mod virtio;

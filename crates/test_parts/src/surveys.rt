@@ -1,12 +1,12 @@
 // The lines of a small survey of a kernel without symbols.
 
-use crate::findings::findings::{Occurrence, add_write};
-use crate::findings::found::{Found, nothing_found};
-use crate::findings::lines::survey_lines;
-use crate::findings::loads::{RefusedLoad, add_load};
 use elf64_load::symbols::KernelNames;
 use page_measure::fields::WrongField;
+use report::findings::{
+    Found, Occurrence, RefusedLoad, add_load, add_write, nothing_found, survey_lines,
+};
 use std::alloc::{AllocError, Global};
+use std::process::Abort;
 use std::test::Fail;
 use sv_types::{ModulePolicy, Name, Note, Policy};
 
@@ -66,10 +66,8 @@ static LOADS: [RefusedLoad; 2] = [
 ];
 
 /// A policy of one module.
-fn policy(alloc: Global) -> Result<Policy, Fail> {
-    let Some(name) = Name::new("a\\b") else {
-        return Err(Fail);
-    };
+fn policy<R: Abort>(rt: &R, alloc: Global) -> Result<Policy, AllocError> {
+    let name = Name::new("a\\b").expect(rt, "a name");
     let mut modules = Vec::new(alloc);
     modules.push(ModulePolicy {
         name,
@@ -110,7 +108,7 @@ fn found(alloc: Global) -> Result<Found, AllocError> {
 #[test]
 fn lines_of_a_survey(rt: HostRuntime) -> Result<(), Fail> {
     let alloc = rt.alloc();
-    let policy = policy(alloc)?;
+    let policy = policy(&rt, alloc)?;
     let found = found(alloc)?;
     let names = KernelNames {
         tables: None,
