@@ -33,7 +33,8 @@ STEPS = set("""
     law_plain_texts law_bound_within_limits law_bound_in_text law_exports_of_names law_block law_counts
     law_reaches law_saved_resumes law_saved_accepted law_resumed_goes_on law_snap_file
     law_live_ends law_snap_ends law_resume_ends law_show_ends
-    law_write_keeps_tables law_mask law_fields_right law_accepted_segments
+    law_write_keeps_tables law_mask law_fields_right law_accepted_segments law_text_in_ram
+    law_grows law_pass law_same_run law_walks_apart law_plain_frames law_long_frames law_noise law_due law_make_ends
     """.split())
 
 
