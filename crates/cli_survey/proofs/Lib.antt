@@ -1,3 +1,4 @@
+pub mod DrawnEvents
 pub mod LookLemmas
 pub mod SurveyLemmas
 pub mod ReadyLemmas

@@ -4,7 +4,8 @@ use Rattle.sv_types.specs.Schedule.{first_events}
 use Rattle.host_io.specs.declared.trouble.Trouble.TheVariants.{Write, Memory}
 use Rattle.script.proofs.FirstEvents.{begun_none}
 use Rattle.machine.proofs.ConsoleLemmas.{taken_none, taken_more}
-use Rattle.machine.proofs.DrawnBatches.{none_left, one_drawn}
+use Rattle.machine.proofs.DrawnBatches.{none_left}
+use Rattle.cli_survey.proofs.DrawnEvents.{one_drawn}
 use Rattle.machine.proofs.Repeated.{counts_within}
 use Rattle.cli_survey.proofs.LookLemmas.{one_refuses}
 use Rattle.secvisor_cli.proofs.ReadyLemmas.{err_by}
