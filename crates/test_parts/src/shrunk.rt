@@ -18,6 +18,14 @@ struct WithBoth {
     runs: u64,
 }
 
+impl WithBoth {
+    fn is_met(&self, items: &[u8]) -> bool
+        ensures { result ≡ (list_any (λ n. nat_eq n self.now.first) items.now && list_any (λ n. nat_eq n self.now.second) items.now) }
+    {
+        items.contains(&self.first) && items.contains(&self.second)
+    }
+}
+
 impl Stops<u8> for WithBoth {
     ghost stops = { λ t items. list_any (λ n. nat_eq n t.first) items && list_any (λ n. nat_eq n t.second) items };
 
@@ -25,7 +33,7 @@ impl Stops<u8> for WithBoth {
 
     fn stops_so<R: Threads + Sync>(&mut self, _rt: &R, items: &[u8]) -> Result<bool, AllocError> {
         self.runs -= 1;
-        Ok(items.contains(&self.first) && items.contains(&self.second))
+        Ok(self.is_met(items))
     }
 
     fn runs_left(&self) -> u64 {
@@ -44,7 +52,7 @@ fn a_list_keeps_what_it_stops_by(rt: HostRuntime) -> Result<(), AllocError> {
     for number in 0..200 {
         items.push(number)?;
     }
-    if test.stops_so(&rt, &items)? {
+    if test.is_met(&items) {
         let minimal = minimize(&rt, rt.alloc(), &mut test, &mut items)?;
         assert!(&rt; minimal);
     }
@@ -59,6 +67,14 @@ struct OftenEnough {
     runs: u64,
 }
 
+impl OftenEnough {
+    fn is_met(&self, lines: &[EventRun]) -> bool
+        ensures { result ≡ list_any (λ line. nat_le self.now.times line.count) lines.now }
+    {
+        lines.iter().any(|line| self.times <= line.count)
+    }
+}
+
 impl Stops<EventRun> for OftenEnough {
     ghost stops = { λ t lines. list_any (λ line. nat_le t.times line.count) lines };
 
@@ -70,8 +86,7 @@ impl Stops<EventRun> for OftenEnough {
         lines: &[EventRun],
     ) -> Result<bool, AllocError> {
         self.runs -= 1;
-        let times = self.times;
-        Ok(lines.iter().any(|line| times <= line.count))
+        Ok(self.is_met(lines))
     }
 
     fn runs_left(&self) -> u64 {
@@ -105,7 +120,7 @@ fn halves_are_spared(rt: HostRuntime) -> Result<(), AllocError> {
         runs: 100,
     };
     let mut lines = LINES.to_vec(rt.alloc())?;
-    if test.stops_so(&rt, &lines)? {
+    if test.is_met(&lines) {
         let minimal = shrink_lines(&rt, rt.alloc(), &mut test, &mut lines)?;
         assert!(&rt; minimal);
     }
