@@ -6,13 +6,13 @@ use Rattle.spec_reference.specs.Start.{image_start, virtio_start}
 use Rattle.spec_reference.specs.States.{Disk}
 use Rattle.spec_hardware.specs.Reaches.{IsNew}
 use Rattle.laws_simulation.proofs.StartsSound.{virtio_quiet}
-use Rattle.machine.proofs.machine.Machine.boot_virtio.Goals as goal
+use Rattle.machine.proofs.machine_start.Booted.virtio.Goals as goal
 
-pub boot_after-requires-clause-quiet : goal.boot_after-requires-clause-quiet
-boot_after-requires-clause-quiet g c κs within = subst IsSoundDisk (sym c.virtio.ensures) (virtio_quiet c.args.disk.items)
+pub after-requires-clause-quiet : goal.after-requires-clause-quiet
+after-requires-clause-quiet g c κs within = subst IsSoundDisk (sym c.virtio.ensures) (virtio_quiet c.args.disk.items)
 
 pub returns-clause-new : goal.returns-clause-new
 unfolding virtio_start
 returns-clause-new g c = λ file is.
-    subst (λ (disk : Disk). IfOk c.boot_after.result (λ m. IsNew m (image_start (rules_of c.args.policy) file disk))) c.virtio.ensures
-    (c.boot_after.ensures.new file is)
+    subst (λ (disk : Disk). IfOk c.after.result (λ b. IsNew b.machine (image_start (rules_of c.args.policy) file disk))) c.virtio.ensures
+    (c.after.ensures.new file is)
