@@ -15,7 +15,7 @@ ghost use Rattle.laws_resume.specs.Starts.{journal_at_boot};
 ghost use Rattle.machine.specs.Boot.{HasDigests, IsImageOf, IsRead, image_text, RefusesFlat, RefusesImage};
 
 use crate::boot::BootRefusal;
-use crate::image_start::boot;
+use crate::image_start::{BootedSystem, boot};
 use crate::machine::Machine;
 use crate::start::flat;
 use elf64_load::KernelImage;
@@ -25,6 +25,7 @@ use std::thread::Threads;
 use sv_types::{Digest, Policy};
 
 /// A machine before its first event, and the digests of its text's pages, ascending, by which it was measured.
+#[derive(Drop)]
 pub struct Booted {
     pub machine: Machine,
     pub digests: Vec<Digest>,
@@ -94,15 +95,12 @@ impl Booted {
         ensures permitted { OnOk result (has_number policy.entries.items image.now.entry ≡ true) }
         ensures refused { IfErr result (RefusesImage image.now (rules_of policy)) }
     {
-        let booted = boot(rt, alloc, image, policy, port)?;
+        let BootedSystem { system, digests } = boot(rt, alloc, image, policy, port)?;
         let machine = Machine {
-            system: booted.system,
+            system,
             none_reserved: false,
         };
-        Ok(Booted {
-            machine,
-            digests: booted.digests,
-        })
+        Ok(Booted { machine, digests })
     }
 }
 

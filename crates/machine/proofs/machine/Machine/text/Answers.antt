@@ -5,8 +5,8 @@ use Rattle.laws_resume.specs.TextPages.{paired_text}
 use Rattle.machine.proofs.Texts.{pages_few, text_states}
 use Rattle.machine.proofs.machine.Machine.text.Goals as goal
 
-pub text_of-requires-few : goal.text_of-requires-few
-text_of-requires-few c = pages_few c.self.inside.system c.self.invariant.state c.self.invariant.stands
+pub text_of-requires : goal.text_of-requires
+text_of-requires c = record { few = pages_few c.self.inside.system c.self.invariant.state c.self.invariant.stands }
 
 pub returns : goal.returns
 returns c =

@@ -8,8 +8,8 @@ boot-requires-clause-placed g c κs within = read_placed c.args.policy.ram_pages
 
 pub invariant_of-machine : goal.invariant_of-machine
 invariant_of-machine g c =
-    image_fit c.in_ok-booted.field-0.system (rules_of c.args.policy) c.args.policy.ram_pages c.args.image.now (port_disk c.args.port)
-    c.requires.read c.in_ok-booted.ensures.new c.in_ok-booted.ensures.journal
+    image_fit c.in_ok-system.field-0.system (rules_of c.args.policy) c.args.policy.ram_pages c.args.image.now (port_disk c.args.port)
+    c.requires.read c.in_ok-system.ensures.new c.in_ok-system.ensures.journal
 
 pub returns-clause-digests : goal.returns-clause-digests
-returns-clause-digests g c = c.in_ok-booted.ensures.digests c.requires.read.file c.requires.read.is
+returns-clause-digests g c = c.in_ok-system.ensures.digests c.requires.read.file c.requires.read.is
