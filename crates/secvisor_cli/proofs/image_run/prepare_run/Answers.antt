@@ -9,3 +9,6 @@ returns-in_err-prepare_measured-clause-prepares g c =
     err_by _ c.in_err-prepare_measured.field-0.0
     (λ r. Prepares (run_plan (run_value c.args.asked.now)) (g.F.Files.state c.args.files.now) (g.F.Files.state c.prepare_measured.new.files) (run_ready r))
     c.from_residual.ensures.1 c.in_err-prepare_measured.ensures.prepares
+
+pub returns-clause-draws : goal.returns-clause-draws
+returns-clause-draws g c = c.in_ok-prepare_measured.ensures.draws
