@@ -253,30 +253,21 @@ pub record ReadsAs (name : CommandName) (words : List Text) : Type 0 where
   pub has : (rows : List Row) → rows ≡ matches_of (app_of_wants (wants_of name)) words → HasWords (wants_of name) rows
   pub finds : (rows : List Row) → rows ≡ matches_of (app_of_wants (wants_of name)) words → Finds name words rows
 
+reads : {S : Type 0} (name : CommandName) (words : List Text) (found : List Row → S) (split : Option S) → IsRead (wants_of name) found words split
+    → ((rows : List Row) → split ≡ Some (found rows) → Finds name words rows) → ReadsAs name words
+reads name words found split it finds = record { taken = it.taken; has = it.has; finds = λ rows e. finds rows (it.is rows _ e refl) }
+
 pub words_read : (name : CommandName) (words : List Text) → IsKnown name words → list_any has_dash words ≡ false → ReadsAs name words
-words_read command.Flat words known plain =
-    let it = flat_read words known plain in record { taken = it.taken; has = it.has; finds = λ rows e. it.is rows _ e refl }
-words_read command.Generated words known plain =
-    let it = gen_read words known plain in record { taken = it.taken; has = it.has; finds = λ rows e. it.is rows _ e refl }
-words_read (command.Run kind) words known plain =
-    let it = run_read kind words known plain in record { taken = it.taken; has = it.has; finds = λ rows e. it.is rows _ e refl }
-words_read command.Survey words known plain =
-    let it = survey_read words known plain in record { taken = it.taken; has = it.has; finds = λ rows e. it.is rows _ e refl }
-words_read command.Debug words known plain =
-    let it = survey_read words known plain in record { taken = it.taken; has = it.has; finds = λ rows e. it.is rows _ e refl }
-words_read (command.Live kind) words known plain =
-    let it = live_read kind words known plain in record { taken = it.taken; has = it.has; finds = λ rows e. it.is rows _ e refl }
-words_read (command.Snap kind) words known plain =
-    let it = snap_read kind words known plain in record { taken = it.taken; has = it.has; finds = λ rows e. it.is rows _ e refl }
-words_read command.Sweep words known plain =
-    let it = sweep_read words known plain in record { taken = it.taken; has = it.has; finds = λ rows e. it.is rows _ e refl }
-words_read command.Shrink words known plain =
-    let it = snap_read DiskKind.Block words known plain in record { taken = it.taken; has = it.has; finds = λ rows e. it.is rows _ e refl }
-words_read command.Resume words known plain =
-    let it = resume_read words known plain in record { taken = it.taken; has = it.has; finds = λ rows e. it.is rows _ e refl }
-words_read command.Show words known plain =
-    let it = show_read words known plain in record { taken = it.taken; has = it.has; finds = λ rows e. it.is rows _ e refl }
-words_read command.Measure words known plain =
-    let it = measure_read words known plain in record { taken = it.taken; has = it.has; finds = λ rows e. it.is rows _ e refl }
-words_read command.Convert words known plain =
-    let it = convert_read words known plain in record { taken = it.taken; has = it.has; finds = λ rows e. it.is rows _ e refl }
+words_read command.Flat words known plain = reads command.Flat words _ _ (flat_read words known plain) (λ rows e. e)
+words_read command.Generated words known plain = reads command.Generated words _ _ (gen_read words known plain) (λ rows e. e)
+words_read (command.Run kind) words known plain = reads (command.Run kind) words _ _ (run_read kind words known plain) (λ rows e. e)
+words_read command.Survey words known plain = reads command.Survey words _ _ (survey_read words known plain) (λ rows e. e)
+words_read command.Debug words known plain = reads command.Debug words _ _ (survey_read words known plain) (λ rows e. e)
+words_read (command.Live kind) words known plain = reads (command.Live kind) words _ _ (live_read kind words known plain) (λ rows e. e)
+words_read (command.Snap kind) words known plain = reads (command.Snap kind) words _ _ (snap_read kind words known plain) (λ rows e. e)
+words_read command.Sweep words known plain = reads command.Sweep words _ _ (sweep_read words known plain) (λ rows e. e)
+words_read command.Shrink words known plain = reads command.Shrink words _ _ (snap_read DiskKind.Block words known plain) (λ rows e. e)
+words_read command.Resume words known plain = reads command.Resume words _ _ (resume_read words known plain) (λ rows e. e)
+words_read command.Show words known plain = reads command.Show words _ _ (show_read words known plain) (λ rows e. e)
+words_read command.Measure words known plain = reads command.Measure words _ _ (measure_read words known plain) (λ rows e. e)
+words_read command.Convert words known plain = reads command.Convert words _ _ (convert_read words known plain) (λ rows e. e)

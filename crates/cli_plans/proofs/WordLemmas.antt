@@ -38,95 +38,48 @@ use Rattle.cli_plans.specs.CommandLine.{resume_judged, show_judged, survey_words
 -- ---- so many words are of no command
 
 pub not_flat : (words : List (List ℕ)) → length words ≢ 3 → flat_split words ≡ None
-not_flat [] other = refl
-not_flat (a ∷ []) other = refl
-not_flat (a ∷ b ∷ []) other = refl
 not_flat (a ∷ b ∷ c ∷ []) other = absurd (other refl)
-not_flat (a ∷ b ∷ c ∷ d ∷ rest) other = refl
+not_flat _ other = refl
 
 pub not_gen : (words : List (List ℕ)) → length words ≢ 1 → gen_split words ≡ None
-not_gen [] other = refl
 not_gen (a ∷ []) other = absurd (other refl)
-not_gen (a ∷ b ∷ rest) other = refl
+not_gen _ other = refl
 
 pub not_run : (kind : DiskKind) (words : List (List ℕ)) → length words ≢ 6 → run_split kind words ≡ None
-not_run kind [] other = refl
-not_run kind (a ∷ []) other = refl
-not_run kind (a ∷ b ∷ []) other = refl
-not_run kind (a ∷ b ∷ c ∷ []) other = refl
-not_run kind (a ∷ b ∷ c ∷ d ∷ []) other = refl
-not_run kind (a ∷ b ∷ c ∷ d ∷ e ∷ []) other = refl
 not_run kind (a ∷ b ∷ c ∷ d ∷ e ∷ f ∷ []) other = absurd (other refl)
-not_run kind (a ∷ b ∷ c ∷ d ∷ e ∷ f ∷ g ∷ rest) other = refl
+not_run kind _ other = refl
 
 pub not_measure : (words : List (List ℕ)) → length words < 6 → measure_split words ≡ None
-not_measure [] few = refl
-not_measure (a ∷ []) few = refl
-not_measure (a ∷ b ∷ []) few = refl
-not_measure (a ∷ b ∷ c ∷ []) few = refl
-not_measure (a ∷ b ∷ c ∷ d ∷ []) few = refl
-not_measure (a ∷ b ∷ c ∷ d ∷ e ∷ []) few = refl
 not_measure (a ∷ b ∷ c ∷ d ∷ e ∷ f ∷ rest) few = absurd (omega arith)
+not_measure _ few = refl
 
 pub not_convert : (words : List (List ℕ)) → length words ≢ 3 → convert_split words ≡ None
-not_convert [] other = refl
-not_convert (a ∷ []) other = refl
-not_convert (a ∷ b ∷ []) other = refl
 not_convert (a ∷ b ∷ c ∷ []) other = absurd (other refl)
-not_convert (a ∷ b ∷ c ∷ d ∷ rest) other = refl
+not_convert _ other = refl
 
 pub not_survey : (words : List (List ℕ)) → length words ≢ 5 → survey_split words ≡ None
-not_survey [] other = refl
-not_survey (a ∷ []) other = refl
-not_survey (a ∷ b ∷ []) other = refl
-not_survey (a ∷ b ∷ c ∷ []) other = refl
-not_survey (a ∷ b ∷ c ∷ d ∷ []) other = refl
 not_survey (a ∷ b ∷ c ∷ d ∷ e ∷ []) other = absurd (other refl)
-not_survey (a ∷ b ∷ c ∷ d ∷ e ∷ f ∷ rest) other = refl
+not_survey _ other = refl
 
 pub not_live : (kind : DiskKind) (words : List (List ℕ)) → length words ≢ 5 → live_split kind words ≡ None
-not_live kind [] other = refl
-not_live kind (a ∷ []) other = refl
-not_live kind (a ∷ b ∷ []) other = refl
-not_live kind (a ∷ b ∷ c ∷ []) other = refl
-not_live kind (a ∷ b ∷ c ∷ d ∷ []) other = refl
 not_live kind (a ∷ b ∷ c ∷ d ∷ e ∷ []) other = absurd (other refl)
-not_live kind (a ∷ b ∷ c ∷ d ∷ e ∷ f ∷ rest) other = refl
+not_live kind _ other = refl
 
 pub not_snap : (kind : DiskKind) (words : List (List ℕ)) → length words ≢ 6 → snap_split kind words ≡ None
-not_snap kind [] other = refl
-not_snap kind (a ∷ []) other = refl
-not_snap kind (a ∷ b ∷ []) other = refl
-not_snap kind (a ∷ b ∷ c ∷ []) other = refl
-not_snap kind (a ∷ b ∷ c ∷ d ∷ []) other = refl
-not_snap kind (a ∷ b ∷ c ∷ d ∷ e ∷ []) other = refl
 not_snap kind (a ∷ b ∷ c ∷ d ∷ e ∷ f ∷ []) other = absurd (other refl)
-not_snap kind (a ∷ b ∷ c ∷ d ∷ e ∷ f ∷ g ∷ rest) other = refl
+not_snap kind _ other = refl
 
 pub not_sweep : (words : List (List ℕ)) → length words ≢ 7 → sweep_split words ≡ None
-not_sweep [] other = refl
-not_sweep (a ∷ []) other = refl
-not_sweep (a ∷ b ∷ []) other = refl
-not_sweep (a ∷ b ∷ c ∷ []) other = refl
-not_sweep (a ∷ b ∷ c ∷ d ∷ []) other = refl
-not_sweep (a ∷ b ∷ c ∷ d ∷ e ∷ []) other = refl
-not_sweep (a ∷ b ∷ c ∷ d ∷ e ∷ f ∷ []) other = refl
 not_sweep (a ∷ b ∷ c ∷ d ∷ e ∷ f ∷ g ∷ []) other = absurd (other refl)
-not_sweep (a ∷ b ∷ c ∷ d ∷ e ∷ f ∷ g ∷ h ∷ rest) other = refl
+not_sweep _ other = refl
 
 pub not_resume : (words : List (List ℕ)) → length words ≢ 5 → resume_split words ≡ None
-not_resume [] other = refl
-not_resume (a ∷ []) other = refl
-not_resume (a ∷ b ∷ []) other = refl
-not_resume (a ∷ b ∷ c ∷ []) other = refl
-not_resume (a ∷ b ∷ c ∷ d ∷ []) other = refl
 not_resume (a ∷ b ∷ c ∷ d ∷ e ∷ []) other = absurd (other refl)
-not_resume (a ∷ b ∷ c ∷ d ∷ e ∷ f ∷ rest) other = refl
+not_resume _ other = refl
 
 pub not_show : (words : List (List ℕ)) → length words ≢ 1 → show_split words ≡ None
-not_show [] other = refl
 not_show (a ∷ []) other = absurd (other refl)
-not_show (a ∷ b ∷ rest) other = refl
+not_show _ other = refl
 
 -- ---- words that were judged good
 
@@ -312,14 +265,7 @@ command_no_fault command.Measure rest = split_no_fault making_judged (measure_sp
     making_no_read_fault w (terms_judged w.ram w.harts w.entries w.init)
     (terms_no_read_fault w.init (number_within 16 max_ram_pages w.ram) (number_within 1 4 w.harts) (entries_judged w.entries)))
 command_no_fault command.Convert rest = split_no_fault (λ w. Ok (Convert w)) (convert_split rest) (λ w. tt)
-command_no_fault (command.Live kind) rest = λ e. cc e
-command_no_fault command.Sweep rest = λ e. cc e
-command_no_fault command.Shrink rest = λ e. cc e
-command_no_fault (command.Snap kind) rest = λ e. cc e
-command_no_fault command.Resume rest = λ e. cc e
-command_no_fault command.Show rest = λ e. cc e
-command_no_fault command.Survey rest = λ e. cc e
-command_no_fault command.Debug rest = λ e. cc e
+command_no_fault _ rest = λ e. cc e
 
 pub words_no_read_fault : (words : List (List ℕ)) → NoReadFault (judgement_of_words words)
 unfolding judgement_of_words
@@ -327,18 +273,7 @@ words_no_read_fault words = named_no_fault command_after (named_words words) com
 
 live_after_no_fault : (name : CommandName) (rest : List (List ℕ)) → NoReadFault (live_after name rest)
 live_after_no_fault (command.Live kind) rest = split_no_fault live_of (live_split kind rest) (λ w. live_no_fault w (number_within 0 max_live_events w.events))
-live_after_no_fault command.Flat rest = λ e. cc e
-live_after_no_fault command.Generated rest = λ e. cc e
-live_after_no_fault (command.Run kind) rest = λ e. cc e
-live_after_no_fault command.Sweep rest = λ e. cc e
-live_after_no_fault command.Shrink rest = λ e. cc e
-live_after_no_fault (command.Snap kind) rest = λ e. cc e
-live_after_no_fault command.Resume rest = λ e. cc e
-live_after_no_fault command.Show rest = λ e. cc e
-live_after_no_fault command.Survey rest = λ e. cc e
-live_after_no_fault command.Debug rest = λ e. cc e
-live_after_no_fault command.Measure rest = λ e. cc e
-live_after_no_fault command.Convert rest = λ e. cc e
+live_after_no_fault _ rest = λ e. cc e
 
 pub live_no_read_fault : (words : List (List ℕ)) → NoReadFault (live_judged words)
 unfolding live_judged
@@ -346,18 +281,7 @@ live_no_read_fault words = named_no_fault live_after (named_words words) live_af
 
 snap_after_no_fault : (name : CommandName) (rest : List (List ℕ)) → NoReadFault (snap_after name rest)
 snap_after_no_fault (command.Snap kind) rest = split_no_fault snap_of (snap_split kind rest) (λ w. snap_no_fault w (source_of w.script) (number_within 0 max_events w.events))
-snap_after_no_fault command.Flat rest = λ e. cc e
-snap_after_no_fault command.Generated rest = λ e. cc e
-snap_after_no_fault (command.Run kind) rest = λ e. cc e
-snap_after_no_fault (command.Live kind) rest = λ e. cc e
-snap_after_no_fault command.Sweep rest = λ e. cc e
-snap_after_no_fault command.Shrink rest = λ e. cc e
-snap_after_no_fault command.Resume rest = λ e. cc e
-snap_after_no_fault command.Show rest = λ e. cc e
-snap_after_no_fault command.Survey rest = λ e. cc e
-snap_after_no_fault command.Debug rest = λ e. cc e
-snap_after_no_fault command.Measure rest = λ e. cc e
-snap_after_no_fault command.Convert rest = λ e. cc e
+snap_after_no_fault _ rest = λ e. cc e
 
 pub snap_no_read_fault : (words : List (List ℕ)) → NoReadFault (snap_judged words)
 unfolding snap_judged
@@ -365,18 +289,7 @@ snap_no_read_fault words = named_no_fault snap_after (named_words words) snap_af
 
 sweep_after_no_fault : (name : CommandName) (rest : List (List ℕ)) → NoReadFault (sweep_after name rest)
 sweep_after_no_fault command.Sweep rest = split_no_fault sweep_of (sweep_split rest) (λ w. sweep_no_fault w (drawn_order_of w.schedule) (number_within 0 (2 ^ 64 - 1) w.first))
-sweep_after_no_fault command.Flat rest = λ e. cc e
-sweep_after_no_fault command.Generated rest = λ e. cc e
-sweep_after_no_fault (command.Run kind) rest = λ e. cc e
-sweep_after_no_fault (command.Live kind) rest = λ e. cc e
-sweep_after_no_fault (command.Snap kind) rest = λ e. cc e
-sweep_after_no_fault command.Shrink rest = λ e. cc e
-sweep_after_no_fault command.Resume rest = λ e. cc e
-sweep_after_no_fault command.Show rest = λ e. cc e
-sweep_after_no_fault command.Survey rest = λ e. cc e
-sweep_after_no_fault command.Debug rest = λ e. cc e
-sweep_after_no_fault command.Measure rest = λ e. cc e
-sweep_after_no_fault command.Convert rest = λ e. cc e
+sweep_after_no_fault _ rest = λ e. cc e
 
 pub sweep_no_read_fault : (words : List (List ℕ)) → NoReadFault (sweep_judged words)
 unfolding sweep_judged
@@ -384,18 +297,7 @@ sweep_no_read_fault words = named_no_fault sweep_after (named_words words) sweep
 
 shrink_after_no_fault : (name : CommandName) (rest : List (List ℕ)) → NoReadFault (shrink_after name rest)
 shrink_after_no_fault command.Shrink rest = split_no_fault snap_of (snap_split DiskKind.Block rest) (λ w. snap_no_fault w (source_of w.script) (number_within 0 max_events w.events))
-shrink_after_no_fault command.Flat rest = λ e. cc e
-shrink_after_no_fault command.Generated rest = λ e. cc e
-shrink_after_no_fault (command.Run kind) rest = λ e. cc e
-shrink_after_no_fault (command.Live kind) rest = λ e. cc e
-shrink_after_no_fault (command.Snap kind) rest = λ e. cc e
-shrink_after_no_fault command.Sweep rest = λ e. cc e
-shrink_after_no_fault command.Survey rest = λ e. cc e
-shrink_after_no_fault command.Debug rest = λ e. cc e
-shrink_after_no_fault command.Resume rest = λ e. cc e
-shrink_after_no_fault command.Show rest = λ e. cc e
-shrink_after_no_fault command.Measure rest = λ e. cc e
-shrink_after_no_fault command.Convert rest = λ e. cc e
+shrink_after_no_fault _ rest = λ e. cc e
 
 pub shrink_no_read_fault : (words : List (List ℕ)) → NoReadFault (shrink_judged words)
 unfolding shrink_judged
@@ -403,18 +305,7 @@ shrink_no_read_fault words = named_no_fault shrink_after (named_words words) shr
 
 debug_after_no_fault : (name : CommandName) (rest : List (List ℕ)) → NoReadFault (debug_after name rest)
 debug_after_no_fault command.Debug rest = split_no_fault survey_of (survey_split rest) (λ w. survey_no_fault w.image w.policy w.disk (source_of w.script) (number_within 0 max_events w.events))
-debug_after_no_fault command.Flat rest = λ e. cc e
-debug_after_no_fault command.Generated rest = λ e. cc e
-debug_after_no_fault (command.Run kind) rest = λ e. cc e
-debug_after_no_fault (command.Live kind) rest = λ e. cc e
-debug_after_no_fault (command.Snap kind) rest = λ e. cc e
-debug_after_no_fault command.Sweep rest = λ e. cc e
-debug_after_no_fault command.Shrink rest = λ e. cc e
-debug_after_no_fault command.Survey rest = λ e. cc e
-debug_after_no_fault command.Resume rest = λ e. cc e
-debug_after_no_fault command.Show rest = λ e. cc e
-debug_after_no_fault command.Measure rest = λ e. cc e
-debug_after_no_fault command.Convert rest = λ e. cc e
+debug_after_no_fault _ rest = λ e. cc e
 
 pub debug_no_read_fault : (words : List (List ℕ)) → NoReadFault (debug_judged words)
 unfolding debug_judged
@@ -422,18 +313,7 @@ debug_no_read_fault words = named_no_fault debug_after (named_words words) debug
 
 resume_after_no_fault : (name : CommandName) (rest : List (List ℕ)) → NoReadFault (resume_after name rest)
 resume_after_no_fault command.Resume rest = split_no_fault resume_of (resume_split rest) (λ w. resume_no_fault w.saved w.policy w.save (source_of w.script) (number_within 0 max_events w.events))
-resume_after_no_fault command.Flat rest = λ e. cc e
-resume_after_no_fault command.Generated rest = λ e. cc e
-resume_after_no_fault (command.Run kind) rest = λ e. cc e
-resume_after_no_fault (command.Live kind) rest = λ e. cc e
-resume_after_no_fault command.Sweep rest = λ e. cc e
-resume_after_no_fault command.Shrink rest = λ e. cc e
-resume_after_no_fault (command.Snap kind) rest = λ e. cc e
-resume_after_no_fault command.Show rest = λ e. cc e
-resume_after_no_fault command.Survey rest = λ e. cc e
-resume_after_no_fault command.Debug rest = λ e. cc e
-resume_after_no_fault command.Measure rest = λ e. cc e
-resume_after_no_fault command.Convert rest = λ e. cc e
+resume_after_no_fault _ rest = λ e. cc e
 
 pub resume_no_read_fault : (words : List (List ℕ)) → NoReadFault (resume_judged words)
 unfolding resume_judged

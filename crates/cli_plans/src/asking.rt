@@ -1,6 +1,8 @@
-// What words ask for: judged without memory, and then read by their names.
+// What words ask for: those that have a range are judged and read without memory, and then the others are read by their names.
 ghost use Rattle.std.specs.Prelude.{◌≡◌, ◌≤◌, IfOk, Ok, false, map, string_bytes};
 ghost use Rattle.std.specs.List.{list_any};
+ghost use Rattle.std.specs.Option.{option_copied};
+ghost use Rattle.clap.specs.Words.{found_of, rows_of};
 ghost use Rattle.sv_types.specs.Limits.{max_events};
 ghost use Rattle.cli_plans.specs.Commands.{has_dash, flat_split, gen_split, run_split, live_split, snap_split, sweep_split, resume_split};
 ghost use Rattle.cli_plans.specs.Commands.{show_split, measure_split, convert_split, survey_split};
@@ -10,22 +12,21 @@ ghost use Rattle.cli_plans.specs.CommandLine.{resume_after, show_after, judgemen
 ghost use Rattle.cli_plans.specs.CommandLine.{shrink_judged, resume_judged, show_judged, survey_of, survey_after, survey_judged};
 ghost use Rattle.cli_plans.specs.CommandLine.{debug_after, debug_judged};
 ghost use Rattle.cli_plans.specs.Words.{IsAsked, IsInRange, IsDrawnRun, IsBlockRun, AreNumbers, command_of, live_value, snap_value};
-ghost use Rattle.cli_plans.specs.Words.{sweep_value, resume_value, IsSurveyRun, run_value};
+ghost use Rattle.cli_plans.specs.Words.{sweep_value, resume_value, IsSurveyRun, run_value, named_run, run_names, source_value};
+ghost use Rattle.cli_plans.specs.Parsing.{HasWords};
 ghost use Rattle.cli_plans.specs.declared.asking.Unread.TheVariants.{Refused, Memory};
 
-use crate::command_words::{
-    CommandName, DiskKind, named, split_convert, split_flat, split_generated, split_live,
-    split_measure, split_resume, split_run, split_show, split_snap, split_survey, split_sweep,
-};
+use crate::command_words::{CommandName, ConvertWords, DiskKind, find, modules, named, word};
 use crate::judgement::{
     judge_convert, judge_flat, judge_generated, judge_live, judge_measure, judge_resume, judge_run,
     judge_show, judge_snap, judge_survey, judge_sweep,
 };
 use crate::refusal::Refusal;
 use crate::words::{
-    Command, Live, Resume, Run, Snap, Sweep, read_flat, read_generated, read_live, read_measure,
-    read_resume, read_run, read_snap, read_survey, read_sweep,
+    Command, Draws, Flat, FlatTerms, Live, MakePolicy, Order, Resume, Run, Snap, Source, Sweep,
+    unless_none,
 };
+use clap::ArgMatches;
 use std::alloc::{AllocError, Global};
 
 /// Why words aren't read.
@@ -75,7 +76,7 @@ fn ask_after<'a>(
 {
     match command {
         CommandName::Flat => ask_flat(alloc, rest),
-        CommandName::Generated => ask_generated(alloc, rest),
+        CommandName::Generated => ask_generated(rest),
         CommandName::Run(kind) => ask_run(alloc, kind, rest),
         CommandName::Measure => ask_measure(alloc, rest),
         CommandName::Convert => ask_convert(alloc, rest),
@@ -96,20 +97,22 @@ fn ask_flat<'a>(alloc: Global, rest: &'a [String]) -> Result<Command<'a>, Unread
     ensures asked { IsAsked command_of (split_judged flat_judged (flat_split (map string_bytes rest.now))) result }
     ensures range { IfOk result IsInRange }
 {
-    judge_flat(rest)?;
-    let words = split_flat(alloc, rest)?;
-    Ok(read_flat(&words)?)
+    let FlatTerms { wanted, events } = judge_flat(rest)?;
+    let names = find(alloc, CommandName::Flat, rest)?;
+    Ok(Command::Flat(Flat {
+        file: word(&names, "FILE"),
+        wanted,
+        events,
+    }))
 }
 
-#[tactic(auto, using(crate::proofs::WordLemmas::split_is_some))]
-fn ask_generated<'a>(alloc: Global, rest: &'a [String]) -> Result<Command<'a>, Unread>
-    requires plain { list_any has_dash (map string_bytes rest.now) ≡ false }
+// No word of `gen` is a name.
+fn ask_generated<'a>(rest: &'a [String]) -> Result<Command<'a>, Unread>
     ensures asked { IsAsked command_of (split_judged gen_judged (gen_split (map string_bytes rest.now))) result }
     ensures range { IfOk result IsInRange }
 {
-    judge_generated(rest)?;
-    let calls = split_generated(alloc, rest)?;
-    Ok(read_generated(calls)?)
+    let calls = judge_generated(rest)?;
+    Ok(Command::Generated(calls))
 }
 
 #[tactic(auto, using(crate::proofs::WordLemmas::split_is_some))]
@@ -118,20 +121,27 @@ fn ask_run<'a>(alloc: Global, kind: DiskKind, rest: &'a [String]) -> Result<Comm
     ensures asked { IsAsked command_of (split_judged run_judged (run_split kind (map string_bytes rest.now))) result }
     ensures range { IfOk result IsInRange }
 {
-    judge_run(kind, rest)?;
-    let words = split_run(alloc, kind, rest)?;
-    Ok(read_run(&words)?)
+    let order = judge_run(kind, rest)?;
+    let names = find(alloc, CommandName::Run(kind), rest)?;
+    let save = unless_none(word(&names, "SAVE"));
+    Ok(Command::Run(run_of(kind, &names, order, save)))
 }
 
-#[tactic(auto, using(crate::proofs::WordLemmas::split_is_some, crate::proofs::WordLemmas::has_module_names))]
+#[tactic(auto, using(crate::proofs::WordLemmas::split_is_some))]
 fn ask_measure<'a>(alloc: Global, rest: &'a [String]) -> Result<Command<'a>, Unread>
     requires plain { list_any has_dash (map string_bytes rest.now) ≡ false }
     ensures asked { IsAsked command_of (split_judged making_judged (measure_split (map string_bytes rest.now))) result }
     ensures range { IfOk result IsInRange }
 {
-    judge_measure(rest)?;
-    let words = split_measure(alloc, rest)?;
-    Ok(read_measure(words)?)
+    let terms = judge_measure(rest)?;
+    let names = find(alloc, CommandName::Measure, rest)?;
+    let modules = modules(alloc, &names)?;
+    Ok(Command::MakePolicy(MakePolicy {
+        out: word(&names, "OUT"),
+        kernel: word(&names, "KERNEL"),
+        terms,
+        modules,
+    }))
 }
 
 #[tactic(auto, using(crate::proofs::WordLemmas::split_is_some))]
@@ -141,8 +151,36 @@ fn ask_convert<'a>(alloc: Global, rest: &'a [String]) -> Result<Command<'a>, Unr
     ensures range { IfOk result IsInRange }
 {
     judge_convert(rest)?;
-    let words = split_convert(alloc, rest)?;
-    Ok(Command::Convert(words))
+    let names = find(alloc, CommandName::Convert, rest)?;
+    Ok(Command::Convert(ConvertWords {
+        kernel: word(&names, "KERNEL"),
+        given: word(&names, "IN"),
+        out: word(&names, "OUT"),
+    }))
+}
+
+// A run of the image, the policy and the disk that have these names.
+fn run_of<'a>(
+    kind: DiskKind,
+    names: &ArgMatches<'a>,
+    order: Order<'a>,
+    save: Option<&'a str>,
+) -> Run<'a>
+    requires { HasWords run_names (rows_of (found_of names.now)) }
+    ensures value { run_value result ≡ named_run kind (rows_of (found_of names.now)) (source_value order.entry.script) order.entry.events (option_copied save.entry) }
+    ensures kind { result.kind ≡ kind }
+    ensures script { result.script ≡ order.entry.script }
+    ensures events { result.events ≡ order.entry.events }
+{
+    Run {
+        kind,
+        image: word(names, "IMAGE"),
+        policy: word(names, "POLICY"),
+        disk: unless_none(word(names, "DISK")),
+        script: order.script,
+        events: order.events,
+        save,
+    }
 }
 
 /// What words ask `survey` for.
@@ -179,9 +217,9 @@ fn ask_unsaved<'a>(alloc: Global, rest: &'a [String]) -> Result<Run<'a>, Unread>
     ensures asked { IsAsked run_value (split_judged survey_of (survey_split (map string_bytes rest.now))) result }
     ensures run { IfOk result IsSurveyRun }
 {
-    judge_survey(rest)?;
-    let words = split_survey(alloc, rest)?;
-    Ok(read_survey(&words)?)
+    let order = judge_survey(rest)?;
+    let names = find(alloc, CommandName::Survey, rest)?;
+    Ok(run_of(DiskKind::Block, &names, order, None))
 }
 
 /// What words ask `debug` for: those of `survey`.
@@ -236,9 +274,16 @@ fn live_after<'a>(
     let CommandName::Live(kind) = command else {
         return Err(Unread::Refused(Refusal::NoCommand));
     };
-    judge_live(kind, rest)?;
-    let words = split_live(alloc, kind, rest)?;
-    Ok(read_live(&words)?)
+    let events = judge_live(kind, rest)?;
+    let names = find(alloc, CommandName::Live(kind), rest)?;
+    let order = Order {
+        script: Source::Auto(0),
+        events,
+    };
+    Ok(Live {
+        run: run_of(kind, &names, order, None),
+        out: word(&names, "OUT"),
+    })
 }
 
 /// What words ask `snap` or `vsnap` for.
@@ -276,9 +321,12 @@ fn ask_out<'a>(alloc: Global, kind: DiskKind, rest: &'a [String]) -> Result<Snap
     ensures kind { IfOk result (λ snap. snap.run.kind ≡ kind) }
     ensures events { IfOk result (λ snap. snap.run.events ≤ max_events) }
 {
-    judge_snap(kind, rest)?;
-    let words = split_snap(alloc, kind, rest)?;
-    Ok(read_snap(&words)?)
+    let order = judge_snap(kind, rest)?;
+    let names = find(alloc, CommandName::Snap(kind), rest)?;
+    Ok(Snap {
+        run: run_of(kind, &names, order, None),
+        out: word(&names, "OUT"),
+    })
 }
 
 /// What words ask `shrink` for: those of `snap`.
@@ -333,9 +381,22 @@ fn sweep_after<'a>(
     let CommandName::Sweep = command else {
         return Err(Unread::Refused(Refusal::NoCommand));
     };
-    judge_sweep(rest)?;
-    let words = split_sweep(alloc, rest)?;
-    Ok(read_sweep(&words)?)
+    let Draws {
+        order,
+        first,
+        count,
+        events,
+    } = judge_sweep(rest)?;
+    let names = find(alloc, CommandName::Sweep, rest)?;
+    Ok(Sweep {
+        image: word(&names, "IMAGE"),
+        policy: word(&names, "POLICY"),
+        disk: unless_none(word(&names, "DISK")),
+        order,
+        first,
+        count,
+        events,
+    })
 }
 
 /// What words ask `resume` for.
@@ -363,9 +424,15 @@ fn resume_after<'a>(
     let CommandName::Resume = command else {
         return Err(Unread::Refused(Refusal::NoCommand));
     };
-    judge_resume(rest)?;
-    let words = split_resume(alloc, rest)?;
-    Ok(read_resume(&words)?)
+    let Order { script, events } = judge_resume(rest)?;
+    let names = find(alloc, CommandName::Resume, rest)?;
+    Ok(Resume {
+        saved: word(&names, "SNAPSHOT"),
+        policy: word(&names, "POLICY"),
+        script,
+        events,
+        save: unless_none(word(&names, "SAVE")),
+    })
 }
 
 /// The snapshot that words ask `show` for.
@@ -392,5 +459,6 @@ fn show_after<'a>(
         return Err(Unread::Refused(Refusal::NoCommand));
     };
     judge_show(rest)?;
-    Ok(split_show(alloc, rest)?)
+    let names = find(alloc, CommandName::Show, rest)?;
+    Ok(word(&names, "SNAPSHOT"))
 }

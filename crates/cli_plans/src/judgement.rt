@@ -1,234 +1,231 @@
-// The judgement of the words after a command's name by their places, from left to right, which takes no memory.
-ghost use Rattle.std.specs.Prelude.{Ok, map, string_bytes};
+// The judgement of the words after a command's name by their places, from left to right, which takes no memory: what the words
+// that have a range say, or the first that is out of it.
+ghost use Rattle.std.specs.Prelude.{◌≡◌, ◌≤◌, ◌+◌, ◌^◌, IfOk, IsTrue, Ok, map, string_bytes};
+ghost use Rattle.sv_types.specs.Limits.{max_events};
+ghost use Rattle.guest_gen.specs.GuestCode.{max_calls};
+ghost use Rattle.policy_making.specs.Ranges.{terms_within};
 ghost use Rattle.cli_plans.specs.Commands.{flat_split, gen_split, run_split, survey_split, live_split, snap_split, sweep_split};
 ghost use Rattle.cli_plans.specs.Commands.{resume_split, show_split, measure_split, convert_split};
-ghost use Rattle.cli_plans.specs.CommandLine.{Convert, split_judged, flat_judged, gen_judged, run_judged, survey_of, live_of, snap_of};
-ghost use Rattle.cli_plans.specs.CommandLine.{sweep_of, resume_of, making_judged};
-ghost use Rattle.cli_plans.specs.Words.{IsJudged};
+ghost use Rattle.cli_plans.specs.CommandLine.{Convert, Generated, flat_judged, gen_judged, run_judged, survey_of, live_of, snap_of};
+ghost use Rattle.cli_plans.specs.CommandLine.{sweep_of, resume_of, making_judged, max_live_events};
+ghost use Rattle.cli_plans.specs.Words.{AreJudged, flat_with, run_with, survey_with, live_with, snap_with, sweep_by, resume_with};
+ghost use Rattle.cli_plans.specs.Words.{making_with, terms_value};
 
-use crate::command_words::{
-    CommandName, DiskKind, FlatWords, LiveWords, ResumeWords, RunWords, SnapWords, SurveyWords,
-    SweepWords, named,
-};
+use crate::command_words::{CommandName, DiskKind, named};
 use crate::refusal::{Refusal, Word};
 use crate::words::{
-    read_flat, read_generated, read_live, read_resume, read_run, read_snap, read_survey,
-    read_sweep, read_terms,
+    Draws, FlatTerms, Order, Terms, events_of, measure_of, most_runs, number_of, schedule_of,
+    script_of, terms_of,
 };
+use guest_gen::MAX_CALLS;
+use live_keys::MAX_KEYS;
 use policy_making::are_module_names;
+use sv_types::MAX_EVENTS;
+
+/// The most events of a live run, so that with every key they are no more than a run may have.
+const MAX_LIVE_EVENTS: u64 = MAX_EVENTS - MAX_KEYS;
 
 /// Why the words of any command are refused, if they are.
 pub fn judge(words: &[String]) -> Result<(), Refusal> {
     let Some(naming) = named(words) else {
         return Err(Refusal::NoCommand);
     };
+    let rest = naming.rest;
     match naming.command {
-        CommandName::Flat => judge_flat(naming.rest),
-        CommandName::Generated => judge_generated(naming.rest),
-        CommandName::Run(kind) => judge_run(kind, naming.rest),
-        CommandName::Survey | CommandName::Debug => judge_survey(naming.rest),
-        CommandName::Live(kind) => judge_live(kind, naming.rest),
-        CommandName::Snap(kind) => judge_snap(kind, naming.rest),
-        CommandName::Shrink => judge_snap(DiskKind::Block, naming.rest),
-        CommandName::Sweep => judge_sweep(naming.rest),
-        CommandName::Resume => judge_resume(naming.rest),
-        CommandName::Show => judge_show(naming.rest),
-        CommandName::Measure => judge_measure(naming.rest),
-        CommandName::Convert => judge_convert(naming.rest),
-    }
-}
-
-#[tactic(auto, using(crate::proofs::WordLemmas::not_flat))]
-pub fn judge_flat(rest: &[String]) -> Result<(), Refusal>
-    ensures { IsJudged (split_judged flat_judged (flat_split (map string_bytes rest.now))) result }
-{
-    match rest {
-        [file, wanted, events] => {
-            read_flat(&FlatWords {
-                file: file.as_str(),
-                wanted: wanted.as_str(),
-                events: events.as_str(),
-            })?;
-            Ok(())
+        CommandName::Flat => {
+            judge_flat(rest)?;
         }
-        _ => Err(Refusal::NoCommand),
-    }
-}
-
-#[tactic(auto, using(crate::proofs::WordLemmas::not_gen))]
-pub fn judge_generated(rest: &[String]) -> Result<(), Refusal>
-    ensures { IsJudged (split_judged gen_judged (gen_split (map string_bytes rest.now))) result }
-{
-    match rest {
-        [calls] => {
-            read_generated(calls.as_str())?;
-            Ok(())
+        CommandName::Generated => {
+            judge_generated(rest)?;
         }
-        _ => Err(Refusal::NoCommand),
-    }
-}
-
-#[tactic(auto, using(crate::proofs::WordLemmas::not_run))]
-pub fn judge_run(kind: DiskKind, rest: &[String]) -> Result<(), Refusal>
-    ensures { IsJudged (split_judged run_judged (run_split kind (map string_bytes rest.now))) result }
-{
-    match rest {
-        [image, policy, disk, script, events, save] => {
-            read_run(&RunWords {
-                kind,
-                image: image.as_str(),
-                policy: policy.as_str(),
-                disk: disk.as_str(),
-                script: script.as_str(),
-                events: events.as_str(),
-                save: save.as_str(),
-            })?;
-            Ok(())
+        CommandName::Run(kind) => {
+            judge_run(kind, rest)?;
         }
-        _ => Err(Refusal::NoCommand),
-    }
-}
-
-#[tactic(auto, using(crate::proofs::WordLemmas::not_measure), unfolding(crate::specs::CommandLine::making_words))]
-pub fn judge_measure(rest: &[String]) -> Result<(), Refusal>
-    ensures { IsJudged (split_judged making_judged (measure_split (map string_bytes rest.now))) result }
-{
-    match rest {
-        [_, _, ram, harts, entries, init, modules @ ..] => {
-            read_terms(
-                ram.as_str(),
-                harts.as_str(),
-                entries.as_str(),
-                init.as_str(),
-            )?;
-            if are_module_names(modules) {
-                Ok(())
-            } else {
-                Err(Refusal::OutOfRange {
-                    word: Word::Modules,
-                })
-            }
+        CommandName::Survey | CommandName::Debug => {
+            judge_survey(rest)?;
         }
-        _ => Err(Refusal::NoCommand),
-    }
-}
-
-#[tactic(auto, using(crate::proofs::WordLemmas::not_convert))]
-pub fn judge_convert(rest: &[String]) -> Result<(), Refusal>
-    ensures { IsJudged (split_judged (λ w. Ok (Convert w)) (convert_split (map string_bytes rest.now))) result }
-{
-    match rest {
-        [_, _, _] => Ok(()),
-        _ => Err(Refusal::NoCommand),
-    }
-}
-
-#[tactic(auto, using(crate::proofs::WordLemmas::not_survey))]
-pub fn judge_survey(rest: &[String]) -> Result<(), Refusal>
-    ensures { IsJudged (split_judged survey_of (survey_split (map string_bytes rest.now))) result }
-{
-    match rest {
-        [image, policy, disk, script, events] => {
-            read_survey(&SurveyWords {
-                image: image.as_str(),
-                policy: policy.as_str(),
-                disk: disk.as_str(),
-                script: script.as_str(),
-                events: events.as_str(),
-            })?;
-            Ok(())
+        CommandName::Live(kind) => {
+            judge_live(kind, rest)?;
         }
-        _ => Err(Refusal::NoCommand),
-    }
-}
-
-#[tactic(auto, using(crate::proofs::WordLemmas::not_live))]
-pub fn judge_live(kind: DiskKind, rest: &[String]) -> Result<(), Refusal>
-    ensures { IsJudged (split_judged live_of (live_split kind (map string_bytes rest.now))) result }
-{
-    match rest {
-        [image, policy, disk, events, out] => {
-            read_live(&LiveWords {
-                kind,
-                image: image.as_str(),
-                policy: policy.as_str(),
-                disk: disk.as_str(),
-                events: events.as_str(),
-                out: out.as_str(),
-            })?;
-            Ok(())
+        CommandName::Snap(kind) => {
+            judge_snap(kind, rest)?;
         }
-        _ => Err(Refusal::NoCommand),
-    }
-}
-
-#[tactic(auto, using(crate::proofs::WordLemmas::not_snap))]
-pub fn judge_snap(kind: DiskKind, rest: &[String]) -> Result<(), Refusal>
-    ensures { IsJudged (split_judged snap_of (snap_split kind (map string_bytes rest.now))) result }
-{
-    match rest {
-        [image, policy, disk, script, events, out] => {
-            read_snap(&SnapWords {
-                kind,
-                image: image.as_str(),
-                policy: policy.as_str(),
-                disk: disk.as_str(),
-                script: script.as_str(),
-                events: events.as_str(),
-                out: out.as_str(),
-            })?;
-            Ok(())
+        CommandName::Shrink => {
+            judge_snap(DiskKind::Block, rest)?;
         }
-        _ => Err(Refusal::NoCommand),
-    }
-}
-
-#[tactic(auto, using(crate::proofs::WordLemmas::not_sweep))]
-pub fn judge_sweep(rest: &[String]) -> Result<(), Refusal>
-    ensures { IsJudged (split_judged sweep_of (sweep_split (map string_bytes rest.now))) result }
-{
-    match rest {
-        [image, policy, disk, schedule, first, count, events] => {
-            read_sweep(&SweepWords {
-                image: image.as_str(),
-                policy: policy.as_str(),
-                disk: disk.as_str(),
-                schedule: schedule.as_str(),
-                first: first.as_str(),
-                count: count.as_str(),
-                events: events.as_str(),
-            })?;
-            Ok(())
+        CommandName::Sweep => {
+            judge_sweep(rest)?;
         }
-        _ => Err(Refusal::NoCommand),
-    }
-}
-
-#[tactic(auto, using(crate::proofs::WordLemmas::not_resume))]
-pub fn judge_resume(rest: &[String]) -> Result<(), Refusal>
-    ensures { IsJudged (split_judged resume_of (resume_split (map string_bytes rest.now))) result }
-{
-    match rest {
-        [saved, policy, script, events, save] => {
-            read_resume(&ResumeWords {
-                saved: saved.as_str(),
-                policy: policy.as_str(),
-                script: script.as_str(),
-                events: events.as_str(),
-                save: save.as_str(),
-            })?;
-            Ok(())
+        CommandName::Resume => {
+            judge_resume(rest)?;
         }
-        _ => Err(Refusal::NoCommand),
+        CommandName::Show => judge_show(rest)?,
+        CommandName::Measure => {
+            judge_measure(rest)?;
+        }
+        CommandName::Convert => judge_convert(rest)?,
     }
+    Ok(())
 }
 
+/// `flat FILE MEASURE EVENTS`
+#[tactic(auto, using(crate::proofs::WordLemmas::not_flat), unfolding(crate::specs::CommandLine::flat_words))]
+pub fn judge_flat(rest: &[String]) -> Result<FlatTerms, Refusal>
+    ensures judged { AreJudged flat_with flat_judged (flat_split (map string_bytes rest.now)) result }
+    ensures events { IfOk result (λ flat. flat.events ≤ max_events) }
+{
+    let [_, wanted, events] = rest else {
+        return Err(Refusal::NoCommand);
+    };
+    let wanted = measure_of(wanted.as_str())?;
+    let events = events_of(events.as_str())?;
+    Ok(FlatTerms { wanted, events })
+}
+
+/// `gen N`
+#[tactic(auto, using(crate::proofs::WordLemmas::not_gen), unfolding(crate::specs::CommandLine::gen_words))]
+pub fn judge_generated(rest: &[String]) -> Result<u64, Refusal>
+    ensures judged { AreJudged (λ _ calls. Generated calls) gen_judged (gen_split (map string_bytes rest.now)) result }
+    ensures calls { IfOk result (λ calls. (1 ≤ calls) × (calls ≤ max_calls)) }
+{
+    let [calls] = rest else {
+        return Err(Refusal::NoCommand);
+    };
+    number_of(Word::Calls, calls.as_str(), 1, MAX_CALLS)
+}
+
+/// `run IMAGE POLICY DISK SCRIPT EVENTS SAVE`, or `vrun` with the same words.
+#[tactic(auto, using(crate::proofs::WordLemmas::not_run), unfolding(crate::specs::CommandLine::run_words))]
+pub fn judge_run(kind: DiskKind, rest: &[String]) -> Result<Order<'_>, Refusal>
+    ensures judged { AreJudged run_with run_judged (run_split kind (map string_bytes rest.now)) result }
+    ensures events { IfOk result (λ order. order.events ≤ max_events) }
+{
+    let [_, _, _, script, events, _] = rest else {
+        return Err(Refusal::NoCommand);
+    };
+    let script = script_of(script.as_str())?;
+    let events = events_of(events.as_str())?;
+    Ok(Order { script, events })
+}
+
+/// `survey IMAGE POLICY DISK SCRIPT EVENTS`, or `debug` with the same words.
+#[tactic(auto, using(crate::proofs::WordLemmas::not_survey), unfolding(crate::specs::CommandLine::survey_words))]
+pub fn judge_survey(rest: &[String]) -> Result<Order<'_>, Refusal>
+    ensures judged { AreJudged survey_with survey_of (survey_split (map string_bytes rest.now)) result }
+    ensures events { IfOk result (λ order. order.events ≤ max_events) }
+{
+    let [_, _, _, script, events] = rest else {
+        return Err(Refusal::NoCommand);
+    };
+    let script = script_of(script.as_str())?;
+    let events = events_of(events.as_str())?;
+    Ok(Order { script, events })
+}
+
+/// `live IMAGE POLICY DISK EVENTS OUT`, or `vlive` with the same words.
+#[tactic(auto, using(crate::proofs::WordLemmas::not_live), unfolding(crate::specs::CommandLine::live_words))]
+pub fn judge_live(kind: DiskKind, rest: &[String]) -> Result<u64, Refusal>
+    ensures judged { AreJudged live_with live_of (live_split kind (map string_bytes rest.now)) result }
+    ensures events { IfOk result (λ events. events ≤ max_live_events) }
+{
+    let [_, _, _, events, _] = rest else {
+        return Err(Refusal::NoCommand);
+    };
+    number_of(Word::Events, events.as_str(), 0, MAX_LIVE_EVENTS)
+}
+
+/// `snap IMAGE POLICY DISK SCRIPT EVENTS OUT`, or `vsnap` or `shrink` with the same words.
+#[tactic(auto, using(crate::proofs::WordLemmas::not_snap), unfolding(crate::specs::CommandLine::snap_words))]
+pub fn judge_snap(kind: DiskKind, rest: &[String]) -> Result<Order<'_>, Refusal>
+    ensures judged { AreJudged snap_with snap_of (snap_split kind (map string_bytes rest.now)) result }
+    ensures events { IfOk result (λ order. order.events ≤ max_events) }
+{
+    let [_, _, _, script, events, _] = rest else {
+        return Err(Refusal::NoCommand);
+    };
+    let script = script_of(script.as_str())?;
+    let events = events_of(events.as_str())?;
+    Ok(Order { script, events })
+}
+
+/// `sweep IMAGE POLICY DISK SCHEDULE FIRST COUNT EVENTS`
+#[tactic(auto, using(crate::proofs::WordLemmas::not_sweep), unfolding(crate::specs::CommandLine::sweep_words, crate::specs::CommandLine::sweep_with))]
+pub fn judge_sweep(rest: &[String]) -> Result<Draws, Refusal>
+    ensures judged { AreJudged sweep_by sweep_of (sweep_split (map string_bytes rest.now)) result }
+    ensures numbers { IfOk result (λ draws. draws.first + draws.count ≤ 2 ^ 64) }
+    ensures events { IfOk result (λ draws. draws.events ≤ max_events) }
+{
+    let [_, _, _, order, first, count, events] = rest else {
+        return Err(Refusal::NoCommand);
+    };
+    let order = schedule_of(order.as_str())?;
+    let first = number_of(Word::First, first.as_str(), 0, u64::MAX)?;
+    let count = number_of(Word::Count, count.as_str(), 1, most_runs(first))?;
+    let events = events_of(events.as_str())?;
+    Ok(Draws {
+        order,
+        first,
+        count,
+        events,
+    })
+}
+
+/// `resume SNAPSHOT POLICY SCRIPT EVENTS SAVE`
+#[tactic(auto, using(crate::proofs::WordLemmas::not_resume), unfolding(crate::specs::CommandLine::resume_words))]
+pub fn judge_resume(rest: &[String]) -> Result<Order<'_>, Refusal>
+    ensures judged { AreJudged resume_with resume_of (resume_split (map string_bytes rest.now)) result }
+    ensures events { IfOk result (λ order. order.events ≤ max_events) }
+{
+    let [_, _, script, events, _] = rest else {
+        return Err(Refusal::NoCommand);
+    };
+    let script = script_of(script.as_str())?;
+    let events = events_of(events.as_str())?;
+    Ok(Order { script, events })
+}
+
+/// `show SNAPSHOT`
 #[tactic(auto, using(crate::proofs::WordLemmas::not_show))]
 pub fn judge_show(rest: &[String]) -> Result<(), Refusal>
-    ensures { IsJudged (split_judged Ok (show_split (map string_bytes rest.now))) result }
+    ensures { AreJudged (λ name _. name) Ok (show_split (map string_bytes rest.now)) result }
 {
     match rest {
         [_] => Ok(()),
+        _ => Err(Refusal::NoCommand),
+    }
+}
+
+/// `measure OUT KERNEL RAM HARTS ENTRIES INIT MODULES..`
+#[tactic(auto, using(crate::proofs::WordLemmas::not_measure), unfolding(crate::specs::CommandLine::making_words))]
+pub fn judge_measure(rest: &[String]) -> Result<Terms<'_>, Refusal>
+    ensures judged { AreJudged making_with making_judged (measure_split (map string_bytes rest.now)) result }
+    ensures range { IfOk result (λ terms. IsTrue (terms_within (terms_value terms))) }
+{
+    let [_, _, ram, harts, entries, init, modules @ ..] = rest else {
+        return Err(Refusal::NoCommand);
+    };
+    let terms = terms_of(
+        ram.as_str(),
+        harts.as_str(),
+        entries.as_str(),
+        init.as_str(),
+    )?;
+    if are_module_names(modules) {
+        Ok(terms)
+    } else {
+        Err(Refusal::OutOfRange {
+            word: Word::Modules,
+        })
+    }
+}
+
+/// `convert KERNEL IN OUT`
+#[tactic(auto, using(crate::proofs::WordLemmas::not_convert))]
+pub fn judge_convert(rest: &[String]) -> Result<(), Refusal>
+    ensures { AreJudged (λ words _. Convert words) (λ words. Ok (Convert words)) (convert_split (map string_bytes rest.now)) result }
+{
+    match rest {
+        [_, _, _] => Ok(()),
         _ => Err(Refusal::NoCommand),
     }
 }

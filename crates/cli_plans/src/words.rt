@@ -1,33 +1,17 @@
 // What the words of a command ask for.
-ghost use Rattle.std.specs.Prelude.{◌≡◌, ◌≤◌, ◌+◌, ◌^◌, option_map, IfOk, IsTrue};
+ghost use Rattle.std.specs.Prelude.{◌≡◌, ◌≤◌, ◌+◌, ◌^◌, option_map, IfOk};
 ghost use Rattle.std.specs.Option.{option_copied};
-ghost use Rattle.sv_types.specs.Numbers.{number_within};
-ghost use Rattle.sv_types.specs.Limits.{max_events, max_harts, min_ram_pages};
-ghost use Rattle.spec_processor.specs.Regions.{max_ram_pages};
-ghost use Rattle.policy_making.specs.WordRanges.{entries_of, are_module_names};
-ghost use Rattle.cli_plans.specs.declared.command_words.command.DiskKind.{DiskKind};
-ghost use Rattle.cli_plans.specs.Values.{flat_split_of, run_split_of, survey_split_of, live_split_of, snap_split_of, sweep_split_of};
-ghost use Rattle.cli_plans.specs.Values.{resume_split_of, measure_split_of};
-ghost use Rattle.cli_plans.specs.CommandLine.{flat_judged, gen_judged, run_judged, run_of, unsaved_run, survey_of, live_of, snap_of};
-ghost use Rattle.cli_plans.specs.CommandLine.{sweep_of, sweep_with, drawn_order_of, most_runs, resume_of, unless_none, source_of, auto_of};
-ghost use Rattle.cli_plans.specs.CommandLine.{bursts_of, making_judged, terms_judged, terms_with, init_of};
-ghost use Rattle.cli_plans.specs.Words.{IsRead, IsInRange, IsDrawnRun, IsSurveyRun, AreNumbers, command_of, source_value};
-ghost use Rattle.cli_plans.specs.Words.{run_value, live_value, snap_value, sweep_value, resume_value, terms_value};
+ghost use Rattle.sv_types.specs.Numbers.{digest_of, number_within};
+ghost use Rattle.sv_types.specs.Limits.{max_events};
+ghost use Rattle.cli_plans.specs.CommandLine.{drawn_order_of, most_runs, unless_none, source_of, auto_of, bursts_of, terms_judged, init_of};
+ghost use Rattle.cli_plans.specs.Words.{IsRead, IsWord, source_value, terms_value};
 
-use crate::command_words::{
-    ConvertWords, DiskKind, FlatWords, LiveWords, MeasureWords, ResumeWords, RunWords, SnapWords,
-    SurveyWords, SweepWords,
-};
+use crate::command_words::{ConvertWords, DiskKind};
 use crate::refusal::{Refusal, Word};
-use guest_gen::MAX_CALLS;
-use live_keys::MAX_KEYS;
 use policy_limits::{MAX_HARTS, MAX_RAM_PAGES, MIN_RAM_PAGES};
 use policy_making::{are_entries, span_of};
 use sv_types::{Digest, MAX_EVENTS, Span};
 use text_numbers::{digest_of, number_within};
-
-/// The most events of a live run, so that with every key they are no more than a run may have.
-const MAX_LIVE_EVENTS: u64 = MAX_EVENTS - MAX_KEYS;
 
 /// The most runs of a sweep.
 const MAX_SWEEP_RUNS: u64 = 1_000_000;
@@ -127,6 +111,29 @@ pub struct MakePolicy<'a> {
     pub modules: Vec<&'a str>,
 }
 
+/// Where the events of a run come from, and how many they are at most.
+#[derive(Drop)]
+pub struct Order<'a> {
+    pub script: Source<'a>,
+    pub events: u64,
+}
+
+/// What `flat` is told besides its file.
+#[derive(Drop)]
+pub struct FlatTerms {
+    pub wanted: Digest,
+    pub events: u64,
+}
+
+/// What `sweep` is told besides its files.
+#[derive(Drop)]
+pub struct Draws {
+    pub order: DrawnOrder,
+    pub first: u64,
+    pub count: u64,
+    pub events: u64,
+}
+
 /// What a policy says besides its files.
 #[derive(Drop)]
 pub struct Terms<'a> {
@@ -150,215 +157,62 @@ pub enum Source<'a> {
     Text(&'a str),
 }
 
-/// The words of `flat`.
-#[tactic(auto, unfolding(crate::specs::CommandLine::flat_words))]
-pub fn read_flat<'a>(words: &FlatWords<'a>) -> Result<Command<'a>, Refusal>
-    ensures read { IsRead command_of (flat_judged (flat_split_of words.now)) result }
-    ensures range { IfOk result IsInRange }
+/// A word that is a number in a range.
+pub fn number_of(name: Word, word: &str, low: u64, high: u64) -> Result<u64, Refusal>
+    ensures word { IsWord name (λ n. n) (number_within low high word.now) result }
+    ensures range { IfOk result (λ n. (low ≤ n) × (n ≤ high)) }
 {
-    let Some(wanted) = digest_of(words.wanted) else {
-        return Err(Refusal::OutOfRange {
+    match number_within(word.as_bytes(), low, high) {
+        Some(number) => Ok(number),
+        None => Err(Refusal::OutOfRange { word: name }),
+    }
+}
+
+/// The most events of a run.
+pub fn events_of(word: &str) -> Result<u64, Refusal>
+    ensures word { IsWord Word.Events (λ n. n) (number_within 0 max_events word.now) result }
+    ensures range { IfOk result (λ n. n ≤ max_events) }
+{
+    number_of(Word::Events, word, 0, MAX_EVENTS)
+}
+
+/// Where the events of a run come from.
+pub fn script_of(word: &str) -> Result<Source<'_>, Refusal>
+    ensures { IsWord Word.Script source_value (source_of word.now) result }
+{
+    match source_of(word) {
+        Some(source) => Ok(source),
+        None => Err(Refusal::OutOfRange { word: Word::Script }),
+    }
+}
+
+/// The measure that a flat text is to have.
+pub fn measure_of(word: &str) -> Result<Digest, Refusal>
+    ensures { IsWord Word.Measure (λ digest. digest) (digest_of word.now) result }
+{
+    match digest_of(word) {
+        Some(digest) => Ok(digest),
+        None => Err(Refusal::OutOfRange {
             word: Word::Measure,
-        });
-    };
-    let Some(events) = number_within(words.events.as_bytes(), 0, MAX_EVENTS) else {
-        return Err(Refusal::OutOfRange { word: Word::Events });
-    };
-    Ok(Command::Flat(Flat {
-        file: words.file,
-        wanted,
-        events,
-    }))
-}
-
-/// The word of `gen`.
-#[tactic(auto, unfolding(crate::specs::CommandLine::gen_words))]
-pub fn read_generated(calls: &str) -> Result<Command<'_>, Refusal>
-    ensures read { IsRead command_of (gen_judged calls.now) result }
-    ensures range { IfOk result IsInRange }
-{
-    match number_within(calls.as_bytes(), 1, MAX_CALLS) {
-        Some(calls) => Ok(Command::Generated(calls)),
-        None => Err(Refusal::OutOfRange { word: Word::Calls }),
+        }),
     }
 }
 
-/// The words of `run`, or of `vrun`.
-#[tactic(auto, unfolding(crate::specs::CommandLine::run_words))]
-pub fn read_run<'a>(words: &RunWords<'a>) -> Result<Command<'a>, Refusal>
-    ensures read { IsRead command_of (run_judged (run_split_of words.now)) result }
-    ensures range { IfOk result IsInRange }
+/// How each number of a sweep draws.
+pub fn schedule_of(word: &str) -> Result<DrawnOrder, Refusal>
+    ensures { IsWord Word.Schedule (λ order. order) (drawn_order_of word.now) result }
 {
-    let Some(script) = source_of(words.script) else {
-        return Err(Refusal::OutOfRange { word: Word::Script });
-    };
-    let Some(events) = number_within(words.events.as_bytes(), 0, MAX_EVENTS) else {
-        return Err(Refusal::OutOfRange { word: Word::Events });
-    };
-    let run = run_of(words, script, events);
-    Ok(Command::Run(run))
-}
-
-fn run_of<'a>(words: &RunWords<'a>, script: Source<'a>, events: u64) -> Run<'a>
-    ensures value { run_value result ≡ run_of (run_split_of words.now) (source_value script.entry) events }
-    ensures events { result.events ≡ events }
-{
-    Run {
-        kind: words.kind,
-        image: words.image,
-        policy: words.policy,
-        disk: unless_none(words.disk),
-        script,
-        events,
-        save: unless_none(words.save),
-    }
-}
-
-/// The words of `live`, or of `vlive`.
-#[tactic(auto, unfolding(crate::specs::CommandLine::live_words))]
-pub fn read_live<'a>(words: &LiveWords<'a>) -> Result<Live<'a>, Refusal>
-    ensures read { IsRead live_value (live_of (live_split_of words.now)) result }
-    ensures drawn { IfOk result IsDrawnRun }
-{
-    let Some(events) = number_within(words.events.as_bytes(), 0, MAX_LIVE_EVENTS) else {
-        return Err(Refusal::OutOfRange { word: Word::Events });
-    };
-    let run = unsaved_run(
-        words.kind,
-        words.image,
-        words.policy,
-        words.disk,
-        Source::Auto(0),
-        events,
-    );
-    Ok(Live {
-        run,
-        out: words.out,
-    })
-}
-
-/// The words of `snap`, of `vsnap`, or of `shrink`.
-#[tactic(auto, unfolding(crate::specs::CommandLine::snap_words))]
-pub fn read_snap<'a>(words: &SnapWords<'a>) -> Result<Snap<'a>, Refusal>
-    ensures read { IsRead snap_value (snap_of (snap_split_of words.now)) result }
-    ensures kind { IfOk result (λ snap. snap.run.kind ≡ words.now.kind) }
-    ensures events { IfOk result (λ snap. snap.run.events ≤ max_events) }
-{
-    let Some(script) = source_of(words.script) else {
-        return Err(Refusal::OutOfRange { word: Word::Script });
-    };
-    let Some(events) = number_within(words.events.as_bytes(), 0, MAX_EVENTS) else {
-        return Err(Refusal::OutOfRange { word: Word::Events });
-    };
-    let run = unsaved_run(
-        words.kind,
-        words.image,
-        words.policy,
-        words.disk,
-        script,
-        events,
-    );
-    Ok(Snap {
-        run,
-        out: words.out,
-    })
-}
-
-/// The words of `survey`, or of `debug`: a run whose disk isn't saved.
-#[tactic(auto, unfolding(crate::specs::CommandLine::survey_words))]
-pub fn read_survey<'a>(words: &SurveyWords<'a>) -> Result<Run<'a>, Refusal>
-    ensures read { IsRead run_value (survey_of (survey_split_of words.now)) result }
-    ensures run { IfOk result IsSurveyRun }
-{
-    let Some(script) = source_of(words.script) else {
-        return Err(Refusal::OutOfRange { word: Word::Script });
-    };
-    let Some(events) = number_within(words.events.as_bytes(), 0, MAX_EVENTS) else {
-        return Err(Refusal::OutOfRange { word: Word::Events });
-    };
-    let run = unsaved_run(
-        DiskKind::Block,
-        words.image,
-        words.policy,
-        words.disk,
-        script,
-        events,
-    );
-    Ok(run)
-}
-
-// A run whose disk isn't saved.
-fn unsaved_run<'a>(
-    kind: DiskKind,
-    image: &'a str,
-    policy: &'a str,
-    disk: &'a str,
-    script: Source<'a>,
-    events: u64,
-) -> Run<'a>
-    ensures value { run_value result ≡ unsaved_run kind image.now policy.now disk.now (source_value script.entry) events }
-    ensures kind { result.kind ≡ kind }
-    ensures script { result.script ≡ script.entry }
-    ensures events { result.events ≡ events }
-{
-    Run {
-        kind,
-        image,
-        policy,
-        disk: unless_none(disk),
-        script,
-        events,
-        save: None,
-    }
-}
-
-/// The words of `sweep`.
-#[tactic(auto, unfolding(crate::specs::CommandLine::sweep_words))]
-pub fn read_sweep<'a>(words: &SweepWords<'a>) -> Result<Sweep<'a>, Refusal>
-    ensures read { IsRead sweep_value (sweep_of (sweep_split_of words.now)) result }
-    ensures numbers { IfOk result AreNumbers }
-{
-    let Some(order) = drawn_order_of(words.schedule) else {
-        return Err(Refusal::OutOfRange {
+    match word {
+        "auto" => Ok(DrawnOrder::Auto),
+        "bursts" => Ok(DrawnOrder::Bursts),
+        _ => Err(Refusal::OutOfRange {
             word: Word::Schedule,
-        });
-    };
-    let Some(first) = number_within(words.first.as_bytes(), 0, u64::MAX) else {
-        return Err(Refusal::OutOfRange { word: Word::First });
-    };
-    sweep_from(words, order, first)
+        }),
+    }
 }
 
-// The words of `sweep` from the first number on.
-#[tactic(auto, unfolding(crate::specs::CommandLine::sweep_with))]
-fn sweep_from<'a>(
-    words: &SweepWords<'a>,
-    order: DrawnOrder,
-    first: u64,
-) -> Result<Sweep<'a>, Refusal>
-    ensures read { IsRead sweep_value (sweep_with (sweep_split_of words.now) order first (number_within 1 (most_runs first) words.now.count.now)
-        (number_within 0 max_events words.now.events.now)) result }
-    ensures numbers { IfOk result AreNumbers }
-{
-    let Some(count) = number_within(words.count.as_bytes(), 1, most_runs(first)) else {
-        return Err(Refusal::OutOfRange { word: Word::Count });
-    };
-    let Some(events) = number_within(words.events.as_bytes(), 0, MAX_EVENTS) else {
-        return Err(Refusal::OutOfRange { word: Word::Events });
-    };
-    Ok(Sweep {
-        image: words.image,
-        policy: words.policy,
-        disk: unless_none(words.disk),
-        order,
-        first,
-        count,
-        events,
-    })
-}
-
-// The most numbers from the first on.
-fn most_runs(first: u64) -> u64
+/// The most numbers from the first on.
+pub fn most_runs(first: u64) -> u64
     ensures most { result ≡ most_runs first }
     ensures within { first + result ≤ 2 ^ 64 }
 {
@@ -370,39 +224,8 @@ fn most_runs(first: u64) -> u64
     }
 }
 
-fn drawn_order_of(word: &str) -> Option<DrawnOrder>
-    ensures { result ≡ drawn_order_of word.now }
-{
-    match word {
-        "auto" => Some(DrawnOrder::Auto),
-        "bursts" => Some(DrawnOrder::Bursts),
-        _ => None,
-    }
-}
-
-/// The words of `resume`.
-#[tactic(auto, unfolding(crate::specs::CommandLine::resume_words))]
-pub fn read_resume<'a>(words: &ResumeWords<'a>) -> Result<Resume<'a>, Refusal>
-    ensures read { IsRead resume_value (resume_of (resume_split_of words.now)) result }
-    ensures events { IfOk result (λ resume. resume.events ≤ max_events) }
-{
-    let Some(script) = source_of(words.script) else {
-        return Err(Refusal::OutOfRange { word: Word::Script });
-    };
-    let Some(events) = number_within(words.events.as_bytes(), 0, MAX_EVENTS) else {
-        return Err(Refusal::OutOfRange { word: Word::Events });
-    };
-    Ok(Resume {
-        saved: words.saved,
-        policy: words.policy,
-        script,
-        events,
-        save: unless_none(words.save),
-    })
-}
-
-// A name, where the word isn't `none`.
-fn unless_none(word: &str) -> Option<&str>
+/// A name, where the word isn't `none`.
+pub fn unless_none(word: &str) -> Option<&str>
     ensures { option_copied result ≡ unless_none word.now }
 {
     if word == "none" { None } else { Some(word) }
@@ -443,25 +266,9 @@ fn bursts_of(number: &str) -> Option<Source<'_>>
     }
 }
 
-/// The words of `measure`. The names of modules were judged before.
-#[tactic(auto, unfolding(crate::specs::CommandLine::making_words))]
-pub fn read_measure(words: MeasureWords<'_>) -> Result<Command<'_>, Refusal>
-    requires { IsTrue (are_module_names (measure_split_of words).modules) }
-    ensures read { IsRead command_of (making_judged (measure_split_of words.entry)) result }
-    ensures range { IfOk result IsInRange }
-{
-    let terms = read_terms(words.ram, words.harts, words.entries, words.init)?;
-    Ok(Command::MakePolicy(MakePolicy {
-        out: words.out,
-        kernel: words.kernel,
-        terms,
-        modules: words.modules,
-    }))
-}
-
 /// What a policy says besides its files.
-#[tactic(auto, unfolding(crate::specs::CommandLine::terms_words))]
-pub fn read_terms<'a>(
+#[tactic(auto, unfolding(crate::specs::CommandLine::terms_words, crate::specs::CommandLine::terms_with))]
+pub fn terms_of<'a>(
     ram: &str,
     harts: &str,
     entries: &'a str,
@@ -469,69 +276,33 @@ pub fn read_terms<'a>(
 ) -> Result<Terms<'a>, Refusal>
     ensures { IsRead terms_value (terms_judged ram.now harts.now entries.now init.now) result }
 {
-    let Some(ram_pages) = ram_pages_of(ram) else {
-        return Err(Refusal::OutOfRange { word: Word::Ram });
-    };
-    let Some(harts) = harts_of(harts) else {
-        return Err(Refusal::OutOfRange { word: Word::Harts });
-    };
+    let (least, most) = (u64::from(MIN_RAM_PAGES), u64::from(MAX_RAM_PAGES));
+    let ram_pages = number_of(Word::Ram, ram, least, most)? as u32;
+    let harts = number_of(Word::Harts, harts, 1, u64::from(MAX_HARTS))? as u8;
     if !are_entries(entries) {
         return Err(Refusal::OutOfRange {
             word: Word::Entries,
         });
     }
-    terms_with(ram_pages, harts, entries, init_of(ram_pages, init))
+    let init = init_of(ram_pages, init)?;
+    Ok(Terms {
+        ram_pages,
+        harts,
+        entries,
+        init,
+    })
 }
 
-#[tactic(auto, unfolding(crate::specs::CommandLine::terms_with))]
-fn terms_with(
-    ram_pages: u32,
-    harts: u8,
-    entries: &str,
-    init: Option<Option<Span>>,
-) -> Result<Terms<'_>, Refusal>
-    ensures { IsRead terms_value (terms_with ram_pages harts (entries_of entries.now) init) result }
-{
-    match init {
-        Some(init) => Ok(Terms {
-            ram_pages,
-            harts,
-            entries,
-            init,
-        }),
-        None => Err(Refusal::OutOfRange { word: Word::Init }),
-    }
-}
-
-fn ram_pages_of(word: &str) -> Option<u32>
-    ensures { result ≡ number_within min_ram_pages max_ram_pages word.now }
-{
-    let (low, high) = (u64::from(MIN_RAM_PAGES), u64::from(MAX_RAM_PAGES));
-    match number_within(word.as_bytes(), low, high) {
-        Some(number) => Some(number as u32),
-        None => None,
-    }
-}
-
-fn harts_of(word: &str) -> Option<u8>
-    ensures { result ≡ number_within 1 max_harts word.now }
-{
-    match number_within(word.as_bytes(), 1, u64::from(MAX_HARTS)) {
-        Some(number) => Some(number as u8),
-        None => None,
-    }
-}
-
-// None where the word names no pages, and else those that it names, if it isn't `none`.
+// The pages that the word names, if it isn't `none`.
 #[tactic(auto, unfolding(crate::specs::CommandLine::init_of))]
-fn init_of(ram_pages: u32, word: &str) -> Option<Option<Span>>
-    ensures { result ≡ init_of ram_pages word.now }
+fn init_of(ram_pages: u32, word: &str) -> Result<Option<Span>, Refusal>
+    ensures { IsWord Word.Init (λ init. init) (init_of ram_pages word.now) result }
 {
     if word == "none" {
-        return Some(None);
+        return Ok(None);
     }
     match span_of(ram_pages, word) {
-        Some(span) => Some(Some(span)),
-        None => None,
+        Some(span) => Ok(Some(span)),
+        None => Err(Refusal::OutOfRange { word: Word::Init }),
     }
 }

@@ -1,6 +1,11 @@
-use Rattle.cli_plans.specs.Values.{measure_split_of}
+use Rattle.std.proofs.Common.{ℕ, List, IsTrue, subst, sym}
+use Rattle.policy_making.specs.WordRanges.{are_module_names}
 use Rattle.cli_plans.proofs.WordLemmas.{has_module_names}
 use Rattle.cli_plans.proofs.asking.ask_measure.Goals as goal
 
-pub read_measure-requires : goal.read_measure-requires
-read_measure-requires c = has_module_names _ (measure_split_of c.in_ok-words.words) c.in_ok-words.ensures c.in_ok-judge_measure.ensures
+pub returns-clause-range : goal.returns-clause-range
+returns-clause-range c = (
+  c.in_ok-terms.ensures.range,
+  subst (λ (names : List (List ℕ)). IsTrue (are_module_names names)) (sym c.in_ok-modules.ensures)
+      (has_module_names _ _ c.in_ok-names.ensures.finds c.in_ok-terms.ensures.judged.0),
+)

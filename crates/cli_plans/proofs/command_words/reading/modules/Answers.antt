@@ -3,7 +3,7 @@ use Rattle.std.specs.Option.{unwrap_or}
 use Rattle.std.proofs.lemmas.Result.{IfOk-weaker}
 use Rattle.clap.specs.Words.{all_of, found_of, rows_of}
 use Rattle.clap.proofs.WalkLemmas.{raw_values-rows}
-use Rattle.cli_plans.proofs.command_words.found.modules.Goals as goal
+use Rattle.cli_plans.proofs.command_words.reading.modules.Goals as goal
 
 pub returns-in-Some : goal.returns-in-Some
 returns-in-Some c =
