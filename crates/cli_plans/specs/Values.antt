@@ -1,6 +1,7 @@
 -- What the words of a command are, by value.
 use Rattle.std.specs.Prelude.{map, string_bytes}
-use Rattle.cli_plans.specs.Commands.{Named, FlatSplit, RunSplit, SurveySplit, LiveSplit, SnapSplit, SweepSplit, ResumeSplit, MeasureSplit, ConvertSplit}
+use Rattle.std.specs.Option.{option_copied}
+use Rattle.cli_plans.specs.Commands.{Named, FlatSplit, RunSplit, SurveySplit, LiveSplit, SnapSplit, SweepSplit, ResumeSplit, ShowSplit, MeasureSplit, ConvertSplit}
 use Rattle.cli_plans.specs.declared.command_words.naming.Naming.{Naming}
 use Rattle.cli_plans.specs.declared.command_words.command.FlatWords.{FlatWords}
 use Rattle.cli_plans.specs.declared.command_words.command.RunWords.{RunWords}
@@ -9,6 +10,7 @@ use Rattle.cli_plans.specs.declared.command_words.command.LiveWords.{LiveWords}
 use Rattle.cli_plans.specs.declared.command_words.command.SnapWords.{SnapWords}
 use Rattle.cli_plans.specs.declared.command_words.command.SweepWords.{SweepWords}
 use Rattle.cli_plans.specs.declared.command_words.command.ResumeWords.{ResumeWords}
+use Rattle.cli_plans.specs.declared.command_words.command.ShowWords.{ShowWords}
 use Rattle.cli_plans.specs.declared.command_words.command.MeasureWords.{MeasureWords}
 use Rattle.cli_plans.specs.declared.command_words.command.ConvertWords.{ConvertWords}
 
@@ -75,6 +77,9 @@ resume_split_of w = record {
   events = w.events.now;
   save = w.save.now;
 }
+
+abbrev pub show_split_of : ShowWords → ShowSplit
+show_split_of w = record { saved = w.saved.now; kernel = option_copied w.kernel }
 
 abbrev pub measure_split_of : MeasureWords → MeasureSplit
 measure_split_of w = record {

@@ -10,12 +10,14 @@ ghost use Rattle.cli_plans.specs.CommandLine.{resume_after, show_after, judgemen
 ghost use Rattle.cli_plans.specs.CommandLine.{shrink_judged, resume_judged, show_judged, survey_of, survey_after, survey_judged};
 ghost use Rattle.cli_plans.specs.CommandLine.{debug_after, debug_judged};
 ghost use Rattle.cli_plans.specs.Words.{IsAsked, IsInRange, IsDrawnRun, IsBlockRun, AreNumbers, command_of, live_value, snap_value};
+ghost use Rattle.cli_plans.specs.Values.{show_split_of};
 ghost use Rattle.cli_plans.specs.Words.{sweep_value, resume_value, IsSurveyRun, run_value};
 ghost use Rattle.cli_plans.specs.declared.asking.Unread.TheVariants.{Refused, Memory};
 
 use crate::command_words::{
-    CommandName, DiskKind, named, split_convert, split_flat, split_generated, split_live,
-    split_measure, split_resume, split_run, split_show, split_snap, split_survey, split_sweep,
+    CommandName, DiskKind, ShowWords, named, split_convert, split_flat, split_generated,
+    split_live, split_measure, split_resume, split_run, split_show, split_snap, split_survey,
+    split_sweep,
 };
 use crate::judgement::{
     judge_convert, judge_flat, judge_generated, judge_live, judge_measure, judge_resume, judge_run,
@@ -368,10 +370,10 @@ fn resume_after<'a>(
     Ok(read_resume(&words)?)
 }
 
-/// The snapshot that words ask `show` for.
+/// What words ask `show` for.
 #[tactic(auto, unfolding(crate::specs::CommandLine::show_judged))]
-pub fn ask_show<'a>(alloc: Global, words: &'a [String]) -> Result<&'a str, Unread>
-    ensures { IsAsked (λ name. name.now) (show_judged (map string_bytes words.now)) result }
+pub fn ask_show<'a>(alloc: Global, words: &'a [String]) -> Result<ShowWords<'a>, Unread>
+    ensures { IsAsked show_split_of (show_judged (map string_bytes words.now)) result }
 {
     match named(words) {
         Some(naming) => show_after(alloc, naming.command, naming.rest),
@@ -384,9 +386,9 @@ fn show_after<'a>(
     alloc: Global,
     command: CommandName,
     rest: &'a [String],
-) -> Result<&'a str, Unread>
+) -> Result<ShowWords<'a>, Unread>
     requires plain { list_any has_dash (map string_bytes rest.now) ≡ false }
-    ensures { IsAsked (λ name. name.now) (show_after command (map string_bytes rest.now)) result }
+    ensures { IsAsked show_split_of (show_after command (map string_bytes rest.now)) result }
 {
     let CommandName::Show = command else {
         return Err(Unread::Refused(Refusal::NoCommand));

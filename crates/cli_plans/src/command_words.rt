@@ -8,8 +8,8 @@ mod reading;
 mod table;
 
 pub use command::{
-    ConvertWords, DiskKind, FlatWords, LiveWords, MeasureWords, ResumeWords, RunWords, SnapWords,
-    SurveyWords, SweepWords,
+    ConvertWords, DiskKind, FlatWords, LiveWords, MeasureWords, ResumeWords, RunWords, ShowWords,
+    SnapWords, SurveyWords, SweepWords,
 };
 pub use naming::{Naming, named};
 pub use reading::{

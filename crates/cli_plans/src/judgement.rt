@@ -228,7 +228,7 @@ pub fn judge_show(rest: &[String]) -> Result<(), Refusal>
     ensures { IsJudged (split_judged Ok (show_split (map string_bytes rest.now))) result }
 {
     match rest {
-        [_] => Ok(()),
+        [_] | [_, _] => Ok(()),
         _ => Err(Refusal::NoCommand),
     }
 }

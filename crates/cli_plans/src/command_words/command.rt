@@ -86,6 +86,15 @@ pub struct ResumeWords<'a> {
     pub save: &'a str,
 }
 
+/// `show SNAPSHOT [KERNEL]`
+#[derive(Drop)]
+pub struct ShowWords<'a> {
+    /// The name of the snapshot.
+    pub saved: &'a str,
+    /// The name of the kernel whose symbols name addresses, where it is given.
+    pub kernel: Option<&'a str>,
+}
+
 /// `measure OUT KERNEL RAM HARTS ENTRIES INIT MODULES..`
 #[derive(Drop)]
 pub struct MeasureWords<'a> {

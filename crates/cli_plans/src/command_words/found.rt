@@ -1,16 +1,17 @@
 // What `clap` found under the names of a command's words.
 ghost use Rattle.std.specs.Prelude.{◌≡◌, IfOk, IsTrue, is_some, map};
+ghost use Rattle.std.specs.Option.{option_copied};
 ghost use Rattle.clap.specs.Words.{found_of, first_of, rows_of};
 ghost use Rattle.cli_plans.specs.Parsing.{HasWords, word_of, flat_wants, gen_wants, run_wants, survey_wants, live_wants, snap_wants};
 ghost use Rattle.cli_plans.specs.Parsing.{sweep_wants, resume_wants, show_wants, measure_wants, convert_wants, flat_found, gen_found};
 ghost use Rattle.cli_plans.specs.Parsing.{run_found, survey_found, live_found, snap_found, sweep_found, resume_found, show_found};
 ghost use Rattle.cli_plans.specs.Parsing.{measure_found, modules_found, convert_found};
 ghost use Rattle.cli_plans.specs.Values.{flat_split_of, run_split_of, survey_split_of, live_split_of, snap_split_of, sweep_split_of};
-ghost use Rattle.cli_plans.specs.Values.{resume_split_of, measure_split_of, convert_split_of};
+ghost use Rattle.cli_plans.specs.Values.{resume_split_of, show_split_of, measure_split_of, convert_split_of};
 
 use crate::command_words::command::{
-    ConvertWords, DiskKind, FlatWords, LiveWords, MeasureWords, ResumeWords, RunWords, SnapWords,
-    SurveyWords, SweepWords,
+    ConvertWords, DiskKind, FlatWords, LiveWords, MeasureWords, ResumeWords, RunWords, ShowWords,
+    SnapWords, SurveyWords, SweepWords,
 };
 use clap::ArgMatches;
 use std::alloc::{AllocError, Global};
@@ -119,11 +120,14 @@ pub fn resume<'a>(matches: &ArgMatches<'a>) -> ResumeWords<'a>
     }
 }
 
-pub fn show<'a>(matches: &ArgMatches<'a>) -> &'a str
+pub fn show<'a>(matches: &ArgMatches<'a>) -> ShowWords<'a>
     requires { HasWords show_wants (rows_of (found_of matches.now)) }
-    ensures { result.now ≡ show_found (rows_of (found_of matches.now)) }
+    ensures { show_split_of result ≡ show_found (rows_of (found_of matches.now)) }
 {
-    word(matches, "SNAPSHOT")
+    ShowWords {
+        saved: word(matches, "SNAPSHOT"),
+        kernel: word_if_any(matches, "KERNEL"),
+    }
 }
 
 pub fn measure<'a>(alloc: Global, matches: &ArgMatches<'a>) -> Result<MeasureWords<'a>, AllocError>
@@ -162,6 +166,13 @@ fn word<'a>(matches: &ArgMatches<'a>, name: &str) -> &'a str
         Some(word) => word,
         None => unreachable!(),
     }
+}
+
+// A word that may be left out.
+fn word_if_any<'a>(matches: &ArgMatches<'a>, name: &str) -> Option<&'a str>
+    ensures { option_copied result ≡ first_of name.now (rows_of (found_of matches.now)) }
+{
+    matches.get_str(name)
 }
 
 fn modules<'a>(alloc: Global, matches: &ArgMatches<'a>) -> Result<Vec<&'a str>, AllocError>

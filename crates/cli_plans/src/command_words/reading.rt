@@ -8,11 +8,11 @@ ghost use Rattle.cli_plans.specs.Commands.{has_dash, flat_split, gen_split, run_
 ghost use Rattle.cli_plans.specs.Commands.{resume_split, show_split, measure_split, convert_split};
 ghost use Rattle.cli_plans.specs.Parsing.{Finds, HasWords, IsKnown, wants_of};
 ghost use Rattle.cli_plans.specs.Values.{flat_split_of, run_split_of, survey_split_of, live_split_of, snap_split_of, sweep_split_of};
-ghost use Rattle.cli_plans.specs.Values.{resume_split_of, measure_split_of, convert_split_of};
+ghost use Rattle.cli_plans.specs.Values.{resume_split_of, show_split_of, measure_split_of, convert_split_of};
 
 use crate::command_words::command::{
-    ConvertWords, DiskKind, FlatWords, LiveWords, MeasureWords, ResumeWords, RunWords, SnapWords,
-    SurveyWords, SweepWords,
+    ConvertWords, DiskKind, FlatWords, LiveWords, MeasureWords, ResumeWords, RunWords, ShowWords,
+    SnapWords, SurveyWords, SweepWords,
 };
 use crate::command_words::commands::read;
 use crate::command_words::found;
@@ -127,11 +127,11 @@ pub fn split_resume<'a>(alloc: Global, words: &'a [String]) -> Result<ResumeWord
     Ok(found::resume(&matches))
 }
 
-/// `show SNAPSHOT`
-pub fn split_show<'a>(alloc: Global, words: &'a [String]) -> Result<&'a str, AllocError>
+/// `show SNAPSHOT [KERNEL]`
+pub fn split_show<'a>(alloc: Global, words: &'a [String]) -> Result<ShowWords<'a>, AllocError>
     requires known { IsTrue (is_some (show_split (map string_bytes words.now))) }
     requires plain { list_any has_dash (map string_bytes words.now) ≡ false }
-    ensures { IfOk result (λ found. show_split (map string_bytes words.entry.now) ≡ Some found.now) }
+    ensures { IfOk result (λ found. show_split (map string_bytes words.entry.now) ≡ Some (show_split_of found)) }
 {
     let matches = find(alloc, CommandName::Show, words)?;
     Ok(found::show(&matches))
