@@ -214,8 +214,10 @@ fn show_words<A: Reread>(
         }
         [saved, kernel] => {
             let snapshot = snapshot_file(alloc, files, most.snapshot, saved.as_str())?;
-            let pages = snapshot.machine.protection.len() as u32;
-            image_file(alloc, files, most.image, kernel.as_str(), pages)
+            match u32::try_from(snapshot.machine.protection.len()) {
+                Ok(pages) => image_file(alloc, files, most.image, kernel.as_str(), pages),
+                Err(_) => Ok(()),
+            }
         }
         _ => Ok(()),
     }

@@ -153,7 +153,7 @@ pub static COMMANDS: [CommandRow; 16] = [
     CommandRow {
         name: SHOW_NAME,
         command: CommandName::Show,
-        about: "prints what a snapshot says of its machine: harts, pages, modules, devices, journal; with the\n      kernel, the names of addresses of code too",
+        about: "prints what a snapshot says of its machine: harts, pages, modules, devices, journal; with\n      the kernel, the names of its code too",
     },
     CommandRow {
         name: GENERATED_NAME,
