@@ -1,12 +1,13 @@
 -- A machine that is debugged stands where a run is.
 use Rattle.std.proofs.Common.{◌≡◌, ℕ, zero, suc, ◌+◌, ◌-◌, ◌<◌, ◌≤◌, List, [], ◌∷◌, length, take, drop, refl, sym, ◌∙◌, ap, Option, Some, None, Result, Ok, Err, true, arith, length-drop}
-use Rattle.std.specs.Prelude.{OnOk, is_some, nat_lt, slice_get}
+use Rattle.std.specs.Prelude.{OnOk, option_and_then, is_some, nat_lt, slice_get}
 use Rattle.std.proofs.lemmas.Bool.{lt-ltb, le-ltb}
 use Rattle.sv_types.specs.Schedule.{Schedule, first_events}
 use Rattle.sv_types.specs.declared.event.Event.{Event}
 use Rattle.spec_reference.specs.Run as reference
-use Rattle.spec_reference.specs.States.{State}
-use Rattle.debug_session.specs.Runs.{Run, after, next_event, next_turn, state, turning}
+use Rattle.spec_reference.specs.States.{State, Hart}
+use Rattle.machine.specs.Fetching.{fetch_place as hart_place}
+use Rattle.debug_session.specs.Runs.{Run, after, fetch_place, next_event, next_turn, state, turning}
 use Rattle.cli_debug.specs.Upcoming.{most_upcoming, upcoming}
 use Rattle.cli_debug.proofs.Drawing.{first_after, upcoming_few}
 
@@ -30,6 +31,11 @@ most_by next left schedule n events is =
 pub turn_by : (next : Option Event) (left : ℕ) (schedule : Schedule) (run : Run) → upcoming next left schedule ≡ drop run.made run.events → turning next ≡ next_turn run
 unfolding next_event
 turn_by next left schedule run is = ap turning (first_after run.events run.made next left schedule is)
+
+-- where a hart is about to fetch
+pub place_by : (hart : Option Hart) → option_and_then hart_place hart ≡ fetch_place hart
+place_by None = refl
+place_by (Some hart) = refl
 
 -- ---- one event more
 

@@ -7,3 +7,6 @@ pub mod Threads
 pub mod ServingSteps
 pub mod ServingLoop
 pub mod RunLawsHold
+pub mod PageRuns
+pub mod WalkLines
+pub mod TextParts

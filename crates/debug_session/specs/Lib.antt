@@ -3,6 +3,9 @@ pub mod Watches
 pub mod Looks
 pub mod Runs
 pub mod Description
+pub mod Pages
+pub mod Reasons
+pub mod Walks
 pub mod Questions
 pub mod Sessions
 pub mod Desks

@@ -9,10 +9,11 @@ use crate::target::stepping::{draw, step, turning};
 use debug_session::Target;
 use machine::Machine;
 use script::Script;
+use spec_processor::Lines;
 use spec_reference::saved_machine::SavedHart;
 use std::alloc::{AllocError, Global};
 use std::thread::Threads;
-use sv_types::{Event, Verdict};
+use sv_types::{Counts, Event, Note, Protection, Verdict};
 
 /// A machine that is debugged: where its run begins, and where it stands.
 #[derive(Drop)]
@@ -93,8 +94,7 @@ impl<B: Beginning + Drop> Target for DebuggedMachine<B> {
     }
 
     fn fetch_place(&self, hart: u8) -> Option<u64> {
-        let seen = self.machine.hart(hart)?;
-        if seen.started { Some(seen.pc) } else { None }
+        self.machine.fetch_place(hart)
     }
 
     fn verdict(&self) -> Verdict {
@@ -107,6 +107,22 @@ impl<B: Beginning + Drop> Target for DebuggedMachine<B> {
 
     fn hart(&self, hart: u8) -> Option<SavedHart> {
         self.machine.hart(hart)
+    }
+
+    fn lines(&self, hart: u8) -> Option<Lines> {
+        self.machine.lines(hart)
+    }
+
+    fn notes(&self) -> &[Note] {
+        self.machine.journal()
+    }
+
+    fn counts(&self) -> Counts {
+        self.machine.counts()
+    }
+
+    fn protections(&self) -> &[Protection] {
+        self.machine.protections()
     }
 
     fn ram(&self) -> &[u8] {

@@ -1,10 +1,7 @@
 // What gdb sends, by its manual and by a session that was recorded, and bytes that it never sends.
-use crate::arrival::Arrival;
-use crate::frame::push_frame;
-use crate::names::packet_of;
-use crate::packet::{Motion, Packet, Range, Thread};
-use crate::reader::PacketReader;
-use crate::stop::{Stop, push_stop};
+use gdb_protocol::{
+    Arrival, Motion, Packet, PacketReader, Range, Stop, Thread, packet_of, push_frame, push_stop,
+};
 use std::test::Fail;
 
 // What arrives last by these bytes.

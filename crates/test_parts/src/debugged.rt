@@ -1,15 +1,14 @@
 // A session with a target of two harts and a page of RAM, over bytes that gdb sends and bytes that it never sends.
 
-use crate::serving::serve;
-use crate::target::Target;
+use debug_session::{Target, serve};
 use host_io::MemSink;
 use live_keys::MemKeys;
-use spec_processor::{Mode, REGISTERS};
+use spec_processor::{Lines, Mode, REGISTERS};
 use spec_reference::saved_machine::SavedHart;
 use std::alloc::{AllocError, Global};
 use std::test::Fail;
 use std::thread::Threads;
-use sv_types::Verdict;
+use sv_types::{Counts, Note, Protection, Verdict};
 
 // Hart 0 and hart 1 in turn, four bytes on with each turn. It stands for no run.
 #[derive(Drop)]
@@ -71,6 +70,22 @@ impl Target for Toy {
             entry: None,
             timer: 0,
         })
+    }
+
+    fn lines(&self, _hart: u8) -> Option<Lines> {
+        None
+    }
+
+    fn notes(&self) -> &[Note] {
+        &[]
+    }
+
+    fn counts(&self) -> Counts {
+        Counts::default()
+    }
+
+    fn protections(&self) -> &[Protection] {
+        &[]
     }
 
     fn ram(&self) -> &[u8] {
