@@ -119,7 +119,8 @@ read_keeps name limit files read (Err ReadMemory) leaves = keeps_by files read (
 read_keeps name limit files read (Err Failed) leaves =
     record { held = ap (λ f. f.held) leaves.1; saves = ap (λ f. f.save_faults) leaves.1; reads = omega (arith, leaves.0) }
 
-shown_keeps : (s : Contents) (kernel : Option (List ℕ)) (files read : FilesState) (old new : SinkState) (result : Result Status Trouble) → ShowsRead s kernel files read old new result → Keeps files read
+shown_keeps : (s : Contents) (kernel : Option (List ℕ)) (files read : FilesState) (old new : SinkState) (result : Result Status Trouble) →
+    ShowsRead s kernel files read old new result → Keeps files read
 shown_keeps s None files read old new result it = same_keeps files read it.0
 shown_keeps s (Some name) files read old new result it = read_keeps name max_image_bytes files read it.found it.leaves
 

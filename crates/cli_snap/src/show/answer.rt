@@ -17,7 +17,8 @@ ghost use Rattle.cli_plans.specs.declared.file_fault.FileFault.TheVariants as Fa
 ghost use Rattle.cli_plans.specs.declared.refusal.Refusal.TheVariants as Why;
 ghost use Rattle.cli_snap.specs.SnapshotTexts as text;
 ghost use Rattle.cli_snap.specs.Showing as spec;
-ghost use Rattle.cli_snap.specs.Answers.{Ends, Refuses, ShowsFiles, ShowsKernel, ShowsRead, EndsBytes, EndsUnread, Shows, Headline, Answers, MayAsk, MayAskKernel};
+ghost use Rattle.cli_snap.specs.Answers.{Ends, Refuses, ShowsFiles, ShowsKernel, ShowsRead, EndsBytes, EndsUnread, Shows, Headline};
+ghost use Rattle.cli_snap.specs.Answers.{Answers, MayAsk, MayAskKernel};
 
 use crate::show::whole::snapshot_text;
 use cli_plans::command_words::ShowWords;
@@ -46,7 +47,8 @@ pub fn secvisor_show<F: Files, O: Sink>(
     requires reads { CanCount (F.state files.old).read_faults }
 
     // For every file and all words, what is written and the status are those that the definitions give to what was read.
-    ensures headline { Headline (spec.asked_in (map string_bytes words.now)) (F.state files.old) (F.state files.new) (O.state out.old) (O.state out.new) result }
+    ensures headline { Headline (spec.asked_in (map string_bytes words.now))
+        (F.state files.old) (F.state files.new) (O.state out.old) (O.state out.new) result }
 
     // In files that tell what they hold, they are those of what the names hold, where no read failed.
     ensures held { (asked : ShowSplit) → spec.asked_in (map string_bytes words.now) ≡ Some asked → IsTrue (F.state files.old).tells →
@@ -127,7 +129,8 @@ fn show_snapshot<F: Files, O: Sink>(
     requires form { form.snapshot.has (form.contents snapshot.now) ≡ true }
     requires sink { MayWrite (O.state out.old) }
     requires reads { CanCount (F.state files.old).read_faults }
-    ensures { ShowsRead (form.contents snapshot.now) (option_copied kernel.entry) (F.state files.old) (F.state files.new) (O.state out.old) (O.state out.new) result }
+    ensures { ShowsRead (form.contents snapshot.now) (option_copied kernel.entry)
+        (F.state files.old) (F.state files.new) (O.state out.old) (O.state out.new) result }
 {
     match kernel {
         Some(name) => show_with_kernel(alloc, snapshot, name, files, out),
