@@ -170,7 +170,8 @@ fn run_of<'a>(
     save: Option<&'a str>,
 ) -> Run<'a>
     requires { HasWords run_names (rows_of (found_of names.now)) }
-    ensures value { run_value result ≡ named_run kind (rows_of (found_of names.now)) (source_value order.entry.script) order.entry.events (option_copied save.entry) }
+    ensures value { run_value result ≡
+        named_run kind (rows_of (found_of names.now)) (source_value order.entry.script) order.entry.events (option_copied save.entry) }
     ensures kind { result.kind ≡ kind }
     ensures script { result.script ≡ order.entry.script }
     ensures events { result.events ≡ order.entry.events }

@@ -85,7 +85,8 @@ pub next_page : (guards : List Protection) (page : ℕ) (d : Protection) → pag
 unfolding page_runs
 next_page guards page d some = ap (page_runs page) (drop_more guards page d some)
 
-pub last_run : (run : PageRun) (guards : List Protection) (page : ℕ) (put front whole : List ℕ) → length guards ≤ page → put ++ flat_map run_line (joined run (page_runs page (drop page guards))) ≡ whole →
+pub last_run : (run : PageRun) (guards : List Protection) (page : ℕ) (put front whole : List ℕ) → length guards ≤ page →
+    put ++ flat_map run_line (joined run (page_runs page (drop page guards))) ≡ whole →
     front ≡ put ++ run_line run → front ≡ whole
 unfolding page_runs
 last_run run guards page put front whole over is line =

@@ -5,7 +5,8 @@ use Rattle.spec_processor.specs.Bits.{bit}
 use Rattle.spec_processor.specs.Bytes.{page_of, ram_base}
 use Rattle.spec_processor.specs.Registers.{sum_bit, mxr_bit}
 use Rattle.spec_processor.specs.Roots.{root_mode, bare_mode}
-use Rattle.spec_processor.specs.Translation.{Settings, entry_in_ram, entry_page, entry_size, is_canonical, is_leaf, is_pointer, permits_access, root_of, sv39_indices}
+use Rattle.spec_processor.specs.Translation.{Settings, entry_in_ram, entry_page, entry_size, is_canonical, is_leaf, is_pointer}
+use Rattle.spec_processor.specs.Translation.{permits_access, root_of, sv39_indices}
 use Rattle.spec_processor.specs.declared.access.Access.{Access}
 use Rattle.spec_processor.specs.declared.access.Access.TheVariants.{Fetch, Load, Store}
 use Rattle.spec_processor.specs.declared.mode.Mode.{Mode}
@@ -31,7 +32,8 @@ letter name permitted = if permitted then name else codes "-"
 -- loads, stores and fetches
 unfoldable pub rights : Settings → Mode → (below word : ℕ) → List ℕ
 rights s mode below word =
-    letter (codes "r") (permits s mode below word Load) ++ (letter (codes "w") (permits s mode below word Store) ++ letter (codes "x") (permits s mode below word Fetch))
+    letter (codes "r") (permits s mode below word Load)
+    ++ (letter (codes "w") (permits s mode below word Store) ++ letter (codes "x") (permits s mode below word Fetch))
 
 unfoldable pub use_text : Settings → (below word : ℕ) → List ℕ
 use_text s below word =
