@@ -10,3 +10,4 @@ pub mod RunLawsHold
 pub mod PageRuns
 pub mod WalkLines
 pub mod TextParts
+pub mod RowLemmas

@@ -2,6 +2,7 @@ pub mod Memory
 pub mod Watches
 pub mod Looks
 pub mod Runs
+pub mod Rows
 pub mod Description
 pub mod Pages
 pub mod Reasons

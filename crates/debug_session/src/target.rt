@@ -1,9 +1,10 @@
 // What is debugged.
 ghost use Rattle.std.specs.Thread.{IsSync};
-ghost use Rattle.std.specs.Prelude.{◌≡◌, ◌<◌, ◌≤◌, ◌+◌, ℕ, OnOk, option_map, slice_get, length, nat_lt};
+ghost use Rattle.std.specs.Prelude.{◌≡◌, ◌<◌, ◌≤◌, ℕ, IfOk, OnOk, option_map, slice_get, length, nat_lt};
 ghost use Rattle.spec_processor.specs.Regions.{max_ram_pages};
 ghost use Rattle.spec_reference.specs.SavedStates.{saved_hart};
 ghost use Rattle.spec_reference.specs.States.{protections_of};
+ghost use Rattle.debug_session.specs.Rows.{IsRow};
 ghost use Rattle.debug_session.specs.Runs.{Run, after, events_left, next_turn, place_of, state};
 ghost use Rattle.debug_session.specs.Sessions.{lines_of};
 
@@ -76,9 +77,11 @@ pub trait Target {
     fn console(&self) -> &[u8]
         ensures { (run : Run) → stands self.now run → result.now ≡ (state run).journal.printed };
 
-    /// Makes the next event, where one is left.
-    fn advance(&mut self) -> Result<(), AllocError>
-        ensures { OnOk result ((run : Run) → stands self.old run → run.made < length run.events → stands self.new (after run (run.made + 1))) };
+    /// Makes the next events that are alike, where one is left: at most so many, and none after the run has ended. Answers how many.
+    fn advance_row(&mut self, most: u64) -> Result<u64, AllocError>
+        requires { 0 < most }
+        ensures few { IfOk result (λ count. count ≤ most) }
+        ensures row { IfOk result (λ count. (run : Run) → stands self.old run → run.made < length run.events → IsRow stands run count self.new) };
 
     /// Begins anew.
     fn restart<R: Threads + Sync>(&mut self, rt: &R, alloc: Global) -> Result<(), AllocError>

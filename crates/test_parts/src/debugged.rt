@@ -96,9 +96,9 @@ impl Target for Toy {
         b""
     }
 
-    fn advance(&mut self) -> Result<(), AllocError> {
+    fn advance_row(&mut self, _most: u64) -> Result<u64, AllocError> {
         self.made = self.made.saturating_add(1);
-        Ok(())
+        Ok(1)
     }
 
     fn restart<R: Threads + Sync>(&mut self, _rt: &R, _alloc: Global) -> Result<(), AllocError> {
