@@ -4,7 +4,8 @@ use Rattle.std.proofs.lemmas.List.{append-nil, append_assoc, drop_more, drop_all
 use Rattle.std.specs.Prelude.{flat_map, get_or}
 use Rattle.sv_types.specs.declared.protection.Protection.{Protection}
 use Rattle.sv_types.specs.declared.protection.Protection.TheVariants.{Free, Held, Approved}
-use Rattle.debug_session.specs.Pages.{is_same, joined, one_page, page_runs, run_line, pages_text}
+use Rattle.sv_types.specs.Protections.{is_same}
+use Rattle.debug_session.specs.Pages.{joined, one_page, page_runs, run_line, pages_text}
 use Rattle.debug_session.specs.declared.pages.PageRun.{PageRun}
 
 same_guards : (a b : Protection) → is_same a b ≡ true → a ≡ b

@@ -1,22 +1,11 @@
 -- Runs of pages that are guarded alike. This project's own.
-use Rattle.std.specs.Prelude.{ℕ, ◌+◌, ◌*◌, Bool, true, false, if◌then◌else◌, List, [], ◌∷◌, ◌++◌, flat_map, codes}
+use Rattle.std.specs.Prelude.{ℕ, ◌+◌, ◌*◌, if◌then◌else◌, List, [], ◌∷◌, ◌++◌, flat_map, codes}
 use Rattle.std.specs.Fmt.{decimal}
 use Rattle.spec_processor.specs.Bytes.{ram_base, page_size}
 use Rattle.sv_types.specs.Output.{address_text, line_end}
 use Rattle.sv_types.specs.declared.protection.Protection.{Protection}
-use Rattle.sv_types.specs.declared.protection.Protection.TheVariants.{Free, Held, Approved}
+use Rattle.sv_types.specs.Protections.{is_same, protection_name}
 use Rattle.debug_session.specs.declared.pages.PageRun.{PageRun}
-
-abbrev pub is_same : Protection → Protection → Bool
-is_same Free Free = true
-is_same Free Held = false
-is_same Free Approved = false
-is_same Held Free = false
-is_same Held Held = true
-is_same Held Approved = false
-is_same Approved Free = false
-is_same Approved Held = false
-is_same Approved Approved = true
 
 -- a page alone
 abbrev pub one_page : ℕ → Protection → PageRun
@@ -34,17 +23,12 @@ page_runs page (guard ∷ guards) = joined (one_page page guard) (page_runs (pag
 
 -- ---- the text
 
-unfoldable pub guard_word : Protection → List ℕ
-guard_word Free = codes "free"
-guard_word Held = codes "held"
-guard_word Approved = codes "approved"
-
 abbrev pub page_address : ℕ → ℕ
 page_address page = ram_base + page_size * page
 
 unfoldable pub run_line : PageRun → List ℕ
 run_line run =
-    codes "pages " ++ (decimal run.count ++ (codes " from " ++ (address_text (page_address run.first) ++ (codes " " ++ (guard_word run.guard ++ line_end)))))
+    codes "pages " ++ (decimal run.count ++ (codes " from " ++ (address_text (page_address run.first) ++ (codes " " ++ (protection_name run.guard ++ line_end)))))
 
 -- a line for each run
 unfoldable pub pages_text : List Protection → List ℕ

@@ -15,7 +15,7 @@ use Rattle.sv_types.specs.Output.{address_text, line_end}
 use Rattle.sv_types.specs.declared.protection.Protection.{Protection}
 use Rattle.spec_reference.specs.declared.saved_machine.harts.SavedHart.{SavedHart}
 use Rattle.debug_session.specs.Memory.{seen_address}
-use Rattle.debug_session.specs.Pages.{guard_word}
+use Rattle.sv_types.specs.Protections.{protection_name}
 
 -- what the first stage of a hart goes by
 abbrev pub settings_of_hart : SavedHart → Settings
@@ -79,7 +79,7 @@ guard_at guards gpa = if nat_lt gpa ram_base then None else slice_get guards (pa
 
 abbrev pub guard_text : Option Protection → List ℕ
 guard_text None = codes "outside RAM"
-guard_text (Some guard) = guard_word guard
+guard_text (Some guard) = protection_name guard
 
 unfoldable pub place_line : List Protection → Option ℕ → List ℕ
 place_line guards None = codes "page fault" ++ line_end

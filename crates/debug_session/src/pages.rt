@@ -17,29 +17,6 @@ pub struct PageRun {
     pub guard: Protection,
 }
 
-fn is_same(one: Protection, other: Protection) -> bool
-    ensures { result ≡ spec.is_same one other }
-{
-    match (one, other) {
-        (Protection::Free, Protection::Free)
-        | (Protection::Held, Protection::Held)
-        | (Protection::Approved, Protection::Approved) => true,
-        _ => false,
-    }
-}
-
-/// How a page is guarded, in a word.
-#[tactic(auto, unfolding(crate::specs::Pages::guard_word))]
-pub(crate) fn guard_word(guard: Protection) -> &'static str
-    ensures { result.now ≡ spec.guard_word guard }
-{
-    match guard {
-        Protection::Free => "free",
-        Protection::Held => "held",
-        Protection::Approved => "approved",
-    }
-}
-
 #[tactic(auto, unfolding(crate::specs::Pages::run_line))]
 fn run_line(alloc: Global, run: PageRun) -> Result<String, AllocError>
     requires { run.first ≤ max_ram_pages }
@@ -47,7 +24,7 @@ fn run_line(alloc: Global, run: PageRun) -> Result<String, AllocError>
 {
     let count = run.count;
     let from = address_text(alloc, RAM_BASE + PAGE_BYTES * run.first)?;
-    let guard = guard_word(run.guard);
+    let guard = run.guard.name();
     format!(in alloc; "pages {count} from {from} {guard}\n")
 }
 
@@ -77,7 +54,7 @@ fn add_page(
         ≡ string_bytes text.old ++ flat_map spec.run_line (spec.joined run (spec.joined (spec.one_page page guard) rest))) }
     ensures within { IfOk result (λ next. next.first + next.count ≤ page + 1) }
 {
-    if is_same(run.guard, guard) {
+    if run.guard.is_same(guard) {
         return Ok(PageRun {
             count: run.count + 1,
             ..run

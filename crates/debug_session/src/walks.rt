@@ -6,7 +6,6 @@ ghost use Rattle.sv39_walk.specs.Regimes.{settings_of};
 ghost use Rattle.debug_session.specs.Walks as spec;
 
 use crate::memory::{entry_at, is_canonical, seen_address};
-use crate::pages::guard_word;
 use spec_processor::{
     Access, BARE, ENTRY_BYTES, Mode, PteBits, RAM_BASE, ROOT_MODE_SHIFT, TABLE_LEVELS, has_bit,
     page_of,
@@ -199,7 +198,7 @@ fn guard_text(guard: Option<Protection>) -> &'static str
     ensures { result.now ≡ spec.guard_text guard }
 {
     match guard {
-        Some(guard) => guard_word(guard),
+        Some(guard) => guard.name(),
         None => "outside RAM",
     }
 }
