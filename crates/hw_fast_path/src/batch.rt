@@ -7,7 +7,7 @@ ghost use Rattle.spec_processor.specs.HypervisorRegisters.{pending};
 ghost use Rattle.spec_processor.specs.declared.lines.Lines.{Lines};
 ghost use Rattle.hart.specs.Cores.{core_of};
 ghost use Rattle.hw_fast_path.specs.Quick.{Comes, GoesOn, Leads, MayTurn, Turned};
-ghost use Rattle.hw_fast_path.specs.Ends.{turns_of};
+ghost use Rattle.hw_fast_path.specs.Ends.{batch_of, turns_of};
 ghost use Rattle.hw_fast_path.specs.Batches.{EndsBy};
 ghost use Rattle.hw_tlb.specs.Kept.{ReachAgrees};
 ghost use Rattle.hw_fast_path.specs.declared.leaving.Leaving.TheVariants.{Stays};
@@ -97,6 +97,55 @@ impl Batch {
     }
 }
 
+/// What became of a turn by itself: a row of at most one, in one byte.
+#[derive(Clone, Copy, Drop)]
+enum Lone {
+    /// It wasn't made.
+    Stopped,
+    /// Its instruction was carried out.
+    Made,
+    /// It left the guest by ECALL in user mode.
+    Calls,
+    /// It left the guest by SRET in kernel mode.
+    Returns,
+}
+
+impl Lone {
+    // A turn that carried out nothing.
+    #[inline(always)]
+    fn left(by: Leaving) -> Lone
+        ensures { batch_of result ≡ record { made = 0; left = by } }
+    {
+        match by {
+            Leaving::Stays => Lone::Stopped,
+            Leaving::Calls => Lone::Calls,
+            Leaving::Returns => Lone::Returns,
+        }
+    }
+
+    // The row that it is.
+    #[inline(always)]
+    fn batch(self) -> Batch
+        ensures { result ≡ batch_of self }
+    {
+        match self {
+            Lone::Stopped => Batch::none(),
+            Lone::Made => Batch {
+                made: 1,
+                left: Leaving::Stays,
+            },
+            Lone::Calls => Batch {
+                made: 0,
+                left: Leaving::Calls,
+            },
+            Lone::Returns => Batch {
+                made: 0,
+                left: Leaving::Returns,
+            },
+        }
+    }
+}
+
 // The turns themselves. All that they read and change is handed over by itself, so that the loop keeps it in registers; it
 // stands out of line, since the count that follows it would take one of them.
 #[inline(never)]
@@ -147,28 +196,22 @@ fn one_turn(
     cache: &mut Cache,
     reach: &mut Reach,
     mem: &mut HostMem,
-) -> Batch
+) -> Lone
     requires may { MayTurn mem.old core.old regs.now cache.old reach.old }
     ensures ends { (lines : Lines) → pending regs.now core.old.csrs lines ≡ None →
-        EndsBy result.left result.made mem.old (core_of core.old regs.now) lines mem.new (core_of core.new regs.now) }
-    ensures most { turns_of result ≤ 1 }
+        EndsBy (batch_of result).left (batch_of result).made mem.old (core_of core.old regs.now) lines mem.new (core_of core.new regs.now) }
+    ensures most { turns_of (batch_of result) ≤ 1 }
     ensures on { GoesOn mem.old mem.new core.old core.new regs.now cache.old cache.new }
     ensures reach { ReachAgrees mem.new.tables reach.new }
 {
     let Some(word) = word_at_pc(core, regs, cache, reach, mem) else {
-        return Batch::none();
+        return Lone::Stopped;
     };
     let tried = carry_out::<Alone>(core, regs, cache, reach, mem, words.micro_op(core.pc, word));
     if tried.is_made() {
-        return Batch {
-            made: 1,
-            left: Leaving::Stays,
-        };
+        return Lone::Made;
     }
-    Batch {
-        made: 0,
-        left: leave_by(core, regs, word),
-    }
+    Lone::left(leave_by(core, regs, word))
 }
 
 /// Up to `most` turns of a hart in a row, each of whose attempts carries out its instruction, and one after them that leaves
@@ -201,7 +244,7 @@ pub fn quick_turns(
     ensures count { words.new ≡ words.old + turns_of result }
 {
     let batch = if most == 1 {
-        one_turn(&mut words.micro_op, core, regs, cache, reach, mem)
+        one_turn(&mut words.micro_op, core, regs, cache, reach, mem).batch()
     } else {
         batch_of_turns(&mut words.micro_op, core, regs, cache, reach, mem, most)
     };
