@@ -3,8 +3,8 @@ use Rattle.std.specs.Prelude.{ℕ, ◌+◌, Bool, true, false}
 use Rattle.hw_fast_path.specs.declared.leaving.Leaving.{Leaving}
 use Rattle.hw_fast_path.specs.declared.leaving.Leaving.TheVariants.{Stays, Calls, Returns}
 use Rattle.hw_fast_path.specs.declared.batch.Batch.{Batch}
-use Rattle.hw_fast_path.specs.declared.batch.Lone.{Lone}
-use Rattle.hw_fast_path.specs.declared.batch.Lone.TheVariants as Lone
+use Rattle.hw_fast_path.specs.declared.batch.LoneTurn.{LoneTurn}
+use Rattle.hw_fast_path.specs.declared.batch.LoneTurn.TheVariants as LoneTurn
 
 -- the turn after it was made
 abbrev pub is_left : Leaving → Bool
@@ -22,8 +22,8 @@ abbrev pub turns_of : Batch → ℕ
 turns_of batch = with_leaving batch.left batch.made
 
 -- the row that a turn by itself is
-abbrev pub batch_of : Lone → Batch
-batch_of Lone.Stopped = record { made = 0; left = Stays }
-batch_of Lone.Made = record { made = 1; left = Stays }
-batch_of Lone.Calls = record { made = 0; left = Calls }
-batch_of Lone.Returns = record { made = 0; left = Returns }
+abbrev pub batch_of : LoneTurn → Batch
+batch_of LoneTurn.Stopped = record { made = 0; left = Stays }
+batch_of LoneTurn.Made = record { made = 1; left = Stays }
+batch_of LoneTurn.Calls = record { made = 0; left = Calls }
+batch_of LoneTurn.Returns = record { made = 0; left = Returns }

@@ -15,13 +15,19 @@ ghost use Rattle.hw_fast_path.specs.declared.leaving.Leaving.TheVariants.{Stays}
 use crate::leaving::{Leaving, leave, leave_by};
 use crate::micro_op_cache::{FlatWords, MicroOpCache};
 use crate::requests::carry_out;
-use crate::tried::{Alone, InRow, Tried};
+use crate::tried::Tried;
 use crate::window::{Window, at_pc, word_at_pc};
 use hart::Core;
 use host_mem::HostMem;
 use hw_tlb::Reach;
 use hw_tlb::gstage_cache::Cache;
 use spec_processor::HRegs;
+
+// The two callers of an effect, each of which has an instance of its table: LLVM builds in what has one caller, and this is
+// too large for it otherwise.
+struct InRow;
+
+struct Alone;
 
 // A turn, with the window after it.
 #[inline(always)]
@@ -97,29 +103,29 @@ impl Batch {
     }
 }
 
-/// What became of a turn by itself: a row of at most one, in one byte.
+// What became of a turn by itself: a row of at most one, in a byte.
 #[derive(Clone, Copy, Drop)]
-enum Lone {
-    /// It wasn't made.
+enum LoneTurn {
+    // It wasn't made.
     Stopped,
-    /// Its instruction was carried out.
+    // Its instruction was carried out.
     Made,
-    /// It left the guest by ECALL in user mode.
+    // It left the guest by ECALL in user mode.
     Calls,
-    /// It left the guest by SRET in kernel mode.
+    // It left the guest by SRET in kernel mode.
     Returns,
 }
 
-impl Lone {
+impl LoneTurn {
     // A turn that carried out nothing.
     #[inline(always)]
-    fn left(by: Leaving) -> Lone
+    fn left(by: Leaving) -> LoneTurn
         ensures { batch_of result ≡ record { made = 0; left = by } }
     {
         match by {
-            Leaving::Stays => Lone::Stopped,
-            Leaving::Calls => Lone::Calls,
-            Leaving::Returns => Lone::Returns,
+            Leaving::Stays => LoneTurn::Stopped,
+            Leaving::Calls => LoneTurn::Calls,
+            Leaving::Returns => LoneTurn::Returns,
         }
     }
 
@@ -129,16 +135,16 @@ impl Lone {
         ensures { result ≡ batch_of self }
     {
         match self {
-            Lone::Stopped => Batch::none(),
-            Lone::Made => Batch {
+            LoneTurn::Stopped => Batch::none(),
+            LoneTurn::Made => Batch {
                 made: 1,
                 left: Leaving::Stays,
             },
-            Lone::Calls => Batch {
+            LoneTurn::Calls => Batch {
                 made: 0,
                 left: Leaving::Calls,
             },
-            Lone::Returns => Batch {
+            LoneTurn::Returns => Batch {
                 made: 0,
                 left: Leaving::Returns,
             },
@@ -196,7 +202,7 @@ fn one_turn(
     cache: &mut Cache,
     reach: &mut Reach,
     mem: &mut HostMem,
-) -> Lone
+) -> LoneTurn
     requires may { MayTurn mem.old core.old regs.now cache.old reach.old }
     ensures ends { (lines : Lines) → pending regs.now core.old.csrs lines ≡ None →
         EndsBy (batch_of result).left (batch_of result).made mem.old (core_of core.old regs.now) lines mem.new (core_of core.new regs.now) }
@@ -205,13 +211,13 @@ fn one_turn(
     ensures reach { ReachAgrees mem.new.tables reach.new }
 {
     let Some(word) = word_at_pc(core, regs, cache, reach, mem) else {
-        return Lone::Stopped;
+        return LoneTurn::Stopped;
     };
     let tried = carry_out::<Alone>(core, regs, cache, reach, mem, words.micro_op(core.pc, word));
     if tried.is_made() {
-        return Lone::Made;
+        return LoneTurn::Made;
     }
-    Lone::left(leave_by(core, regs, word))
+    LoneTurn::left(leave_by(core, regs, word))
 }
 
 /// Up to `most` turns of a hart in a row, each of whose attempts carries out its instruction, and one after them that leaves

@@ -73,10 +73,11 @@ fn releases(imm: i64) -> bool
 impl MicroOp {
     /// What the word's instruction does on these registers at this pc, or asks of the rest of the machine. None where the word
     /// has no instruction, or one that isn't carried out in a row. It is a table of one line for each operation: it is one
-    /// function, after whose one dispatch the operation is known, so that nothing looks at it again.
+    /// function, after whose one dispatch the operation is known, so that nothing looks at it again. Each caller has an
+    /// instance of its own.
     #[tactic(auto, unfolding(crate::specs::MicroOp::flat_instr))]
     #[inline(always)]
-    pub(crate) fn effect<Place>(&self, regs: &Regs, pc: u64) -> Option<Effect>
+    pub(crate) fn effect<Caller>(&self, regs: &Regs, pc: u64) -> Option<Effect>
         ensures effect { IfSome result (λ e. word_effect self.now.word regs.now pc ≡ Some e) }
         ensures request { pc % instruction_size ≡ 0 → IfSome result IsRequest }
     {

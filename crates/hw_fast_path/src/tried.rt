@@ -39,9 +39,3 @@ impl Tried {
         }
     }
 }
-
-/// The turn is one of a row.
-pub(crate) struct InRow;
-
-/// The turn stands alone.
-pub(crate) struct Alone;
