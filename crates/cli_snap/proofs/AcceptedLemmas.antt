@@ -45,10 +45,8 @@ module _ (held : List ℕ → Option (List ℕ)) (save : Option (List ℕ)) wher
   found_same : (part : Part) (other next : List ℕ → Plan) (found : Found) → ((bytes : List ℕ) → SameBut (other bytes) (next bytes)) →
       SameBut (found_plan part other found) (found_plan part next found)
   unfolding found_plan
-  found_same part other next Faulty same = refl
-  found_same part other next Missing same = refl
-  found_same part other next Longer same = refl
   found_same part other next (Held bytes) same = same bytes
+  found_same part other next _ same = refl
 
   part_same : {F : Type 0} (file_fault : F → FileFault) (other next : Plan) (fault : Option F) → SameBut other next →
       SameBut (part_judged file_fault other fault) (part_judged file_fault next fault)
@@ -148,8 +146,6 @@ words_by : (held : List ℕ → Option (List ℕ)) (line : SnapLine) (save : Lis
     snap_judged (snap_line line) ≡ snap_words (snap_of_line line) source count →
     due_in held (plan_of (run_words (split_of line save) source count)) ≡ RunFrom start events kept → SnapAccepted held line start events
 unfolding plan_of command_plan run_words snap_words snap_plan
-words_by held line save None count start events kept words due = absurd (cc due)
-words_by held line save (Some source) None start events kept words due = absurd (cc due)
 words_by held line save (Some source) (Some count) start events kept words due =
     let asked : RunWords = unsaved_run line.kind line.image line.policy line.disk source count in
     record {
@@ -158,6 +154,7 @@ words_by held line save (Some source) (Some count) start events kept words due =
       out = refl;
       due = run_same held None (record asked { save = unless_none save }) ∙ ap (with_save None) due;
     }
+words_by held line save _ _ start events kept words due = absurd (cc due)
 
 -- the names of the commands
 snap_named : (kind : DiskKind) → name_of (snap_name kind) ≡ Some (command.Snap kind)

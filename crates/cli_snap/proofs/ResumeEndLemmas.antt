@@ -61,10 +61,8 @@ module _ (held : List ℕ → Option (List ℕ)) where
   script_due : (source : Source) (harts : ℕ) (script : Schedule) (next : Schedule → Plan) → HoldScript held source harts script →
       due_in held (script_part harts source next) ≡ due_in held (next script)
   unfolding script_part
-  script_due Rounds harts script next is = ap (λ (s : Schedule). due_in held (next s)) (sym is)
-  script_due (Auto number) harts script next is = ap (λ (s : Schedule). due_in held (next s)) (sym is)
-  script_due (Bursts number) harts script next is = ap (λ (s : Schedule). due_in held (next s)) (sym is)
   script_due (Text name) harts script next it = text_due name harts script next it
+  script_due _ harts script next is = ap (λ (s : Schedule). due_in held (next s)) (sym is)
 
   words_due : (words : ResumeWords) (s : Contents) (rules : Rules) (script : Schedule) → HoldResumable held words s rules script →
       due_in held (words_plan words) ≡ RunFrom (resumed_state rules s) (events_after s.events words.events script) words.save

@@ -77,10 +77,8 @@ none_passed (p ∷ ps) none =
 
 calm_of : (v : Verdict) → pass_of v ≡ [] → IsNoWrite v
 unfolding pass_of
-calm_of Running none = tt
-calm_of Shutdown none = tt
-calm_of (Stopped (Entry target) h turn) none = tt
 calm_of (Stopped (Write pc gpa) h turn) none = absurd (cc none)
+calm_of _ none = tt
 
 same_run : (r : State) (events : List Event) → passes r events ≡ [] → survey r events ≡ run r events
 same_run r [] none = refl

@@ -103,11 +103,9 @@ module _ (words : ConvertSplit) (files : FilesState) where
   kernel_done : (before : FilesState) (asked : List ℕ) (limit : ℕ) → before ≡ after_asking asked limit files → (text : List ℕ) (given : Rules)
       → HasPolicy text given → DoneAs (IsBoundDue words files) before (binding_plan words given)
   unfolding binding_plan kernel_part found_plan
-  kernel_done before asked limit was text given has Faulty now found = λ e. absurd (cc e)
-  kernel_done before asked limit was text given has Missing now found = λ e. absurd (cc e)
-  kernel_done before asked limit was text given has Longer now found = λ e. absurd (cc e)
   kernel_done before asked limit was text given has (Held file) now found =
       kernel_by now text given file (kernel_refusal file given.ram_pages) has (still_holds files before asked limit words.kernel file was found.1) refl
+  kernel_done before asked limit was text given has _ now found = λ e. absurd (cc e)
 
   policy_by : (before : FilesState) (asked : List ℕ) (limit : ℕ) → before ≡ after_asking asked limit files → (text : List ℕ) (judged : Judged Rules)
       → Holds files words.given text → rules_of_text text ≡ judged → DoneAs (IsBoundDue words files) before (policy_judged (binding_plan words) judged)
@@ -116,10 +114,8 @@ module _ (words : ConvertSplit) (files : FilesState) where
 
   convert_done : DoneAs (IsBoundDue words files) files (convert_plan words)
   unfolding convert_plan policy_part found_plan
-  convert_done Faulty now found = λ e. absurd (cc e)
-  convert_done Missing now found = λ e. absurd (cc e)
-  convert_done Longer now found = λ e. absurd (cc e)
   convert_done (Held text) now found = policy_by now _ _ found.2 text (rules_of_text text) found.1 refl
+  convert_done _ now found = λ e. absurd (cc e)
 
   words_done : DoneAs (IsBoundDue words files) files (plan_of (Ok (Convert words)))
   unfolding plan_of command_plan
