@@ -1,4 +1,4 @@
-pub mod OneEvent
+pub mod EventRows
 pub mod Drawing
 pub mod Standings
 pub mod OneRun

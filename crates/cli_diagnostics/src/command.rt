@@ -4,7 +4,7 @@ use crate::converting::{ConvertNames, convert_files};
 use crate::files::{Found, MostBytes, Reread};
 use crate::making::{MakingNames, making_files};
 use crate::resuming::{ResumeNames, resume_files, snapshot_file};
-use crate::running::{RunNames, flat_file, run_files};
+use crate::running::{RunNames, flat_file, image_file, run_files};
 use cli_plans::command_words::{CommandName, Naming, named};
 use std::alloc::Global;
 use std::thread::Threads;
@@ -211,6 +211,13 @@ fn show_words<A: Reread>(
         [saved] => {
             let _good = snapshot_file(alloc, files, most.snapshot, saved.as_str())?;
             Ok(())
+        }
+        [saved, kernel] => {
+            let snapshot = snapshot_file(alloc, files, most.snapshot, saved.as_str())?;
+            match u32::try_from(snapshot.machine.protection.len()) {
+                Ok(pages) => image_file(alloc, files, most.image, kernel.as_str(), pages),
+                Err(_) => Ok(()),
+            }
         }
         _ => Ok(()),
     }

@@ -1,6 +1,7 @@
 // What there is to say of a run that a broken rule stopped, or in which a module was refused.
 
-ghost use Rattle.std.specs.Prelude.{◌<◌};
+ghost use Rattle.std.specs.Prelude.{◌≡◌, ◌<◌, ◌⊎◌, true, Some};
+ghost use Rattle.std.specs.Option.{ForSome};
 
 use crate::files::{Found, MostBytes, Reread, read_part};
 use crate::running::policy_file;
@@ -169,7 +170,10 @@ fn text_word(guest: &Guest<'_>, pc: u64) -> Option<u32> {
 }
 
 // How far a pc is from the start of a text segment, by its virtual address, or else by its physical one.
-fn offset_in(segment: &Segment<'_>, pc: u64) -> Option<u64> {
+fn offset_in(segment: &Segment<'_>, pc: u64) -> Option<u64>
+    ensures inside { ForSome result (λ offset. offset < segment.now.memory) }
+    ensures text { ForSome result (λ _. segment.now.executable ≡ true) }
+{
     if !segment.executable {
         return None;
     }
@@ -223,7 +227,9 @@ fn nearest_entry(entries: &[u64], target: u64) -> Option<u64> {
     nearest
 }
 
-fn nearer(entry: u64, other: Option<u64>, target: u64) -> u64 {
+fn nearer(entry: u64, other: Option<u64>, target: u64) -> u64
+    ensures { (result ≡ entry) ⊎ (other ≡ Some result) }
+{
     match other {
         Some(other) if other.abs_diff(target) <= entry.abs_diff(target) => other,
         _ => entry,

@@ -1,7 +1,7 @@
 // The files of a command, and what is found in them.
 
 ghost use Rattle.cli_diagnostics.specs.declared.files.Found.TheVariants.{Nothing};
-ghost use Rattle.std.specs.Prelude.{◌≡◌};
+ghost use Rattle.std.specs.Prelude.{◌≡◌, ◌≤◌, IfOk, length};
 
 use std::alloc::{AllocError, AllocFailed, Global};
 
@@ -76,7 +76,9 @@ pub(crate) fn read_part<A: Reread>(
     files: &A,
     name: &str,
     most: usize,
-) -> Result<Vec<u8>, Found> {
+) -> Result<Vec<u8>, Found>
+    ensures { IfOk result (λ bytes. length bytes.items ≤ most) }
+{
     match files.first_bytes(alloc, name, most.saturating_add(1)) {
         Some(bytes) => {
             if bytes.len() > most {

@@ -50,7 +50,8 @@ pub(crate) fn run_files<A: Reread>(
     script_file(alloc, files, most.script, names.script, policy.harts)
 }
 
-fn image_file<A: Reread>(
+/// A kernel's file, which is read.
+pub(crate) fn image_file<A: Reread>(
     alloc: Global,
     files: &A,
     most: usize,

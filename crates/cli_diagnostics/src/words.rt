@@ -85,12 +85,25 @@ fn other_shape(alloc: Global, row: &CommandRow, rest: &[String]) -> Result<WordR
         });
     }
     let (name, count) = (row.name, rest.len());
-    let wanted = arguments_of(row.command).len();
+    let wanted = wanted_words(alloc, arguments_of(row.command))?;
+    let wanted = wanted.as_str();
     Ok(WordRemark {
         what: format!(in alloc; "{count} words after {name}")?,
         permitted: format!(in alloc; "{wanted} of them, as in the next line")?,
         usage: usage(alloc, row)?,
     })
+}
+
+// How many words a command has, of which the last one may be left out.
+fn wanted_words(alloc: Global, arguments: &[Argument<'_>]) -> Result<String, AllocError> {
+    let most = arguments.len();
+    match arguments.last() {
+        Some(Argument::Maybe(_)) => {
+            let fewest = most.saturating_sub(1);
+            format!(in alloc; "{fewest} or {most}")
+        }
+        _ => format!(in alloc; "{most}"),
+    }
 }
 
 fn permitted(name: &str) -> &'static str {
@@ -106,7 +119,7 @@ fn permitted(name: &str) -> &'static str {
 fn value_of<'a>(row: &CommandRow, rest: &'a [String], name: &str) -> &'a str {
     for (place, argument) in arguments_of(row.command).iter().enumerate() {
         match argument {
-            Argument::One(one) => {
+            Argument::One(one) | Argument::Maybe(one) => {
                 if *one == name {
                     return word_at(rest, place);
                 }
@@ -156,6 +169,11 @@ pub(crate) fn usage(alloc: Global, row: &CommandRow) -> Result<String, AllocErro
         line.push_str(" ")?;
         match argument {
             Argument::One(name) => line.push_str(name)?,
+            Argument::Maybe(name) => {
+                line.push_str("[")?;
+                line.push_str(name)?;
+                line.push_str("]")?;
+            }
             Argument::Any(name) => {
                 line.push_str(name)?;
                 line.push_str("...")?;

@@ -18,7 +18,8 @@ use Rattle.cli_debug.specs.DebugAnswers.{DebugHeadline, wire}
 use Rattle.cli_snap.specs.ResumePlans.{resume_plan}
 use Rattle.cli_trials.specs.SweepAnswers.{MayAsk as MaySweep, SweepHeadline, sweep_plan}
 use Rattle.cli_trials.specs.ShrinkAnswers.{MayAsk as MayShrink, ShrinkHeadline, out_of as small_script_name}
-use Rattle.cli_snap.specs.Showing.{name_in, held_shown}
+use Rattle.cli_plans.specs.Commands.{ShowSplit}
+use Rattle.cli_snap.specs.Showing.{asked_in, held_shown}
 use Rattle.cli_snap.specs.Answers.{MayAsk, Headline as ShowHeadline, Answers as Shows}
 use Rattle.cli_dispatch.specs.declared.choice.TopCall.{TopCall}
 use Rattle.cli_dispatch.specs.declared.choice.TopCall.TheVariants.{Live, Snap, Sweep, Shrink, Resume, Show, Others, Survey, Debug}
@@ -33,7 +34,7 @@ MayAnswer Snap words files = MayFollow (snap_plan (snap_judged words)) files × 
 MayAnswer Sweep words files = MaySweep (sweep_judged words) files
 MayAnswer Shrink words files = MayShrink (shrink_judged words) files
 MayAnswer Resume words files = MayFollow (resume_plan (resume_judged words)) files
-MayAnswer Show words files = MayAsk (name_in words) files
+MayAnswer Show words files = MayAsk (asked_in words) files
 MayAnswer Others words files = MayFollow (plan_of (judgement_of_words words)) files
 
 -- ---- what each call owes
@@ -116,10 +117,10 @@ pub record PlanOwed (plan : Plan) (is_good : Bool) (old new : LiveOutside) (answ
 
 -- `show`
 pub record ShowOwed (words : List (List ℕ)) (old new : LiveOutside) (answer : Status) : Type 0 where
-  pub headline : ShowHeadline (name_in words) old.files new.files old.sink new.sink answer
+  pub headline : ShowHeadline (asked_in words) old.files new.files old.sink new.sink answer
   -- in files that tell what they hold, what is shown is that
-  pub told : (name : List ℕ) → name_in words ≡ Some name → IsTrue old.files.tells → new.files.read_faults ≡ old.files.read_faults →
-      Shows (held_shown (old.files.held name)) old.sink new.sink answer
+  pub told : (asked : ShowSplit) → asked_in words ≡ Some asked → IsTrue old.files.tells → new.files.read_faults ≡ old.files.read_faults →
+      Shows (held_shown old.files.held asked) old.sink new.sink answer
   pub unsaved : SavesNothing old.files new.files
   pub keys : new.keys ≡ old.keys
   pub bench : new.bench ≡ old.bench

@@ -181,6 +181,7 @@ resume_read _ known plain = absurd (true≢false (sym known))
 show_read : (words : List Text) → is_some (show_split words) ≡ true → list_any has_dash words ≡ false
     → IsRead show_wants show_found words (show_split words)
 show_read (a ∷ []) known plain = read_by _ _ show_is _ _ _ plain refl (refl, tt) refl
+show_read (a ∷ b ∷ []) known plain = read_by _ _ show_is _ _ _ plain refl (refl, tt) refl
 show_read _ known plain = absurd (true≢false (sym known))
 
 convert_read : (words : List Text) → is_some (convert_split words) ≡ true → list_any has_dash words ≡ false

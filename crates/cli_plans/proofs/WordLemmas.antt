@@ -33,7 +33,7 @@ use Rattle.cli_plans.specs.CommandLine.{drawn_order_of, resume_words, resume_of,
 use Rattle.cli_plans.specs.CommandLine.{terms_judged, making_words, making_judged, flat_judged, gen_judged, run_judged, split_judged}
 use Rattle.cli_plans.specs.CommandLine.{command_after, live_after, snap_after, sweep_after, shrink_after, resume_after}
 use Rattle.cli_plans.specs.CommandLine.{named_judged, judgement_of_words, live_judged, snap_judged, sweep_judged, shrink_judged}
-use Rattle.cli_plans.specs.CommandLine.{resume_judged, survey_words, survey_of, debug_after, debug_judged}
+use Rattle.cli_plans.specs.CommandLine.{resume_judged, survey_words, survey_after, survey_judged, survey_of, debug_after, debug_judged}
 
 -- ---- so many words are of no command
 
@@ -77,9 +77,10 @@ pub not_resume : (words : List (List ℕ)) → length words ≢ 5 → resume_spl
 not_resume (a ∷ b ∷ c ∷ d ∷ e ∷ []) other = absurd (other refl)
 not_resume _ other = refl
 
-pub not_show : (words : List (List ℕ)) → length words ≢ 1 → show_split words ≡ None
-not_show (a ∷ []) other = absurd (other refl)
-not_show _ other = refl
+pub not_show : (words : List (List ℕ)) → length words ≢ 1 → length words ≢ 2 → show_split words ≡ None
+not_show (a ∷ []) other more = absurd (other refl)
+not_show (a ∷ b ∷ []) other more = absurd (more refl)
+not_show _ other more = refl
 
 -- ---- words that were judged good
 
@@ -310,6 +311,14 @@ debug_after_no_fault _ rest = λ e. cc e
 pub debug_no_read_fault : (words : List (List ℕ)) → NoReadFault (debug_judged words)
 unfolding debug_judged
 debug_no_read_fault words = named_no_fault debug_after (named_words words) debug_after_no_fault
+
+survey_after_no_fault : (name : CommandName) (rest : List (List ℕ)) → NoReadFault (survey_after name rest)
+survey_after_no_fault command.Survey rest = split_no_fault survey_of (survey_split rest) (λ w. survey_no_fault w.image w.policy w.disk (source_of w.script) (number_within 0 max_events w.events))
+survey_after_no_fault _ rest = λ e. cc e
+
+pub survey_no_read_fault : (words : List (List ℕ)) → NoReadFault (survey_judged words)
+unfolding survey_judged
+survey_no_read_fault words = named_no_fault survey_after (named_words words) survey_after_no_fault
 
 resume_after_no_fault : (name : CommandName) (rest : List (List ℕ)) → NoReadFault (resume_after name rest)
 resume_after_no_fault command.Resume rest = split_no_fault resume_of (resume_split rest) (λ w. resume_no_fault w.saved w.policy w.save (source_of w.script) (number_within 0 max_events w.events))

@@ -5,7 +5,7 @@ use Rattle.std.specs.Str.{bytes_eq}
 use Rattle.cli_plans.specs.declared.command_words.command.DiskKind.{DiskKind}
 use Rattle.cli_plans.specs.declared.command_words.table.CommandName.{CommandName}
 use Rattle.cli_plans.specs.declared.command_words.table.CommandName.TheVariants as command
-use Rattle.cli_plans.specs.Commands.{Named, FlatSplit, RunSplit, SurveySplit, LiveSplit, SnapSplit, SweepSplit, ResumeSplit, MeasureSplit}
+use Rattle.cli_plans.specs.Commands.{Named, FlatSplit, RunSplit, SurveySplit, LiveSplit, SnapSplit, SweepSplit, ResumeSplit, ShowSplit, MeasureSplit}
 use Rattle.cli_plans.specs.Commands.{ConvertSplit, flat_split, gen_split, run_split, survey_split, live_split, snap_split, sweep_split}
 use Rattle.cli_plans.specs.Commands.{resume_split, show_split, measure_split, convert_split, named_words}
 use Rattle.sv_types.specs.Numbers.{number_within, digest_of}
@@ -347,7 +347,7 @@ abbrev pub resume_after : CommandName → List (List ℕ) → Result ResumeWords
 resume_after command.Resume rest = split_judged resume_of (resume_split rest)
 resume_after _ rest = Err NoCommand
 
-abbrev pub show_after : CommandName → List (List ℕ) → Result (List ℕ) Refusal
+abbrev pub show_after : CommandName → List (List ℕ) → Result ShowSplit Refusal
 show_after command.Show rest = split_judged Ok (show_split rest)
 show_after _ rest = Err NoCommand
 
@@ -383,6 +383,5 @@ shrink_judged words = named_judged shrink_after (named_words words)
 unfoldable pub resume_judged : List (List ℕ) → Result ResumeWords Refusal
 resume_judged words = named_judged resume_after (named_words words)
 
--- the name of the snapshot
-unfoldable pub show_judged : List (List ℕ) → Result (List ℕ) Refusal
+unfoldable pub show_judged : List (List ℕ) → Result ShowSplit Refusal
 show_judged words = named_judged show_after (named_words words)

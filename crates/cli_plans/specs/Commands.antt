@@ -70,6 +70,12 @@ pub record ResumeSplit : Type 0 where
   pub events : List ℕ
   pub save : List ℕ
 
+-- show SNAPSHOT, or SNAPSHOT KERNEL
+pub record ShowSplit : Type 0 where
+  pub saved : List ℕ
+  -- whose symbols name addresses, where it is given
+  pub kernel : Option (List ℕ)
+
 -- measure OUT KERNEL RAM HARTS ENTRIES INIT MODULES..
 pub record MeasureSplit : Type 0 where
   pub out : List ℕ
@@ -183,8 +189,9 @@ resume_split (saved ∷ policy ∷ script ∷ events ∷ save ∷ []) =
     Some (record { saved = saved; policy = policy; script = script; events = events; save = save })
 resume_split _ = None
 
-abbrev pub show_split : List (List ℕ) → Option (List ℕ)
-show_split (saved ∷ []) = Some saved
+abbrev pub show_split : List (List ℕ) → Option ShowSplit
+show_split (saved ∷ []) = Some (record { saved = saved; kernel = None })
+show_split (saved ∷ kernel ∷ []) = Some (record { saved = saved; kernel = Some kernel })
 show_split _ = None
 
 abbrev pub measure_split : List (List ℕ) → Option MeasureSplit

@@ -8,7 +8,7 @@ use Rattle.cli_plans.specs.declared.command_words.table.CommandName.{CommandName
 use Rattle.cli_plans.specs.declared.command_words.table.CommandName.TheVariants as command
 use Rattle.cli_plans.specs.declared.command_words.table.Argument.{Argument}
 use Rattle.cli_plans.specs.declared.command_words.table.Argument.TheVariants as argument
-use Rattle.cli_plans.specs.Commands.{FlatSplit, RunSplit, SurveySplit, LiveSplit, SnapSplit, SweepSplit, ResumeSplit, MeasureSplit}
+use Rattle.cli_plans.specs.Commands.{FlatSplit, RunSplit, SurveySplit, LiveSplit, SnapSplit, SweepSplit, ResumeSplit, ShowSplit, MeasureSplit}
 use Rattle.cli_plans.specs.Commands.{ConvertSplit, flat_split, gen_split, run_split, survey_split, live_split, snap_split, sweep_split}
 use Rattle.cli_plans.specs.Commands.{resume_split, show_split, measure_split, convert_split}
 
@@ -16,11 +16,14 @@ use Rattle.cli_plans.specs.Commands.{resume_split, show_split, measure_split, co
 pub data Want : Type 0 where
   -- one word
   One : Text → Want
+  -- one word, or none
+  Maybe : Text → Want
   -- any number of words, none too
   Any : Text → Want
 
 abbrev pub want_of : Argument → Want
 want_of (argument.One name) = One name.now
+want_of (argument.Maybe name) = Maybe name.now
 want_of (argument.Any name) = Any name.now
 
 abbrev pub flat_wants : List Want
@@ -50,7 +53,7 @@ abbrev pub resume_wants : List Want
 resume_wants = One (codes "SNAPSHOT") ∷ One (codes "POLICY") ∷ One (codes "SCRIPT") ∷ One (codes "EVENTS") ∷ One (codes "SAVE") ∷ []
 
 abbrev pub show_wants : List Want
-show_wants = One (codes "SNAPSHOT") ∷ []
+show_wants = One (codes "SNAPSHOT") ∷ Maybe (codes "KERNEL") ∷ []
 
 abbrev pub measure_wants : List Want
 measure_wants =
@@ -78,6 +81,7 @@ wants_of command.Convert = convert_wants
 
 abbrev pub rule_of_want : Want → Rule
 rule_of_want (One name) = record (new_rule name) { required = true; action = Some Set }
+rule_of_want (Maybe name) = record (new_rule name) { action = Some Set }
 rule_of_want (Any name) = record (new_rule name) { action = Some Append }
 
 abbrev pub with_want : App → Want → App
@@ -96,6 +100,7 @@ app_of_wants wants = fold with_want bare_app wants
 abbrev pub HasWords : List Want → List Row → Type 0
 HasWords [] rows = ⊤
 HasWords (One name ∷ rest) rows = IsTrue (is_some (first_of name rows)) × HasWords rest rows
+HasWords (Maybe name ∷ rest) rows = HasWords rest rows
 HasWords (Any name ∷ rest) rows = HasWords rest rows
 
 abbrev pub word_of : Text → List Row → Text
@@ -172,8 +177,8 @@ resume_found rows = record {
   save = word_of (codes "SAVE") rows;
 }
 
-abbrev pub show_found : List Row → List ℕ
-show_found rows = word_of (codes "SNAPSHOT") rows
+abbrev pub show_found : List Row → ShowSplit
+show_found rows = record { saved = word_of (codes "SNAPSHOT") rows; kernel = first_of (codes "KERNEL") rows }
 
 abbrev pub modules_found : List Row → List Text
 modules_found rows = unwrap_or (all_of (codes "MODULES") rows) []

@@ -14,9 +14,12 @@ ghost use Rattle.cli_plans.specs.CommandLine.{debug_after, debug_judged};
 ghost use Rattle.cli_plans.specs.Words.{IsAsked, IsInRange, IsDrawnRun, IsBlockRun, AreNumbers, command_of, live_value, snap_value};
 ghost use Rattle.cli_plans.specs.Words.{sweep_value, resume_value, IsSurveyRun, run_value, named_run, run_names, source_value};
 ghost use Rattle.cli_plans.specs.Parsing.{HasWords};
+ghost use Rattle.cli_plans.specs.Values.{show_split_of};
 ghost use Rattle.cli_plans.specs.declared.asking.Unread.TheVariants.{Refused, Memory};
 
-use crate::command_words::{CommandName, ConvertWords, DiskKind, find, modules, named, word};
+use crate::command_words::{
+    CommandName, ConvertWords, DiskKind, ShowWords, find, modules, named, word, word_if_any,
+};
 use crate::judgement::{
     judge_convert, judge_flat, judge_generated, judge_live, judge_measure, judge_resume, judge_run,
     judge_show, judge_snap, judge_survey, judge_sweep,
@@ -167,7 +170,8 @@ fn run_of<'a>(
     save: Option<&'a str>,
 ) -> Run<'a>
     requires { HasWords run_names (rows_of (found_of names.now)) }
-    ensures value { run_value result ≡ named_run kind (rows_of (found_of names.now)) (source_value order.entry.script) order.entry.events (option_copied save.entry) }
+    ensures value { run_value result ≡
+        named_run kind (rows_of (found_of names.now)) (source_value order.entry.script) order.entry.events (option_copied save.entry) }
     ensures kind { result.kind ≡ kind }
     ensures script { result.script ≡ order.entry.script }
     ensures events { result.events ≡ order.entry.events }
@@ -435,10 +439,10 @@ fn resume_after<'a>(
     })
 }
 
-/// The snapshot that words ask `show` for.
+/// What words ask `show` for.
 #[tactic(auto, unfolding(crate::specs::CommandLine::show_judged))]
-pub fn ask_show<'a>(alloc: Global, words: &'a [String]) -> Result<&'a str, Unread>
-    ensures { IsAsked (λ name. name.now) (show_judged (map string_bytes words.now)) result }
+pub fn ask_show<'a>(alloc: Global, words: &'a [String]) -> Result<ShowWords<'a>, Unread>
+    ensures { IsAsked show_split_of (show_judged (map string_bytes words.now)) result }
 {
     match named(words) {
         Some(naming) => show_after(alloc, naming.command, naming.rest),
@@ -451,14 +455,17 @@ fn show_after<'a>(
     alloc: Global,
     command: CommandName,
     rest: &'a [String],
-) -> Result<&'a str, Unread>
+) -> Result<ShowWords<'a>, Unread>
     requires plain { list_any has_dash (map string_bytes rest.now) ≡ false }
-    ensures { IsAsked (λ name. name.now) (show_after command (map string_bytes rest.now)) result }
+    ensures { IsAsked show_split_of (show_after command (map string_bytes rest.now)) result }
 {
     let CommandName::Show = command else {
         return Err(Unread::Refused(Refusal::NoCommand));
     };
     judge_show(rest)?;
     let names = find(alloc, CommandName::Show, rest)?;
-    Ok(word(&names, "SNAPSHOT"))
+    Ok(ShowWords {
+        saved: word(&names, "SNAPSHOT"),
+        kernel: word_if_any(&names, "KERNEL"),
+    })
 }

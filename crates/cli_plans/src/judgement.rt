@@ -184,13 +184,13 @@ pub fn judge_resume(rest: &[String]) -> Result<Order<'_>, Refusal>
     Ok(Order { script, events })
 }
 
-/// `show SNAPSHOT`
+/// `show SNAPSHOT [KERNEL]`
 #[tactic(auto, using(crate::proofs::WordLemmas::not_show))]
 pub fn judge_show(rest: &[String]) -> Result<(), Refusal>
     ensures { AreJudged (λ name _. name) Ok (show_split (map string_bytes rest.now)) result }
 {
     match rest {
-        [_] => Ok(()),
+        [_] | [_, _] => Ok(()),
         _ => Err(Refusal::NoCommand),
     }
 }

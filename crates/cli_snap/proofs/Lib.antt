@@ -18,5 +18,6 @@ pub mod ResumeClauseLemmas
 pub mod OneRun
 pub mod ResumeEndLemmas
 pub mod ShowAnswerLemmas
+pub mod SnapshotSizes
 pub mod LineLists
 pub mod PageLists

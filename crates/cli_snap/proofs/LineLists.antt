@@ -1,8 +1,9 @@
 -- Lines of one element after another, as a loop writes them.
-use Rattle.std.proofs.Common.{◌≡◌, ℕ, zero, suc, map, ◌+◌, ◌<◌, ◌≤◌, List, [], ◌∷◌, ◌++◌, length, get_or, drop, refl, sym, ap, ◌∙◌, append_assoc, arith, add-one}
+use Rattle.std.proofs.Common.{◌≡◌, Option, ℕ, zero, suc, map, ◌+◌, ◌<◌, ◌≤◌, List, [], ◌∷◌, ◌++◌, length, get_or, drop, refl, sym, ap, ◌∙◌, append_assoc, arith, add-one}
 use Rattle.std.proofs.Math.Seq.{drop-cons}
 use Rattle.std.proofs.lemmas.List.{append-nil, drop_all}
-use Rattle.cli_snap.specs.Lines.{lines_of, named_line}
+use Rattle.elf64_load.specs.Names.{KernelNames}
+use Rattle.cli_snap.specs.Lines.{lines_of, register_line}
 
 -- the lines that are left
 abbrev pub lines_from : {A : Type 0} → (ℕ → A → List ℕ) → List A → ℕ → List ℕ
@@ -35,13 +36,13 @@ name_at f [] i d e inside = absurd (omega arith)
 name_at f (x ∷ xs) zero d e inside = refl
 name_at f (x ∷ xs) (suc i) d e inside = name_at f xs i d e (omega arith)
 
--- the line of a value more, by the name at its place
-pub named_more : {A : Type 0} (f : A → List ℕ) (names : List A) (values : List ℕ) (i : ℕ) (d : A) (e : ℕ) (whole out next text line : List ℕ) →
+-- the line of a value more, by the register at its place
+pub register_more : {A : Type 0} (f : A → List ℕ) (k : Option KernelNames) (names : List A) (values : List ℕ) (i : ℕ) (d : A) (e : ℕ) (whole out next text line : List ℕ) →
     length values ≤ length names → i < length values →
-    out ++ lines_from (λ place value. named_line (get_or (map f names) place []) value) values i ≡ whole →
-    next ≡ out ++ text → text ≡ line → line ≡ named_line (f (get_or names i d)) (get_or values i e) →
-    next ++ lines_from (λ place value. named_line (get_or (map f names) place []) value) values (i + 1) ≡ whole
-named_more f names values i d e whole out next text line enough inside so_far pushed text_is line_is =
-    one_more e (λ place value. named_line (get_or (map f names) place []) value) values i whole out next inside so_far
+    out ++ lines_from (λ place value. register_line k (get_or (map f names) place []) value) values i ≡ whole →
+    next ≡ out ++ text → text ≡ line → line ≡ register_line k (f (get_or names i d)) (get_or values i e) →
+    next ++ lines_from (λ place value. register_line k (get_or (map f names) place []) value) values (i + 1) ≡ whole
+register_more f k names values i d e whole out next text line enough inside so_far pushed text_is line_is =
+    one_more e (λ place value. register_line k (get_or (map f names) place []) value) values i whole out next inside so_far
     (pushed ∙ ap (λ bytes. out ++ bytes) (text_is ∙ line_is
-    ∙ ap (λ name. named_line name (get_or values i e)) (sym (name_at f names i d [] (omega arith)))))
+    ∙ ap (λ name. register_line k name (get_or values i e)) (sym (name_at f names i d [] (omega arith)))))

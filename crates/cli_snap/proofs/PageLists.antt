@@ -4,7 +4,8 @@ use Rattle.std.proofs.Math.Seq.{drop-cons}
 use Rattle.std.proofs.lemmas.List.{drop_all}
 use Rattle.sv_types.specs.declared.protection.Protection.{Protection}
 use Rattle.cli_snap.specs.declared.show.pages.PageRun.{PageRun}
-use Rattle.cli_snap.specs.PageTexts.{run_line, next_run, ended_line, run_lines, is_same}
+use Rattle.sv_types.specs.Protections.{is_same}
+use Rattle.cli_snap.specs.PageTexts.{run_line, next_run, ended_line, run_lines}
 
 lines_left : (run : PageRun) (pages : List Protection) (i : ℕ) (d : Protection) → i < length pages →
     run_lines run (drop i pages) ≡ ended_line run (get_or pages i d) ++ run_lines (next_run run (get_or pages i d)) (drop (i + 1) pages)

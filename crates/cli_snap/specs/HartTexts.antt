@@ -5,7 +5,9 @@ use Rattle.std.specs.Fmt.{decimal}
 use Rattle.spec_processor.specs.declared.mode.Mode.{Mode}
 use Rattle.spec_reference.specs.declared.saved_machine.harts.SavedHart.{SavedHart}
 use Rattle.sv_types.specs.Output.{line_end, address_text}
-use Rattle.cli_snap.specs.Lines.{lines_of, named_line, named_lines}
+use Rattle.elf64_load.specs.Names.{KernelNames}
+use Rattle.cli_snap.specs.CodeNames.{name_after}
+use Rattle.cli_snap.specs.Lines.{lines_of, named_line, register_lines}
 
 -- registers 1 to 31: The RISC-V ABIs Specification, 1.1
 abbrev pub register_names : List (List ℕ)
@@ -37,23 +39,27 @@ unfoldable pub entry_text : Option ℕ → List ℕ
 entry_text None = []
 entry_text (Some place) = codes " entry " ++ decimal place
 
-unfoldable pub hart_head : ℕ → SavedHart → List ℕ
-hart_head number h =
+unfoldable pub hart_pc : ℕ → SavedHart → List ℕ
+hart_pc number h =
     codes "hart " ++ (decimal number ++ (codes " " ++ (standing_name h.started ++ (codes " " ++ (mode_name h.mode ++
-    (codes " pc " ++ (address_text h.pc ++ (entry_text h.entry ++ line_end))))))))
+    (codes " pc " ++ address_text h.pc))))))
+
+-- the name of the pc stands after it
+unfoldable pub hart_head : Option KernelNames → ℕ → SavedHart → List ℕ
+hart_head names number h = (hart_pc number h ++ name_after names h.pc) ++ (entry_text h.entry ++ line_end)
 
 unfoldable pub reservation_line : Option ℕ → List ℕ
 reservation_line None = []
 reservation_line (Some gpa) = named_line (codes "reservation") gpa
 
-unfoldable pub register_lines : SavedHart → List ℕ
-register_lines h = named_lines register_names (drop 1 h.registers)
+unfoldable pub integer_lines : Option KernelNames → SavedHart → List ℕ
+integer_lines names h = register_lines names register_names (drop 1 h.registers)
 
-unfoldable pub supervisor_lines : SavedHart → List ℕ
-supervisor_lines h = named_lines supervisor_names (supervisor_values h)
+unfoldable pub supervisor_lines : Option KernelNames → SavedHart → List ℕ
+supervisor_lines names h = register_lines names supervisor_names (supervisor_values h)
 
-unfoldable pub hart_text : ℕ → SavedHart → List ℕ
-hart_text number h = hart_head number h ++ register_lines h ++ supervisor_lines h ++ reservation_line h.reservation
+unfoldable pub hart_text : Option KernelNames → ℕ → SavedHart → List ℕ
+hart_text names number h = hart_head names number h ++ integer_lines names h ++ supervisor_lines names h ++ reservation_line h.reservation
 
-unfoldable pub hart_texts : List SavedHart → List ℕ
-hart_texts harts = lines_of hart_text 0 harts
+unfoldable pub hart_texts : Option KernelNames → List SavedHart → List ℕ
+hart_texts names harts = lines_of (hart_text names) 0 harts

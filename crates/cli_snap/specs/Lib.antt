@@ -11,6 +11,7 @@ pub mod SnapAndResume
 pub mod ResumeEnds
 pub mod Showing
 pub mod Answers
+pub mod CodeNames
 pub mod Lines
 pub mod HartTexts
 pub mod PageTexts

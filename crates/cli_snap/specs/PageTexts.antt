@@ -1,22 +1,11 @@
 -- The lines of pages: a line for each longest run of pages that are guarded alike, by the numbers of its first and of its
 -- last page. This project's own.
-use Rattle.std.specs.Prelude.{ℕ, ◌+◌, List, [], ◌∷◌, ◌++◌, Bool, true, false, if◌then◌else◌, codes}
+use Rattle.std.specs.Prelude.{ℕ, ◌+◌, List, [], ◌∷◌, ◌++◌, if◌then◌else◌, codes}
 use Rattle.std.specs.Fmt.{decimal}
 use Rattle.sv_types.specs.Output.{line_end}
 use Rattle.sv_types.specs.declared.protection.Protection.{Protection}
-use Rattle.sv_types.specs.declared.protection.Protection.TheVariants.{Free, Held, Approved}
+use Rattle.sv_types.specs.Protections.{is_same, protection_name}
 use Rattle.cli_snap.specs.declared.show.pages.PageRun.{PageRun}
-
-unfoldable pub protection_name : Protection → List ℕ
-protection_name Free = codes "free"
-protection_name Held = codes "held"
-protection_name Approved = codes "approved"
-
-abbrev pub is_same : Protection → Protection → Bool
-is_same Free Free = true
-is_same Held Held = true
-is_same Approved Approved = true
-is_same _ _ = false
 
 unfoldable pub run_line : PageRun → List ℕ
 run_line run =

@@ -8,6 +8,7 @@ ghost use Rattle.spec_reference.specs.States.{State};
 ghost use Rattle.spec_hardware.specs.Reaches.{IsNew};
 ghost use Rattle.sv_types.specs.Schedule.{first_events};
 ghost use Rattle.machine.specs.Console.{MayRun};
+ghost use Rattle.machine.specs.Boot.{HasDigests};
 ghost use Rattle.machine.specs.Standing.{HasState};
 ghost use Rattle.host_io.specs.Outside.{MayWrite, MaySaveUnder};
 ghost use Rattle.spec_processor.specs.Counters.{CanCount};
@@ -26,9 +27,12 @@ use cli_plans::{Snap, Unread, ask_snap};
 use host_io::{Files, Sink, write_all};
 use machine::{Machine, run};
 use script::Script;
-use secvisor_cli::{Bench, PreparedRun, Status, Stop, Trouble, refuse, status_of_end, try_place};
+use secvisor_cli::{
+    Bench, MeasuredRun, PreparedRun, Status, Stop, Trouble, refuse, status_of_end, try_place,
+};
 use std::alloc::Global;
 use std::thread::Threads;
+use sv_types::Digest;
 
 /// Does all that `snap` or `vsnap` does: judges the words, reads the files that they name, runs the machine, writes its console's bytes and
 /// no report, and saves the machine as a snapshot.
@@ -126,7 +130,7 @@ fn answer_snap<R: Threads + Sync, F: Files, O: Sink>(
 // The name is tried, and then the machine is run and saved, and stands on the bench from then on.
 fn run_on_bench<F: Files, O: Sink>(
     alloc: Global,
-    ready: PreparedRun<'_>,
+    ready: MeasuredRun<'_>,
     name: &str,
     files: &mut F,
     out: &mut O,
@@ -134,10 +138,12 @@ fn run_on_bench<F: Files, O: Sink>(
 ) -> Result<Status, Trouble>
     requires sink { MayWrite (O.state out.old) }
     requires saves { CanCount (F.state files.old).save_faults }
-    requires fresh { IsFresh ready }
-    requires starts { HasStarted ready.machine }
+    requires fresh { IsFresh ready.run }
+    requires starts { HasStarted ready.run.machine }
+    requires digests { HasDigests ready.run.machine ready.digests.items }
     requires snapshot { MaySaveUnder name.now (F.state files.old) }
-    ensures { (start : State) → IsNew ready.entry.machine start → TriesAndSnaps start (first_events ready.entry.events ready.entry.script) name.now
+    ensures { (start : State) → IsNew ready.entry.run.machine start →
+        TriesAndSnaps start (first_events ready.entry.run.events ready.entry.run.script) name.now
         (outside (F.state files.old) (O.state out.old) bench.old.machine)
         (outside (F.state files.new) (O.state out.new) bench.new.machine) result }
 {
@@ -147,10 +153,11 @@ fn run_on_bench<F: Files, O: Sink>(
         script,
         events,
         ..
-    } = ready;
+    } = ready.run;
     let order = SnapOrder {
         script,
         events,
+        digests: ready.digests,
         name,
     };
     let result = run_and_save(alloc, &mut machine, order, files, out);
@@ -158,15 +165,17 @@ fn run_on_bench<F: Files, O: Sink>(
     result
 }
 
-// The events that a machine is to make, the first `events` of the script, and the name under which its snapshot is saved then.
+// The events that a machine is to make, the first `events` of the script; the digests of its text, ascending, by which it was
+// measured; and the name under which its snapshot is saved then.
 #[derive(Drop)]
 struct SnapOrder<'a> {
     script: Script,
     events: u64,
+    digests: Vec<Digest>,
     name: &'a str,
 }
 
-// The run of a booted machine, and then its snapshot. The digests of its text are taken before the first event.
+// The run of a booted machine, and then its snapshot. Its text is listed before the first event.
 fn run_and_save<F: Files, O: Sink>(
     alloc: Global,
     machine: &mut Machine,
@@ -181,6 +190,7 @@ fn run_and_save<F: Files, O: Sink>(
     requires counts { CountsAtMost 0 machine.old.journal.counts }
     requires console { machine.old.journal.printed ≡ [] }
     requires starts { HasStarted machine.old }
+    requires digests { HasDigests machine.old order.digests.items }
     requires snapshot { MaySaveUnder order.name.now (F.state files.old) }
     ensures { (start : State) → IsNew machine.old start →
         SnapsTo start (first_events order.entry.events order.entry.script) order.entry.name.now machine.new
@@ -189,9 +199,10 @@ fn run_and_save<F: Files, O: Sink>(
     let SnapOrder {
         script,
         events,
+        digests,
         name,
     } = order;
-    let text = machine.text(alloc)?;
+    let text = machine.text(alloc, &digests)?;
     let status = run_and_print(machine, script, events, out)?;
     save_snapshot(alloc, machine, text, name, files)?;
     Ok(status)

@@ -6,6 +6,7 @@ mod harts;
 mod laws;
 mod lines;
 mod modules;
+mod names;
 mod pages;
 mod whole;
 

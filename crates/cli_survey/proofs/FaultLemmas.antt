@@ -1,7 +1,5 @@
 -- When `survey` answers a read fault.
 use Rattle.std.proofs.Common.{◌≡◌, ◌≢◌, ℕ, List, [], ◌∷◌, sym, ◌∙◌, Option, Some, None, Result, Ok, Err}
-use Rattle.sv_types.specs.Limits.{max_events}
-use Rattle.sv_types.specs.Numbers.{number_within}
 use Rattle.sv_types.specs.Output.{run_status}
 use Rattle.sv_types.specs.declared.event.Event.{Event}
 use Rattle.sv_types.specs.declared.event.Verdict.{Verdict}
@@ -12,44 +10,17 @@ use Rattle.host_io.specs.Endings.{status_of_end}
 use Rattle.host_io.specs.Outside.{FilesState}
 use Rattle.host_io.specs.declared.trouble.Trouble.{Trouble}
 use Rattle.host_io.specs.declared.trouble.Trouble.TheVariants.{Write, Memory}
-use Rattle.cli_plans.specs.CommandLine.{Source, named_judged, source_of, split_judged, survey_after, survey_judged, survey_of, survey_words}
-use Rattle.cli_plans.specs.Commands.{Named, SurveySplit, named_words, survey_split}
+use Rattle.cli_plans.specs.CommandLine.{survey_judged}
 use Rattle.cli_plans.specs.Plans.{Due, Refuse, RunFrom, Make, Plan, survey_plan, run_plan}
 use Rattle.cli_plans.specs.Reading.{Follows}
-use Rattle.cli_plans.specs.declared.command_words.table.CommandName.{CommandName}
-use Rattle.cli_plans.specs.declared.command_words.table.CommandName.TheVariants as command
 use Rattle.cli_plans.proofs.FoundFaults.{run_found_faults, asked_found_faults}
 use Rattle.cli_plans.proofs.PlanLemmas.{HasFault, HasFoundFaults}
-use Rattle.cli_plans.proofs.WordLemmas.{NoReadFault}
+use Rattle.cli_plans.proofs.WordLemmas.{NoReadFault, survey_no_read_fault}
 use Rattle.secvisor_cli.specs.Answers.{Outside, outside}
 use Rattle.secvisor_cli.proofs.TopLemmas.{refused_fault, wants_no_fault}
 use Rattle.cli_survey.specs.SurveyAnswers.{AnswersReached, PerformsSurvey, SurveysFile, image_of, survey_status}
 
--- ---- words never do
-
-words_no_fault : (image policy disk : List ℕ) (script : Option Source) (events : Option ℕ) → NoReadFault (survey_words image policy disk script events)
-unfolding survey_words
-words_no_fault image policy disk None events = λ e. cc e
-words_no_fault image policy disk (Some script) None = λ e. cc e
-words_no_fault image policy disk (Some script) (Some events) = tt
-
-split_no_fault : (split : Option SurveySplit) → NoReadFault (split_judged survey_of split)
-split_no_fault None = λ e. cc e
-split_no_fault (Some w) = words_no_fault w.image w.policy w.disk (source_of w.script) (number_within 0 max_events w.events)
-
-after_no_fault : (name : CommandName) (rest : List (List ℕ)) → NoReadFault (survey_after name rest)
-after_no_fault command.Survey rest = split_no_fault (survey_split rest)
-after_no_fault _ rest = λ e. cc e
-
-named_no_fault : (named : Option Named) → NoReadFault (named_judged survey_after named)
-named_no_fault None = λ e. cc e
-named_no_fault (Some n) = after_no_fault n.command n.rest
-
-judged_no_fault : (words : List (List ℕ)) → NoReadFault (survey_judged words)
-unfolding survey_judged
-judged_no_fault words = named_no_fault (named_words words)
-
--- ---- nor does a survey
+-- ---- no survey says so
 
 run_no_fault : (v : Verdict) → run_status v ≢ Status.ReadFault
 run_no_fault Running = λ e. cc e
@@ -79,4 +50,4 @@ pub survey_fault : (words : List (List ℕ)) (old new : Outside) (result : Resul
     status_of_end result ≡ Status.ReadFault → HasFault (survey_plan (survey_judged words)) old.files new.files
 survey_fault words old new result p is =
     reached_fault (survey_plan (survey_judged words)) (image_of (survey_judged words)) old.files p.reached old new p.read result
-    (asked_found_faults run_plan (survey_judged words) (judged_no_fault words) run_found_faults) p.follows p.answers is
+    (asked_found_faults run_plan (survey_judged words) (survey_no_read_fault words) run_found_faults) p.follows p.answers is

@@ -6,3 +6,4 @@ pub mod EndLemmas
 pub mod AnswerLemmas
 pub mod NoFindings
 pub mod FaultLemmas
+pub mod NotedLoads

@@ -3,3 +3,4 @@ pub mod Looking
 pub mod Surveys
 pub mod SurveyAnswers
 pub mod NoFindings
+pub mod NotedLoads

@@ -9,6 +9,6 @@ mod ready;
 mod surveying;
 
 pub use answer::secvisor_survey;
-pub use laws::law_no_findings;
+pub use laws::{law_no_findings, law_refused_noted};
 pub use ready::{KernelFile, ReadySurvey};
 pub use surveying::survey;

@@ -43,7 +43,7 @@ pub(crate) fn prepare_survey<'a, R: Threads + Sync, F: Files>(
     let bytes = read_part(alloc, files, Part::Image, asked.image, MAX_IMAGE_BYTES)?;
     let booted = boot_file(rt, alloc, asked, policy, &bytes, files)?;
     Ok(ReadySurvey {
-        booted,
+        booted: booted.run,
         kernel: KernelFile { bytes, ram_pages },
     })
 }

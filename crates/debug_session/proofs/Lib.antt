@@ -7,3 +7,7 @@ pub mod Threads
 pub mod ServingSteps
 pub mod ServingLoop
 pub mod RunLawsHold
+pub mod PageRuns
+pub mod WalkLines
+pub mod TextParts
+pub mod RowLemmas

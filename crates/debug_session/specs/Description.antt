@@ -25,4 +25,4 @@ description =
     codes "<reg name='sstatus' bitsize='64' type='int'/><reg name='sie' bitsize='64' type='int'/><reg name='stvec' bitsize='64' type='int'/>" ++
     codes "<reg name='scounteren' bitsize='64' type='int'/><reg name='sscratch' bitsize='64' type='int'/><reg name='sepc' bitsize='64' type='int'/>" ++
     codes "<reg name='scause' bitsize='64' type='int'/><reg name='stval' bitsize='64' type='int'/><reg name='satp' bitsize='64' type='int'/>" ++
-    codes "</feature></target>"
+    codes "<reg name='sip' bitsize='64' type='int'/><reg name='time' bitsize='64' type='int'/></feature></target>"

@@ -2,7 +2,11 @@ pub mod Memory
 pub mod Watches
 pub mod Looks
 pub mod Runs
+pub mod Rows
 pub mod Description
+pub mod Pages
+pub mod Reasons
+pub mod Walks
 pub mod Questions
 pub mod Sessions
 pub mod Desks

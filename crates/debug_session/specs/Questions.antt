@@ -1,6 +1,7 @@
 -- What is asked by `monitor`. This project's own; GDB manual, "Packets" (qRcmd).
 use Rattle.std.specs.Prelude.{ℕ, ◌-◌, ◌%◌, ◌^◌, nat_lt, if◌then◌else◌, List, [], ◌∷◌, ◌++◌, length, take, drop, codes, Option, Some, None}
 use Rattle.std.specs.Fmt.{decimal}
+use Rattle.sv_types.specs.Addresses.{address_of}
 use Rattle.sv_types.specs.Output.{line_end}
 use Rattle.std.specs.Str.{bytes_eq}
 use Rattle.sv_types.specs.Numbers.{number_within}
@@ -26,18 +27,38 @@ abbrev pub at_number : Option ℕ → Question
 at_number None = asks.Unknown
 at_number (Some number) = asks.At number
 
--- `events`, `at N` with a decimal number, or none that is known
+abbrev pub at_address : Option ℕ → Question
+at_address None = asks.Unknown
+at_address (Some address) = asks.Translate address
+
+-- `translate` and an address, or none that is known
+unfoldable pub translation_of : List ℕ → Question
+translation_of text =
+    if nat_lt (length text) 10 then asks.Unknown
+    else if bytes_eq (take 10 text) (codes "translate ") then at_address (address_of (drop 10 text))
+    else asks.Unknown
+
+-- `at` and a decimal number
+unfoldable pub argued : List ℕ → Question
+argued text =
+    if nat_lt (length text) 3 then asks.Unknown
+    else if bytes_eq (take 3 text) (codes "at ") then at_number (number_within 0 (2 ^ 64 - 1) (drop 3 text))
+    else translation_of text
+
+-- a word alone, or one with what it is about
 unfoldable pub question_of : List ℕ → Question
 question_of text =
     if bytes_eq text (codes "events") then asks.Events
-    else if nat_lt (length text) 3 then asks.Unknown
-    else if bytes_eq (take 3 text) (codes "at ") then at_number (number_within 0 (2 ^ 64 - 1) (drop 3 text))
-    else asks.Unknown
+    else if bytes_eq text (codes "pages") then asks.Pages
+    else if bytes_eq text (codes "why") then asks.Why
+    else argued text
 
 -- ---- the answer
 
--- the line that answers it, where so many events are made
-unfoldable pub question_text : Question → (made : ℕ) → List ℕ
-question_text asks.Events made = codes "events " ++ (decimal made ++ line_end)
-question_text (asks.At number) made = codes "events " ++ (decimal made ++ line_end)
-question_text asks.Unknown made = codes "events, or at N" ++ line_end
+-- how many events are made
+unfoldable pub events_text : (made : ℕ) → List ℕ
+events_text made = codes "events " ++ (decimal made ++ line_end)
+
+-- to what isn't known
+unfoldable pub usage_text : List ℕ
+usage_text = codes "events, at N, pages, why, or translate ADDRESS" ++ line_end

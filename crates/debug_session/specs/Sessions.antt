@@ -1,10 +1,12 @@
 -- A debugging session: what each packet does, and what it is answered. This project's own, over GDB's remote serial protocol.
-use Rattle.std.specs.Prelude.{ℕ, zero, suc, ◌+◌, ◌-◌, ◌%◌, max, Bool, true, false, not, ◌&&◌, ◌==◌, nat_lt, nat_le, if◌then◌else◌, List, []}
-use Rattle.std.specs.Prelude.{◌∷◌, ◌++◌, length, drop, filter, flat_map, codes, is_some, unwrap_or, option_map, option_and_then, slice_get, Option, Some}
+use Rattle.std.specs.Prelude.{ℕ, zero, suc, ◌+◌, ◌-◌, ◌/◌, ◌%◌, max, Bool, true, false, not, ◌&&◌, ◌==◌, nat_lt, nat_le, if◌then◌else◌, List, []}
+use Rattle.std.specs.Prelude.{◌∷◌, ◌++◌, length, take, drop, filter, flat_map, codes, is_some, unwrap_or, option_map, option_and_then, slice_get, Option, Some}
 use Rattle.std.specs.Prelude.{None}
 use Rattle.sv_types.specs.declared.event.Verdict.{Verdict}
 use Rattle.sv_types.specs.declared.event.Verdict.TheVariants.{Running, Shutdown, Stopped}
-use Rattle.spec_reference.specs.States.{has_number}
+use Rattle.spec_processor.specs.declared.lines.Lines.{Lines}
+use Rattle.spec_reference.specs.Devices.{lines_at}
+use Rattle.spec_reference.specs.States.{has_number, protections_of}
 use Rattle.spec_reference.specs.SavedStates.{saved_hart}
 use Rattle.spec_reference.specs.declared.saved_machine.harts.SavedHart.{SavedHart}
 use Rattle.gdb_protocol.specs.Answers.{stop_text, console_text, part_text}
@@ -27,7 +29,10 @@ use Rattle.debug_session.specs.Description.{description, supported_text}
 use Rattle.debug_session.specs.Looks.{error_text, hart_words, register_text, registers_text}
 use Rattle.debug_session.specs.Memory.{seen_bytes}
 use Rattle.debug_session.specs.Runs.{Run, state, ahead, behind, at_event, found_behind, last_change, meets_break, next_turn}
-use Rattle.debug_session.specs.Questions.{question_of, question_text, text_of}
+use Rattle.debug_session.specs.Pages.{pages_text}
+use Rattle.debug_session.specs.Reasons.{reason_text}
+use Rattle.debug_session.specs.Walks.{translation_text}
+use Rattle.debug_session.specs.Questions.{events_text, question_of, text_of, usage_text}
 use Rattle.debug_session.specs.declared.questions.Question.{Question}
 use Rattle.debug_session.specs.declared.questions.Question.TheVariants as question
 use Rattle.gdb_protocol.specs.Words.{after as text_after, is_comma}
@@ -63,6 +68,10 @@ hart_count run = length (state run).harts
 -- a hart as a snapshot keeps it
 abbrev pub hart_at : Run → ℕ → Option SavedHart
 hart_at run hart = option_map (saved_hart (state run).devices.clock hart) (slice_get (state run).harts hart)
+
+-- and what its wires tell it
+abbrev pub lines_of : Run → ℕ → Option Lines
+lines_of run hart = option_map (λ _. lines_at (state run).devices hart) (slice_get (state run).harts hart)
 
 -- threads are harts, numbered from 1 on. Any thread is the one that was chosen before
 abbrev pub hart_of : (harts chosen : ℕ) → Thread → Option ℕ
@@ -133,6 +142,11 @@ abbrev pub of_hart : (SavedHart → List ℕ) → Option SavedHart → List ℕ
 of_hart text None = error_text
 of_hart text (Some hart) = text hart
 
+abbrev pub of_wired_hart : (SavedHart → Lines → List ℕ) → Option SavedHart → Option Lines → List ℕ
+of_wired_hart text None lines = error_text
+of_wired_hart text (Some hart) None = error_text
+of_wired_hart text (Some hart) (Some lines) = text hart lines
+
 abbrev pub of_thread : (ℕ → List ℕ) → Option ℕ → List ℕ
 of_thread text None = error_text
 of_thread text (Some hart) = text hart
@@ -158,8 +172,9 @@ watch_in run desk range = option_and_then (watch_of (state run).ram range) (hart
 -- about the harts of a run
 abbrev pub reply_about : Run → Desk → Packet → List ℕ
 reply_about run desk asks.StopReason = halt_text (halt_of None desk.breaks desk.looks run)
-reply_about run desk asks.Registers = of_hart registers_text (hart_at run desk.looks)
-reply_about run desk (asks.Register number) = of_hart (λ hart. register_text hart number) (hart_at run desk.looks)
+reply_about run desk asks.Registers = of_wired_hart registers_text (hart_at run desk.looks) (lines_of run desk.looks)
+reply_about run desk (asks.Register number) =
+    of_wired_hart (λ hart lines. register_text hart lines number) (hart_at run desk.looks) (lines_of run desk.looks)
 reply_about run desk (asks.Memory range) = of_hart (memory_text (state run).ram range) (hart_at run desk.looks)
 reply_about run desk (asks.Choose thread) = ok_or_error (is_some (hart_of (hart_count run) desk.looks thread))
 reply_about run desk (asks.ChooseToMove thread) = ok_or_error (is_some (hart_of (hart_count run) desk.moves thread))
@@ -278,10 +293,39 @@ by_packet packet run desk = still_outcome packet run desk
 abbrev pub asked_run : Question → Run → Run
 asked_run question.Events run = run
 asked_run (question.At number) run = at_event number run
+asked_run question.Pages run = run
+asked_run question.Why run = run
+asked_run (question.Translate address) run = run
 asked_run question.Unknown run = run
 
+-- the text that answers it, about a run and its hart
+abbrev pub asked_text : Question → Run → (hart : ℕ) → List ℕ
+asked_text question.Events run hart = events_text run.made
+asked_text (question.At number) run hart = events_text run.made
+asked_text question.Pages run hart = pages_text (protections_of (state run))
+asked_text question.Why run hart = reason_text (state run).journal
+asked_text (question.Translate address) run hart =
+    of_hart (λ h. translation_text (state run).ram (protections_of (state run)) h address) (hart_at run hart)
+asked_text question.Unknown run hart = usage_text
+
+-- the most bytes of text in an answer
+abbrev pub max_text : ℕ
+max_text = 8000
+
+-- so many parts of a text as the console's, each as long as may be, and what is left after them as the answer
+unfoldable pub text_answers : (parts : ℕ) → List ℕ → List (List ℕ)
+text_answers zero text = byte_digits text ∷ []
+text_answers (suc parts) text = console_text (take max_text text) ∷ text_answers parts (drop max_text text)
+
+-- as many as leave some for the answer
+abbrev pub parts_of : List ℕ → ℕ
+parts_of text = (length text - 1) / max_text
+
+abbrev pub given_text : List ℕ → Run → Desk → Outcome
+given_text text run desk = record { run = run; desk = desk; answers = text_answers (parts_of text) text }
+
 abbrev pub by_question : Question → Run → Desk → Outcome
-by_question q run desk = record { run = asked_run q run; desk = desk; answers = byte_digits (question_text q (asked_run q run).made) ∷ [] }
+by_question q run desk = given_text (asked_text q (asked_run q run) desk.looks) (asked_run q run) desk
 
 -- the question stands after the name of the packet
 abbrev pub by_payload : Packet → (payload : List ℕ) → Run → Desk → Outcome

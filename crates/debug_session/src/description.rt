@@ -28,5 +28,5 @@ pub(crate) fn description() -> &'static [u8]
       <reg name='sstatus' bitsize='64' type='int'/><reg name='sie' bitsize='64' type='int'/><reg name='stvec' bitsize='64' type='int'/>\
       <reg name='scounteren' bitsize='64' type='int'/><reg name='sscratch' bitsize='64' type='int'/><reg name='sepc' bitsize='64' type='int'/>\
       <reg name='scause' bitsize='64' type='int'/><reg name='stval' bitsize='64' type='int'/><reg name='satp' bitsize='64' type='int'/>\
-      </feature></target>"
+      <reg name='sip' bitsize='64' type='int'/><reg name='time' bitsize='64' type='int'/></feature></target>"
 }

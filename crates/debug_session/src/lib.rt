@@ -10,14 +10,15 @@ mod host;
 mod laws;
 mod memory;
 mod motion;
+mod pages;
 mod performing;
 mod questions;
+mod reasons;
 mod registers;
 mod replies;
 mod serving;
 mod target;
-#[cfg(test)]
-mod tests;
+mod walks;
 mod watches;
 
 pub use breakdown::Breakdown;
@@ -26,6 +27,7 @@ pub use harts::hart_words;
 pub use laws::{law_ahead, law_behind};
 pub use memory::push_seen_bytes;
 pub use motion::{Change, Found};
+pub use pages::PageRun;
 pub use questions::Question;
 pub use registers::{push_register, push_registers};
 pub use serving::serve;

@@ -31,9 +31,9 @@ fn view_regime(satp: u64) -> Regime
     }
 }
 
-// The table entry at a guest-physical address. None outside RAM.
+/// The table entry at a guest-physical address. None outside RAM.
 #[tactic(auto, unfolding(spec_processor::specs::Translation::entry_in_ram))]
-fn entry_at(ram: &[u8], gpa: u64) -> Option<u64>
+pub(crate) fn entry_at(ram: &[u8], gpa: u64) -> Option<u64>
     ensures { result ≡ entry_in_ram ram.now gpa }
 {
     if is_in_ram(gpa, ENTRY_BYTES, ram.len() as u64) {
@@ -86,8 +86,8 @@ fn first_level(ram: &[u8], regime: &Regime, table: u64, va: u64) -> Option<u64>
     leaf_gpa(entry, 2, regime, va, Access::Load)
 }
 
-// Whether bits 63 to 39 are as bit 38.
-fn is_canonical(va: u64) -> bool
+/// Whether bits 63 to 39 are as bit 38.
+pub(crate) fn is_canonical(va: u64) -> bool
     ensures { result ≡ is_canonical va }
 {
     let high = va >> SIGN_BIT;

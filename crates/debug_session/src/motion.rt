@@ -1,6 +1,7 @@
 // How a run goes on.
-ghost use Rattle.std.specs.Prelude.{◌≡◌, ◌<◌, ◌≤◌, ◌+◌, ◌||◌, OnOk, IfOk, is_some, length, option_map};
+ghost use Rattle.std.specs.Prelude.{◌≡◌, ◌<◌, ◌≤◌, ◌+◌, ◌||◌, [], None, true, OnOk, IfOk, is_some, length, option_map};
 ghost use Rattle.spec_reference.specs.States.{has_number};
+ghost use Rattle.debug_session.specs.Rows.{IsFree};
 ghost use Rattle.debug_session.specs.Runs as spec;
 
 use crate::host::Host;
@@ -90,6 +91,15 @@ fn change_of(turn: Option<u8>, address: Option<u64>) -> Option<Change>
     }
 }
 
+// Makes one event more.
+fn advance<T: Target>(target: &mut T) -> Result<(), AllocError>
+    ensures { OnOk result ((run : spec.Run) → T.stands target.old run → run.made < length run.events →
+        T.stands target.new (spec.after run (run.made + 1))) }
+{
+    target.advance_row(1)?;
+    Ok(())
+}
+
 // Makes one event more, and answers what it changed of what is watched.
 #[tactic(auto, unfolding(crate::specs::Runs::change_at))]
 fn advance_watching<T: Target>(
@@ -104,12 +114,12 @@ fn advance_watching<T: Target>(
 {
     let turn = target.next_turn();
     let before = all_watched(alloc, watches, target.ram())?;
-    target.advance()?;
+    advance(target)?;
     Ok(change_of(turn, first_changed(watches, &before, target.ram())))
 }
 
-/// A run goes on to where it halts. Answers what the last event changed of what is watched.
-pub(crate) fn go_ahead<T: Target>(
+// The same, event by event.
+fn go_by_events<T: Target>(
     target: &mut T,
     alloc: Global,
     breaks: &[u64],
@@ -135,6 +145,49 @@ pub(crate) fn go_ahead<T: Target>(
     Ok(change)
 }
 
+// All events that are left are made, up to the run's end.
+fn finish<T: Target>(target: &mut T) -> Result<(), AllocError>
+    ensures { OnOk result ((run : spec.Run) → T.stands target.old run → T.stands target.new (spec.ahead [] [] None run)) }
+{
+    let most = target.most_left();
+    'rows: for _ in 0..most {
+        if !target.is_left() {
+            return Ok(());
+        }
+        target.advance_row(u64::MAX)?;
+        if !is_running(target.verdict()) {
+            return Ok(());
+        }
+    }
+    Ok(())
+}
+
+// Nothing is looked at on the way.
+fn is_free(breaks: &[u64], watches: &[Watch], steps: Option<u8>) -> bool
+    ensures { result ≡ true → IsFree breaks.now watches.now steps }
+{
+    breaks.is_empty() && watches.is_empty() && steps.is_none()
+}
+
+/// A run goes on to where it halts. Answers what the last event changed of what is watched.
+pub(crate) fn go_ahead<T: Target>(
+    target: &mut T,
+    alloc: Global,
+    breaks: &[u64],
+    watches: &[Watch],
+    steps: Option<u8>,
+) -> Result<Option<Change>, AllocError>
+    ensures moved { OnOk result ((run : spec.Run) → T.stands target.old run → T.stands target.new (spec.ahead breaks.now watches.now steps run)) }
+    ensures change { IfOk result (λ change. (run : spec.Run) → T.stands target.old run →
+        change ≡ spec.last_change watches.now run (spec.ahead breaks.now watches.now steps run).made) }
+{
+    if is_free(breaks, watches, steps) {
+        finish(target)?;
+        return Ok(None);
+    }
+    go_by_events(target, alloc, breaks, watches, steps)
+}
+
 // As many events more as are left, at most so many.
 fn advance_at_most<T: Target>(target: &mut T, count: u64) -> Result<(), AllocError>
     ensures { OnOk result ((run : spec.Run) → T.stands target.old run → run.made ≡ 0 → T.stands target.new (spec.at_event count run)) }
@@ -143,7 +196,7 @@ fn advance_at_most<T: Target>(target: &mut T, count: u64) -> Result<(), AllocErr
         if !target.is_left() {
             return Ok(());
         }
-        target.advance()?;
+        advance(target)?;
     }
     Ok(())
 }
@@ -182,8 +235,13 @@ fn advance_by<T: Target>(target: &mut T, count: u64) -> Result<(), AllocError>
     ensures { OnOk result ((run : spec.Run) → T.stands target.old run → run.made + count ≤ length run.events →
         T.stands target.new (spec.after run (run.made + count))) }
 {
-    'events: for _ in 0..count {
-        target.advance()?;
+    let mut left = count;
+    'rows: for _ in 0..count {
+        if left == 0 {
+            return Ok(());
+        }
+        let made = target.advance_row(left)?;
+        left -= made;
     }
     Ok(())
 }

@@ -1,5 +1,6 @@
 // What arrives is answered.
-ghost use Rattle.std.specs.Prelude.{◌≡◌, ◌++◌, ◌∷◌, [], OnOk, IfOk, unwrap_or, if◌then◌else◌, position};
+ghost use Rattle.std.specs.Prelude.{◌≡◌, ◌≤◌, ◌*◌, ◌++◌, ◌∷◌, [], OnOk, IfOk, unwrap_or, if◌then◌else◌, position, drop, take, length};
+ghost use Rattle.gdb_protocol.specs.Answers.{console_text};
 ghost use Rattle.gdb_protocol.specs.Framing.{frame};
 ghost use Rattle.gdb_protocol.specs.Packets.{packet_of};
 ghost use Rattle.gdb_protocol.specs.Words.{after as text_after, is_comma};
@@ -12,7 +13,7 @@ ghost use Rattle.debug_session.specs.Sessions as spec;
 use crate::desk::Desk;
 use crate::host::Host;
 use crate::motion::{Found, go_ahead, go_back, go_to};
-use crate::questions::{Question, asked, question_text};
+use crate::questions::{Question, asked, asked_text};
 use crate::registers::ERROR;
 use crate::replies::{Halt, halt_of, hart_of, push_halt, push_reply, watch_in};
 use crate::target::Target;
@@ -22,6 +23,9 @@ use gdb_protocol::{
 };
 use std::alloc::{AllocError, Global};
 use std::thread::Threads;
+
+// The most bytes of text in an answer.
+const MAX_TEXT: usize = 8000;
 
 // ---- settings
 
@@ -265,11 +269,75 @@ fn move_to<T: Target, R: Threads + Sync>(
 {
     match question {
         Question::At(number) => go_to(target, host, number),
-        Question::Events | Question::Unknown => Ok(()),
+        _ => Ok(()),
     }
 }
 
-// A question is answered by a line of text.
+// A part of a text is put at the end, as the console's.
+fn push_part(alloc: Global, part: &[u8], out: &mut Vec<u8>) -> Result<(), AllocError>
+    ensures { OnOk result (out.new.items ≡ out.old.items ++ frame (console_text part.now)) }
+{
+    let mut answer = Vec::new(alloc);
+    push_console(&mut answer, part)?;
+    push_frame(out, &answer)
+}
+
+// What stands in a text from a place on.
+fn rest_at(text: &[u8], at: usize) -> &[u8]
+    ensures { result.now ≡ drop at text.now }
+{
+    if at < text.len() { &text[at..] } else { &[] }
+}
+
+// As much of a text as an answer has.
+fn first_part(text: &[u8]) -> &[u8]
+    ensures { result.now ≡ take spec.max_text text.now }
+{
+    if MAX_TEXT < text.len() {
+        &text[..MAX_TEXT]
+    } else {
+        text
+    }
+}
+
+// How many parts of a text come before its answer.
+fn parts_of(text: &[u8]) -> usize
+    ensures value { result ≡ spec.parts_of text.now }
+    ensures within { spec.max_text * result ≤ length text.now }
+{
+    text.len().saturating_sub(1) / MAX_TEXT
+}
+
+// So many parts of a text, one after the other.
+fn push_parts(alloc: Global, text: &[u8], parts: usize, out: &mut Vec<u8>) -> Result<(), AllocError>
+    requires { spec.max_text * parts ≤ length text.now }
+    ensures { OnOk result (out.new.items ++ spec.frames (spec.text_answers 0 (drop (spec.max_text * parts) text.now))
+        ≡ out.old.items ++ spec.frames (spec.text_answers parts text.now)) }
+{
+    'parts: for i in 0..parts {
+        push_part(alloc, first_part(rest_at(text, MAX_TEXT * i)), out)?;
+    }
+    Ok(())
+}
+
+// Text in parts: the last one is the answer, those before it are the console's.
+fn give_text(
+    alloc: Global,
+    desk: &mut Desk,
+    text: &[u8],
+    out: &mut Vec<u8>,
+) -> Result<(), AllocError>
+    ensures bytes { OnOk result (out.new.items ≡ out.old.items ++ spec.frames (spec.text_answers (spec.parts_of text.now) text.now)) }
+    ensures desk { OnOk result (desk.new ≡ record desk.old { last = spec.last_of (spec.text_answers (spec.parts_of text.now) text.now) desk.old.last }) }
+{
+    let parts = parts_of(text);
+    push_parts(alloc, text, parts, out)?;
+    let mut answer = Vec::new(alloc);
+    push_digits(&mut answer, rest_at(text, MAX_TEXT * parts))?;
+    give(desk, answer, out)
+}
+
+// A question is answered by text.
 fn answer_question<T: Target, R: Threads + Sync>(
     host: &Host<'_, R>,
     target: &mut T,
@@ -281,10 +349,8 @@ fn answer_question<T: Target, R: Threads + Sync>(
         Performs T.stands (spec.by_question question run desk.old) out.old.items target.new desk.new out.new.items) }
 {
     move_to(host, target, question)?;
-    let text = question_text(host.alloc, question, target.events_made())?;
-    let mut answer = Vec::new(host.alloc);
-    push_digits(&mut answer, text.as_str().as_bytes())?;
-    give(desk, answer, out)
+    let text = asked_text(host.alloc, target, question, desk.looks)?;
+    give_text(host.alloc, desk, text.as_str().as_bytes(), out)
 }
 
 fn comma_in(payload: &[u8]) -> Option<usize>

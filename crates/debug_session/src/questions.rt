@@ -1,10 +1,19 @@
 // What is asked by `monitor`.
 ghost use Rattle.std.specs.Prelude.{◌≡◌, ◌++◌, OnOk, IfOk, string_bytes};
+ghost use Rattle.spec_reference.specs.States.{protections_of};
 ghost use Rattle.debug_session.specs.Questions as spec;
+ghost use Rattle.debug_session.specs.Runs.{Run, state};
+ghost use Rattle.debug_session.specs.Sessions as session;
+ghost use Rattle.debug_session.specs.Walks.{translation_text};
 
+use crate::pages::pages_text;
+use crate::reasons::reason_of;
+use crate::target::Target;
+use crate::walks::translation_text;
 use gdb_protocol::number_of;
+use spec_reference::saved_machine::SavedHart;
 use std::alloc::{AllocError, Global};
-use text_numbers::number_within;
+use text_numbers::{address_of_bytes, number_within};
 
 /// What is asked by `monitor`.
 #[derive(Clone, Copy, Debug, PartialEq, Eq, Drop)]
@@ -13,6 +22,12 @@ pub enum Question {
     Events,
     /// The state after so many events.
     At(u64),
+    /// How pages are guarded.
+    Pages,
+    /// The verdict, or what was noted last.
+    Why,
+    /// How the chosen hart's address is translated.
+    Translate(u64),
     /// Nothing that is known.
     Unknown,
 }
@@ -32,6 +47,40 @@ fn push_text(out: &mut Vec<u8>, digits: &[u8]) -> Result<(), AllocError>
     Ok(())
 }
 
+// `translate` and an address, or none that is known.
+#[tactic(auto, unfolding(crate::specs::Questions::translation_of))]
+fn translation_of(text: &[u8]) -> Question
+    ensures { result ≡ spec.translation_of text.now }
+{
+    let Some((name, address)) = text.split_first_chunk::<10>() else {
+        return Question::Unknown;
+    };
+    if name != b"translate " {
+        return Question::Unknown;
+    }
+    match address_of_bytes(address) {
+        Some(address) => Question::Translate(address),
+        None => Question::Unknown,
+    }
+}
+
+// A word with what it is about.
+#[tactic(auto, unfolding(crate::specs::Questions::argued))]
+fn argued(text: &[u8]) -> Question
+    ensures { result ≡ spec.argued text.now }
+{
+    let Some((name, number)) = text.split_first_chunk::<3>() else {
+        return Question::Unknown;
+    };
+    if name != b"at " {
+        return translation_of(text);
+    }
+    match number_within(number, 0, u64::MAX) {
+        Some(number) => Question::At(number),
+        None => Question::Unknown,
+    }
+}
+
 #[tactic(auto, unfolding(crate::specs::Questions::question_of))]
 fn question_of(text: &[u8]) -> Question
     ensures { result ≡ spec.question_of text.now }
@@ -39,16 +88,13 @@ fn question_of(text: &[u8]) -> Question
     if text == b"events".as_slice() {
         return Question::Events;
     }
-    let Some((name, number)) = text.split_first_chunk::<3>() else {
-        return Question::Unknown;
-    };
-    if name != b"at " {
-        return Question::Unknown;
+    if text == b"pages".as_slice() {
+        return Question::Pages;
     }
-    match number_within(number, 0, u64::MAX) {
-        Some(number) => Question::At(number),
-        None => Question::Unknown,
+    if text == b"why".as_slice() {
+        return Question::Why;
     }
+    argued(text)
 }
 
 /// What is asked in digits.
@@ -60,17 +106,54 @@ pub(crate) fn asked(alloc: Global, digits: &[u8]) -> Result<Question, AllocError
     Ok(question_of(&text))
 }
 
-/// The line that answers a question, where so many events are made.
-#[tactic(auto, unfolding(crate::specs::Questions::question_text))]
-pub(crate) fn question_text(
+#[tactic(auto, unfolding(crate::specs::Questions::events_text))]
+fn events_text(alloc: Global, made: u64) -> Result<String, AllocError>
+    ensures { IfOk result (λ text. string_bytes text ≡ spec.events_text made) }
+{
+    format!(in alloc; "events {made}\n")
+}
+
+#[tactic(auto, unfolding(crate::specs::Questions::usage_text))]
+fn usage_text(alloc: Global) -> Result<String, AllocError>
+    ensures { IfOk result (λ text. string_bytes text ≡ spec.usage_text) }
+{
+    String::from_str(alloc, "events, at N, pages, why, or translate ADDRESS\n")
+}
+
+fn translated<T: Target>(
     alloc: Global,
-    question: Question,
-    made: u64,
+    target: &T,
+    hart: Option<SavedHart>,
+    address: u64,
 ) -> Result<String, AllocError>
-    ensures { IfOk result (λ text. string_bytes text ≡ spec.question_text question made) }
+    ensures { IfOk result (λ text. (run : Run) → T.stands target.now run → string_bytes text
+        ≡ session.of_hart (λ h. translation_text (state run).ram (protections_of (state run)) h address) hart) }
+{
+    match hart {
+        Some(hart) => translation_text(alloc, target.ram(), target.protections(), &hart, address),
+        None => String::from_str(alloc, "E01"),
+    }
+}
+
+/// The text that answers a question about a run and its hart.
+pub(crate) fn asked_text<T: Target>(
+    alloc: Global,
+    target: &T,
+    question: Question,
+    hart: u8,
+) -> Result<String, AllocError>
+    ensures { IfOk result (λ text. (run : Run) → T.stands target.now run → string_bytes text ≡ session.asked_text question run hart) }
 {
     match question {
-        Question::Events | Question::At(_) => format!(in alloc; "events {made}\n"),
-        Question::Unknown => String::from_str(alloc, "events, or at N\n"),
+        Question::Events | Question::At(_) => events_text(alloc, target.events_made()),
+        Question::Pages => pages_text(alloc, target.protections()),
+        Question::Why => reason_of(
+            alloc,
+            target.verdict(),
+            target.notes(),
+            target.counts().notes,
+        ),
+        Question::Translate(address) => translated(alloc, target, target.hart(hart), address),
+        Question::Unknown => usage_text(alloc),
     }
 }

@@ -15,6 +15,7 @@ use crate::registers::{ERROR, push_register, push_registers};
 use crate::target::Target;
 use crate::watches::{Watch, watch_of};
 use gdb_protocol::{Packet, Range, Stop, Thread, push_digits, push_part, push_stop};
+use spec_processor::Lines;
 use spec_reference::saved_machine::SavedHart;
 use std::alloc::{AllocError, Global};
 use sv_types::Verdict;
@@ -160,25 +161,37 @@ fn push_if(out: &mut Vec<u8>, is_done: bool) -> Result<(), AllocError>
     }
 }
 
-fn push_all_registers(out: &mut Vec<u8>, hart: Option<SavedHart>) -> Result<(), AllocError>
-    ensures { OnOk result (out.new.items ≡ out.old.items ++ spec.of_hart look.registers_text hart) }
+fn push_all_registers(
+    out: &mut Vec<u8>,
+    hart: Option<SavedHart>,
+    lines: Option<Lines>,
+) -> Result<(), AllocError>
+    ensures { OnOk result (out.new.items ≡ out.old.items ++ spec.of_wired_hart look.registers_text hart lines) }
 {
-    match hart {
-        Some(hart) => push_registers(out, &hart),
-        None => out.extend_from_slice(ERROR),
+    match (hart, lines) {
+        (Some(hart), Some(lines)) => push_registers(out, &hart, lines),
+        _ => out.extend_from_slice(ERROR),
     }
+}
+
+fn push_registers_of<T: Target>(out: &mut Vec<u8>, target: &T, hart: u8) -> Result<(), AllocError>
+    ensures { OnOk result ((run : Run) → T.stands target.now run →
+        out.new.items ≡ out.old.items ++ spec.of_wired_hart look.registers_text (spec.hart_at run hart) (spec.lines_of run hart)) }
+{
+    push_all_registers(out, target.hart(hart), target.lines(hart))
 }
 
 fn push_one_register(
     out: &mut Vec<u8>,
     hart: Option<SavedHart>,
+    lines: Option<Lines>,
     number: u64,
 ) -> Result<(), AllocError>
-    ensures { OnOk result (out.new.items ≡ out.old.items ++ spec.of_hart (λ h. look.register_text h number) hart) }
+    ensures { OnOk result (out.new.items ≡ out.old.items ++ spec.of_wired_hart (λ h l. look.register_text h l number) hart lines) }
 {
-    match hart {
-        Some(hart) => push_register(out, &hart, number),
-        None => out.extend_from_slice(ERROR),
+    match (hart, lines) {
+        (Some(hart), Some(lines)) => push_register(out, &hart, lines, number),
+        _ => out.extend_from_slice(ERROR),
     }
 }
 
@@ -268,8 +281,13 @@ fn push_about_run<T: Target>(
     let harts = target.hart_count();
     match packet {
         Packet::StopReason => push_halt(out, halt_of(target, None, &desk.breaks, desk.looks)),
-        Packet::Registers => push_all_registers(out, target.hart(desk.looks)),
-        Packet::Register(number) => push_one_register(out, target.hart(desk.looks), number),
+        Packet::Registers => push_registers_of(out, target, desk.looks),
+        Packet::Register(number) => push_one_register(
+            out,
+            target.hart(desk.looks),
+            target.lines(desk.looks),
+            number,
+        ),
         Packet::Memory(range) => push_memory(
             alloc,
             out,

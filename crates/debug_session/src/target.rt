@@ -1,13 +1,18 @@
 // What is debugged.
 ghost use Rattle.std.specs.Thread.{IsSync};
-ghost use Rattle.std.specs.Prelude.{◌≡◌, ◌<◌, ◌≤◌, ◌+◌, ℕ, OnOk, option_map, slice_get, length, nat_lt};
+ghost use Rattle.std.specs.Prelude.{◌≡◌, ◌<◌, ◌≤◌, ℕ, IfOk, OnOk, option_map, slice_get, length, nat_lt};
+ghost use Rattle.spec_processor.specs.Regions.{max_ram_pages};
 ghost use Rattle.spec_reference.specs.SavedStates.{saved_hart};
+ghost use Rattle.spec_reference.specs.States.{protections_of};
+ghost use Rattle.debug_session.specs.Rows.{IsRow};
 ghost use Rattle.debug_session.specs.Runs.{Run, after, events_left, next_turn, place_of, state};
+ghost use Rattle.debug_session.specs.Sessions.{lines_of};
 
+use spec_processor::Lines;
 use spec_reference::saved_machine::SavedHart;
 use std::alloc::{AllocError, Global};
 use std::thread::Threads;
-use sv_types::Verdict;
+use sv_types::{Counts, Note, Protection, Verdict};
 
 /// A run that is debugged. It can begin anew.
 pub trait Target {
@@ -47,6 +52,23 @@ pub trait Target {
     fn hart(&self, hart: u8) -> Option<SavedHart>
         ensures { (run : Run) → stands self.now run → result ≡ option_map (saved_hart (state run).devices.clock hart) (slice_get (state run).harts hart) };
 
+    /// The wires that a hart sees.
+    fn lines(&self, hart: u8) -> Option<Lines>
+        ensures { (run : Run) → stands self.now run → result ≡ lines_of run hart };
+
+    /// The first 4,096 notes.
+    fn notes(&self) -> &[Note]
+        ensures { (run : Run) → stands self.now run → result.now ≡ (state run).journal.notes };
+
+    /// What happened so far, counted.
+    fn counts(&self) -> Counts
+        ensures { (run : Run) → stands self.now run → result ≡ (state run).journal.counts };
+
+    /// How each page of RAM is guarded.
+    fn protections(&self) -> &[Protection]
+        ensures state { (run : Run) → stands self.now run → result.now ≡ protections_of (state run) }
+        ensures few { length result.now ≤ max_ram_pages };
+
     /// The bytes of guest RAM.
     fn ram(&self) -> &[u8]
         ensures { (run : Run) → stands self.now run → result.now ≡ (state run).ram };
@@ -55,9 +77,11 @@ pub trait Target {
     fn console(&self) -> &[u8]
         ensures { (run : Run) → stands self.now run → result.now ≡ (state run).journal.printed };
 
-    /// Makes the next event, where one is left.
-    fn advance(&mut self) -> Result<(), AllocError>
-        ensures { OnOk result ((run : Run) → stands self.old run → run.made < length run.events → stands self.new (after run (run.made + 1))) };
+    /// Makes the next events that are alike, where one is left: at most so many, and none after the run has ended. Answers how many.
+    fn advance_row(&mut self, most: u64) -> Result<u64, AllocError>
+        requires { 0 < most }
+        ensures few { IfOk result (λ count. count ≤ most) }
+        ensures row { IfOk result (λ count. (run : Run) → stands self.old run → run.made < length run.events → IsRow stands run count self.new) };
 
     /// Begins anew.
     fn restart<R: Threads + Sync>(&mut self, rt: &R, alloc: Global) -> Result<(), AllocError>

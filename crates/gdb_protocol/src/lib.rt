@@ -14,8 +14,6 @@ mod packet;
 mod place;
 mod reader;
 mod stop;
-#[cfg(test)]
-mod tests;
 mod words;
 
 pub use answers::{push_console, push_part};

@@ -15,7 +15,7 @@ ghost use Rattle.hw_fast_path.specs.declared.leaving.Leaving.TheVariants.{Stays}
 use crate::leaving::{Leaving, leave, leave_by};
 use crate::micro_op_cache::{FlatWords, MicroOpCache};
 use crate::requests::carry_out;
-use crate::tried::Tried;
+use crate::tried::{Alone, InRow, Tried};
 use crate::window::{Window, at_pc, word_at_pc};
 use hart::Core;
 use host_mem::HostMem;
@@ -45,7 +45,7 @@ fn turn(
         return Tried::Stopped;
     };
     let word = here.word(core, regs, mem);
-    match carry_out(core, regs, cache, reach, mem, words.micro_op(core.pc, word)) {
+    match carry_out::<InRow>(core, regs, cache, reach, mem, words.micro_op(core.pc, word)) {
         Tried::Stopped => {
             *window = here;
             Tried::Stopped
@@ -158,7 +158,7 @@ fn one_turn(
     let Some(word) = word_at_pc(core, regs, cache, reach, mem) else {
         return Batch::none();
     };
-    let tried = carry_out(core, regs, cache, reach, mem, words.micro_op(core.pc, word));
+    let tried = carry_out::<Alone>(core, regs, cache, reach, mem, words.micro_op(core.pc, word));
     if tried.is_made() {
         return Batch {
             made: 1,

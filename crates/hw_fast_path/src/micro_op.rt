@@ -76,7 +76,7 @@ impl MicroOp {
     /// function, after whose one dispatch the operation is known, so that nothing looks at it again.
     #[tactic(auto, unfolding(crate::specs::MicroOp::flat_instr))]
     #[inline(always)]
-    pub(crate) fn effect(&self, regs: &Regs, pc: u64) -> Option<Effect>
+    pub(crate) fn effect<Place>(&self, regs: &Regs, pc: u64) -> Option<Effect>
         ensures effect { IfSome result (λ e. word_effect self.now.word regs.now pc ≡ Some e) }
         ensures request { pc % instruction_size ≡ 0 → IfSome result IsRequest }
     {

@@ -293,7 +293,7 @@ fn apply(
 /// An instruction carried out, where it is one that rows have and its effect can be carried out in one.
 #[tactic(auto, using(hw_tlb::specs::Fills::nothing_filled))]
 #[inline(always)]
-pub(crate) fn carry_out(
+pub(crate) fn carry_out<Place>(
     core: &mut Core,
     regs: &HRegs,
     cache: &mut Cache,
@@ -307,7 +307,7 @@ pub(crate) fn carry_out(
         (core_of core.new regs.now) }
     ensures turned { Turned result mem.old mem.new core.old core.new regs.now cache.old cache.new reach.new }
 {
-    match micro_op.effect(&core.regs, core.pc) {
+    match micro_op.effect::<Place>(&core.regs, core.pc) {
         Some(effect) => apply(core, regs, cache, reach, mem, effect),
         None => Tried::Stopped,
     }

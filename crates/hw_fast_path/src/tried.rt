@@ -39,3 +39,9 @@ impl Tried {
         }
     }
 }
+
+/// The turn is one of a row.
+pub(crate) struct InRow;
+
+/// The turn stands alone.
+pub(crate) struct Alone;

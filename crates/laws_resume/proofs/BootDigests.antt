@@ -1,12 +1,12 @@
 -- The digests of a machine's text after its boot are those that the run keeps.
 use Rattle.std.proofs.Common.{◌≡◌, ℕ, inl, inr, zero, suc, ◌+◌, ◌*◌, ◌/◌, ◌<◌, ◌≤◌, List, [], ◌∷◌, flat_map, length, map, refl, sym, ◌∙◌, ap, subst, Bool, true, ◌||◌, arith, slice_get, length-append}
-use Rattle.std.specs.Prelude.{Some, ◌==◌}
+use Rattle.std.specs.Prelude.{Some, None, ◌==◌}
 use Rattle.std.proofs.lemmas.List.{take_at, drop_at}
 use Rattle.std.proofs.lemmas.Option.{same_Some}
 use Rattle.spec_processor.specs.Bytes.{page_bytes, page_size}
 use Rattle.sv_types.specs.ApprovedPages.{approved_pages}
-use Rattle.sv_types.specs.Kernel.{kernel_segments, header_entry, segments_ram, text_pages}
-use Rattle.sv_types.specs.Measure.{joined_digests, measure, page_digest, page_digests}
+use Rattle.sv_types.specs.Kernel.{kernel_refusal, kernel_segments, header_entry, segments_ram, text_of, text_pages}
+use Rattle.sv_types.specs.Measure.{digests_of, joined_digests, measure, page_digest, page_digests}
 use Rattle.sv_types.specs.Policies.{Rules}
 use Rattle.spec_reference.specs.Protections.{protection_at}
 use Rattle.spec_reference.specs.Soundness.{IsSound}
@@ -21,7 +21,7 @@ use Rattle.laws_resume.specs.Resumed.{KeepsDigests}
 use Rattle.laws_resume.proofs.KeepableStarts.{text_pages_ascend}
 use Rattle.laws_resume.proofs.ResumedPages.{approved_is}
 use Rattle.laws_resume.proofs.TakenPages.{AllBelow}
-use Rattle.laws_resume.proofs.WholePages.{AreWhole, digest_at, digests_after, joined_after, whole_in}
+use Rattle.laws_resume.proofs.WholePages.{AreWhole, digest_at, digests_after, joined_after, listed_after, whole_in}
 use Rattle.laws_simulation.proofs.StateLawsHold.{reached_sound}
 use Rattle.laws_simulation.proofs.Lookups.{same_number, length_pages}
 use Rattle.laws_resume.specs.SnapLaws.{Boot, BootDigestsLaw, IsMeasuredBoot}
@@ -114,6 +114,18 @@ digests_of_image rules file disk k sound =
 rules_of_image : (rules : Rules) (file : List ℕ) (disk : Disk) → (image_start rules file disk).rules ≡ rules
 unfolding start
 rules_of_image rules file disk = refl
+
+-- those of a boot's measure are those of the text of its start
+pub image_digests : (rules : Rules) (file : List ℕ) (disk : Disk) → kernel_refusal file rules.ram_pages ≡ None → IsSound (image_start rules file disk)
+    → digests_of (text_of (kernel_segments file)) ≡ map (λ (t : TextPage). t.digest) (digested_text (image_start rules file disk))
+image_digests rules file disk accepted sound =
+    let ram = segments_ram (kernel_segments file) rules.ram_pages in
+    let text = text_pages (kernel_segments file) in
+    let inside = text_inside rules ram text (header_entry file) disk sound in
+    ap digests_of (text_in_ram file rules.ram_pages accepted)
+    ∙ listed_after ram text (λ page there. whole_in ram page rules.ram_pages (ram_size rules ram text (header_entry file) disk sound) (inside page there))
+    ∙ sym (digests_back ram text)
+    ∙ ap (map (λ (t : TextPage). t.digest)) (sym (digested_is rules ram text (header_entry file) disk (text_pages_ascend (kernel_segments file)) inside))
 
 -- a run begins with it
 pub record IsBoot (boot : Boot) : Type 0 where

@@ -8,7 +8,8 @@ use Rattle.sv_types.specs.declared.protection.Protection.TheVariants.{Free, Held
 use Rattle.sv_types.specs.Protections.{is_free}
 use Rattle.spec_reference.specs.Protections.{protection_at}
 use Rattle.spec_reference.specs.States.{protection_by}
-use Rattle.snapshot_format.specs.Judgements.{is_same, are_same, protections_are_due}
+use Rattle.sv_types.specs.Protections.{is_same}
+use Rattle.snapshot_format.specs.Judgements.{are_same, protections_are_due}
 use Rattle.snapshot_format.proofs.FormLaws.{first_true, second_true}
 use Rattle.laws_resume.proofs.TakenPages.{either_one}
 

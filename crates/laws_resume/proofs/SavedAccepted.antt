@@ -20,7 +20,7 @@ use Rattle.sv_types.specs.declared.protection.Protection.TheVariants.{Free, Held
 use Rattle.sv_types.specs.declared.saved.ModulePlacement.{ModulePlacement}
 use Rattle.spec_reference.specs.Loads.{is_good_load}
 use Rattle.spec_reference.specs.Origins.{is_kernel_text, ownership}
-use Rattle.sv_types.specs.Protections.{is_free}
+use Rattle.sv_types.specs.Protections.{is_free, is_same}
 use Rattle.spec_reference.specs.Protections.{protection_at}
 use Rattle.spec_reference.specs.Soundness.{IsSound, IsSoundEntry, IsSoundHart, IsSoundLoad}
 use Rattle.spec_reference.specs.States.{State, Hart, Loading, find_module, has_number, is_approved_in, module_pages, pages_in_rule, protection_in, protections_of}
@@ -29,7 +29,7 @@ use Rattle.spec_reference.specs.declared.saved_machine.harts.SavedHart.{SavedHar
 use Rattle.snapshot_format.specs.Snapshots.{Contents}
 use Rattle.snapshot_format.specs.declared.whole.TextPage.{TextPage}
 use Rattle.snapshot_format.specs.Judgements.{approved_of, are_same, fits, guard_due, has_modules, has_text, is_bound, protections_are_due}
-use Rattle.snapshot_format.specs.Judgements.{is_guarded_right, is_loaded, is_of_policy, is_retired, is_same, is_there, joins, load_fits}
+use Rattle.snapshot_format.specs.Judgements.{is_guarded_right, is_loaded, is_of_policy, is_retired, is_there, joins, load_fits}
 use Rattle.snapshot_format.specs.Judgements.{load_pages, loaded_pages, page_numbers, resume_refusal, take_pages, text_left, then_held}
 use Rattle.spec_reference.proofs.PageSpans.{in_numbers}
 use Rattle.snapshot_format.proofs.ModuleSites.{some_pages}

@@ -3,7 +3,7 @@ use Rattle.std.proofs.Common.{◌≡◌, ℕ, ◌+◌, ◌*◌, ◌/◌, ◌<◌
 use Rattle.std.specs.Prelude.{◌==◌}
 use Rattle.std.proofs.lemmas.List.{take_at, drop_at}
 use Rattle.spec_processor.specs.Bytes.{page_bytes, page_size}
-use Rattle.sv_types.specs.Measure.{joined_digests, measure, page_digest, page_digests}
+use Rattle.sv_types.specs.Measure.{digests_of, joined_digests, measure, page_digest, page_digests}
 use Rattle.spec_reference.specs.States.{has_number}
 use Rattle.laws_processor.proofs.ByteLemmas.{length_part}
 use Rattle.laws_simulation.proofs.Lookups.{same_number}
@@ -43,11 +43,14 @@ size_after ram (page ∷ pages) whole =
 pages_in : (size n : ℕ) → size ≡ page_size * n → size / page_size ≡ n
 pages_in size n e = omega (arith, e)
 
+pub listed_after : (ram pages : List ℕ) → AreWhole ram pages → digests_of (flat_map (page_bytes ram) pages) ≡ map (digest_at ram) pages
+listed_after ram pages whole =
+    ap (λ (n : ℕ). page_digests n (flat_map (page_bytes ram) pages)) (pages_in (length (flat_map (page_bytes ram) pages)) (length pages) (size_after ram pages whole))
+    ∙ digests_after ram pages whole
+
 pub joined_after : (ram pages : List ℕ) → AreWhole ram pages → measure (flat_map (page_bytes ram) pages) ≡ joined_digests (map (digest_at ram) pages)
 unfolding measure
-joined_after ram pages whole =
-    ap (λ (n : ℕ). joined_digests (page_digests n (flat_map (page_bytes ram) pages))) (pages_in (length (flat_map (page_bytes ram) pages)) (length pages) (size_after ram pages whole))
-    ∙ ap joined_digests (digests_after ram pages whole)
+joined_after ram pages whole = ap joined_digests (listed_after ram pages whole)
 
 pub whole_in : (ram : List ℕ) (page pages : ℕ) → length ram ≡ page_size * pages → page < pages → length (page_bytes ram page) ≡ page_size
 whole_in ram page pages size below = length_part ram (page_size * page) page_size (rw size (room page pages below))

@@ -1,5 +1,5 @@
 -- The text of a machine before its first event: its approved pages, each with the digest of its bytes. This project's own.
-use Rattle.std.specs.Prelude.{ℕ, List, filter, length, map}
+use Rattle.std.specs.Prelude.{ℕ, List, [], ◌∷◌, filter, length, map}
 use Rattle.spec_processor.specs.Bytes.{page_bytes}
 use Rattle.sv_types.specs.ApprovedPages.{numbers_from}
 use Rattle.sv_types.specs.Measure.{page_digest}
@@ -27,3 +27,23 @@ text_in ram protections = text_among ram protections (length protections)
 -- those of a machine in such a state
 abbrev pub digested_text : State → List TextPage
 digested_text r = text_in r.ram (protections_of r)
+
+-- ---- pages and digests that are kept apart
+
+-- pages with their digests, as far as both go
+unfoldable pub paired : (pages : List ℕ) → (digests : List (List ℕ)) → List TextPage
+paired [] digests = []
+paired (page ∷ pages) [] = []
+paired (page ∷ pages) (digest ∷ digests) = record { page = page; digest = digest } ∷ paired pages digests
+
+-- the approved ones among the first pages, with these digests
+abbrev pub paired_among : List Protection → (digests : List (List ℕ)) → (count : ℕ) → List TextPage
+paired_among protections digests count = paired (approved_among protections count) digests
+
+-- of all pages
+unfoldable pub paired_text : List Protection → (digests : List (List ℕ)) → List TextPage
+paired_text protections digests = paired_among protections digests (length protections)
+
+-- the digests of a machine's text, in the order of its pages
+abbrev pub text_digests : (ram : List ℕ) → List Protection → List (List ℕ)
+text_digests ram protections = map (λ (t : TextPage). t.digest) (text_in ram protections)

@@ -1,15 +1,18 @@
 -- What is seen of a machine is the state that it stands for.
 use Rattle.std.proofs.Common.{◌≡◌, ℕ, zero, suc, ◌<◌, ◌≤◌, List, [], ◌∷◌, length, refl, sym, ◌∙◌, ap, arith}
-use Rattle.std.specs.Prelude.{Option, Some, None, option_map, slice_get, slice_index_or}
+use Rattle.std.specs.Prelude.{Option, Some, None, if◌then◌else◌, option_and_then, option_map, slice_get, slice_index_or}
 use Rattle.sv_types.specs.Clock.{Clock, timer_of}
 use Rattle.spec_processor.specs.HypervisorRegisters.{HypervisorRegisters}
-use Rattle.spec_reference.specs.States.{State, Hart}
+use Rattle.spec_processor.specs.declared.lines.Lines.{Lines}
+use Rattle.spec_reference.specs.Devices.{lines_at}
+use Rattle.spec_reference.specs.States.{State, Hart, Devices, protections_of}
 use Rattle.spec_hardware.specs.Machine.{Machine, HwHart}
 use Rattle.spec_hardware.specs.StandsFor.{StandsFor, Unseen, machine_of, hw_harts}
 use Rattle.spec_reference.specs.SavedStates.{saved_hart}
 use Rattle.spec_reference.specs.declared.saved_machine.harts.SavedHart.{SavedHart}
 use Rattle.monitor_exits.specs.HwOfSlots.{hw_at, hw_harts_of}
 use Rattle.monitor_exits.specs.declared.slots.HartSlot.{HartSlot}
+use Rattle.machine.specs.Fetching.{fetch_place, hw_fetch_place}
 use Rattle.machine.specs.Keeping.{kept_hart}
 use Rattle.machine.proofs.Kept.{hart_kept}
 
@@ -75,3 +78,72 @@ hart_of_state o r h size = hart_in_state (length o.tables) o.exits r.harts r.dev
 pub hart_seen : (m : Machine) (r : State) (h : ℕ) → StandsFor m r →
     option_map (kept_hart (length m.region.tables) (timer_of m.devices.clock h)) (slice_get m.harts h) ≡ option_map (saved_hart r.devices.clock h) (slice_get r.harts h)
 hart_seen m r h stands = ap (λ x. kept_of x h) stands.same ∙ hart_of_state stands.unseen r h stands.unseen_is_right.exits
+
+-- ---- where a hart is about to fetch
+
+abbrev saved_place : SavedHart → Option ℕ
+saved_place s = if s.started then Some s.pc else None
+
+place_by_kept : (tables timer : ℕ) (hw : Option HwHart) → option_and_then hw_fetch_place hw ≡ option_and_then saved_place (option_map (kept_hart tables timer) hw)
+place_by_kept tables timer None = refl
+place_by_kept tables timer (Some hw) = refl
+
+place_by_saved : (clock : Clock) (h : ℕ) (hart : Option Hart) → option_and_then saved_place (option_map (saved_hart clock h) hart) ≡ option_and_then fetch_place hart
+place_by_saved clock h None = refl
+place_by_saved clock h (Some hart) = refl
+
+pub place_seen : (m : Machine) (r : State) (h : ℕ) → StandsFor m r → option_and_then hw_fetch_place (slice_get m.harts h) ≡ option_and_then fetch_place (slice_get r.harts h)
+place_seen m r h stands =
+    place_by_kept (length m.region.tables) (timer_of m.devices.clock h) (slice_get m.harts h)
+    ∙ ap (λ (s : Option SavedHart). option_and_then saved_place s) (hart_seen m r h stands)
+    ∙ place_by_saved r.devices.clock h (slice_get r.harts h)
+
+place_in_slots : (slots : List HartSlot) (h : ℕ) (d : HartSlot) → h < length slots →
+    option_and_then hw_fetch_place (slice_get (hw_harts_of slots) h) ≡ hw_fetch_place (hw_at (slice_index_or slots h d))
+place_in_slots [] h d below = absurd (omega (arith, below))
+place_in_slots (x ∷ slots) zero d below = refl
+place_in_slots (x ∷ slots) (suc h) d below = place_in_slots slots h d (omega (arith, below))
+
+pub place_there : (slots : List HartSlot) (h : ℕ) (slot : HartSlot) → h < length slots → slot ≡ slice_index_or slots h slot →
+    hw_fetch_place (hw_at slot) ≡ option_and_then hw_fetch_place (slice_get (hw_harts_of slots) h)
+place_there slots h slot below is = ap (λ s. hw_fetch_place (hw_at s)) is ∙ sym (place_in_slots slots h slot below)
+
+-- ---- wires
+
+same_by_kept : {A : Type 0} (a : A) (tables timer : ℕ) (hw : Option HwHart) → option_map (λ _. a) hw ≡ option_map (λ (s : SavedHart). a) (option_map (kept_hart tables timer) hw)
+same_by_kept a tables timer None = refl
+same_by_kept a tables timer (Some hw) = refl
+
+same_by_saved : {A : Type 0} (a : A) (clock : Clock) (h : ℕ) (hart : Option Hart) → option_map (λ (s : SavedHart). a) (option_map (saved_hart clock h) hart) ≡ option_map (λ _. a) hart
+same_by_saved a clock h None = refl
+same_by_saved a clock h (Some hart) = refl
+
+devices_of_state : (o : Unseen) (r : State) → (machine_of o r).devices ≡ r.devices
+unfolding machine_of
+devices_of_state o r = refl
+
+lines_by : (m : Machine) (r : State) (h : ℕ) (lines : Lines) → StandsFor m r → option_map (λ _. lines) (slice_get m.harts h) ≡ option_map (λ _. lines) (slice_get r.harts h)
+lines_by m r h lines stands =
+    same_by_kept lines (length m.region.tables) (timer_of m.devices.clock h) (slice_get m.harts h)
+    ∙ ap (λ (s : Option SavedHart). option_map (λ (x : SavedHart). lines) s) (hart_seen m r h stands)
+    ∙ same_by_saved lines r.devices.clock h (slice_get r.harts h)
+
+pub lines_seen : (m : Machine) (r : State) (h : ℕ) → StandsFor m r →
+    option_map (λ _. lines_at m.devices h) (slice_get m.harts h) ≡ option_map (λ _. lines_at r.devices h) (slice_get r.harts h)
+lines_seen m r h stands =
+    let same : m.devices ≡ r.devices = ap (λ (x : Machine). x.devices) stands.same ∙ devices_of_state stands.unseen r in
+    lines_by m r h (lines_at m.devices h) stands ∙ ap (λ (d : Devices). option_map (λ _. lines_at d h) (slice_get r.harts h)) same
+
+pub lines_there : (slots : List HartSlot) (h : ℕ) (lines : Lines) → h < length slots → Some lines ≡ option_map (λ _. lines) (slice_get (hw_harts_of slots) h)
+lines_there [] h lines below = absurd (omega (arith, below))
+lines_there (x ∷ slots) zero lines below = refl
+lines_there (x ∷ slots) (suc h) lines below = lines_there slots h lines (omega (arith, below))
+
+-- ---- how pages are guarded
+
+protections_of_state : (o : Unseen) (r : State) → (machine_of o r).protections ≡ protections_of r
+unfolding machine_of
+protections_of_state o r = refl
+
+pub protections_seen : (m : Machine) (r : State) → StandsFor m r → m.protections ≡ protections_of r
+protections_seen m r stands = ap (λ (x : Machine). x.protections) stands.same ∙ protections_of_state stands.unseen r

@@ -182,6 +182,12 @@ stands_printed m r cleared s =
 pub stands_verdict : (m : Machine) (r : State) (cleared : List ℕ) → Stands m cleared r → m.journal.verdict ≡ r.journal.verdict
 stands_verdict m r cleared s = verdict_is m r s.stands
 
+pub stands_notes : (m : Machine) (r : State) (cleared : List ℕ) → Stands m cleared r → m.journal.notes ≡ r.journal.notes
+stands_notes m r cleared s = ap (λ (j : Journal). j.notes) (journal_is m r s.stands)
+
+pub stands_counts : (m : Machine) (r : State) (cleared : List ℕ) → Stands m cleared r → m.journal.counts ≡ r.journal.counts
+stands_counts m r cleared s = ap (λ (j : Journal). j.counts) (journal_is m r s.stands)
+
 pub stands_disk : (m : Machine) (r : State) (cleared : List ℕ) → Stands m cleared r → disk_bytes m.devices.disk ≡ disk_bytes r.devices.disk
 unfolding machine_of
 stands_disk m r cleared s = ap (λ (x : Machine). disk_bytes x.devices.disk) s.stands.same

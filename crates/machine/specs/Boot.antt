@@ -4,6 +4,8 @@ use Rattle.sv_types.specs.Kernel.{header_entry, kernel_refusal, kernel_segments,
 use Rattle.sv_types.specs.Measure.{measure}
 use Rattle.sv_types.specs.Policies.{Rules}
 use Rattle.spec_reference.specs.States.{has_number}
+use Rattle.spec_hardware.specs.Machine.{Machine}
+use Rattle.laws_resume.specs.TextPages.{text_digests}
 use Rattle.elf64_load.specs.Images.{segments_of}
 use Rattle.elf64_load.specs.declared.image.KernelImage.{KernelImage}
 use Rattle.machine.specs.declared.boot.BootRefusal.{BootRefusal}
@@ -38,3 +40,9 @@ RefusesImage image rules (Measure found asked) = RefusesFlat (image_text image) 
 RefusesImage image rules (Entry entry) =
     (entry ≡ image.entry) × ((has_number rules.entries entry ≡ false) × (measure (image_text image) ≡ rules.kernel))
 RefusesImage image rules Memory = Unit {0}
+
+-- ---- the digests of a machine's text
+
+-- these are the digests of the pages that are approved now, ascending
+abbrev pub HasDigests : Machine → List (List ℕ) → Type 0
+HasDigests m digests = digests ≡ text_digests m.region.ram m.protections

@@ -17,3 +17,4 @@ pub mod Parts
 pub mod Seating
 pub mod Timing
 pub mod Measured
+pub mod Fetching

@@ -3,7 +3,7 @@
 ghost use Rattle.std.specs.Prelude.{◌≡◌, ℕ, ◌≤◌, ◌*◌, List, length, true, IfOk, OnOk, IfErr, IsTrue};
 ghost use Rattle.spec_processor.specs.Bytes.{page_size};
 ghost use Rattle.sv_types.specs.Kernel.{segments_ram};
-ghost use Rattle.sv_types.specs.Measure.{measure};
+ghost use Rattle.sv_types.specs.Measure.{digests_of, measure};
 ghost use Rattle.sv_types.specs.Policies.{rules_of, rules_within};
 ghost use Rattle.spec_processor.specs.Regions.{max_ram_pages};
 ghost use Rattle.gstage_tables.specs.Layout.{max_bound, table_size};
@@ -17,7 +17,7 @@ ghost use Rattle.spec_hardware.specs.Reaches.{IsNew};
 ghost use Rattle.spec_hardware.specs.StandsFor.{bound_pages};
 ghost use Rattle.hw_devices.specs.Ports.{port_disk};
 ghost use Rattle.laws_resume.specs.Starts.{image_machine, image_protections, journal_at_boot, IsGuarded};
-ghost use Rattle.machine.specs.Boot.{IsImageOf, image_text, RefusesFlat, RefusesImage};
+ghost use Rattle.machine.specs.Boot.{HasDigests, IsImageOf, image_text, RefusesFlat, RefusesImage};
 
 use crate::boot::BootRefusal;
 use crate::events::System;
@@ -33,6 +33,12 @@ use std::alloc::{AllocError, Global};
 use std::thread::Threads;
 use sv_types::{Digest, Policy};
 
+/// A system before its first event, and the digests of its text's pages, ascending, by which it was measured.
+pub(crate) struct BootedSystem {
+    pub(crate) system: System,
+    pub(crate) digests: Vec<Digest>,
+}
+
 /// A machine of a kernel's image under a policy: the image's segments in RAM, its text approved, and hart 0 at its
 /// entry. First the text is measured against the policy, and the entry has to be one of the policy's.
 #[tactic(auto, unfolding(laws_resume::specs::Starts::machine_at_boot, laws_resume::specs::Starts::image_machine))]
@@ -42,45 +48,49 @@ pub(crate) fn boot<R: Threads + Sync>(
     image: &KernelImage,
     policy: Policy,
     port: Port,
-) -> Result<System, BootRefusal>
+) -> Result<BootedSystem, BootRefusal>
     requires within { IsTrue (rules_within (rules_of policy)) }
     requires placed { ArePlaced policy.ram_pages (segments_of image.now) }
     requires quiet { IsSoundDisk (port_disk port) }
-    ensures made { IfOk result (λ p. p ≡ image_machine p.region.tables (rules_of policy) image.now.entry (segments_of image.now) (port_disk port)) }
+    ensures made { IfOk result (λ b.
+        b.system ≡ image_machine b.system.region.tables (rules_of policy) image.now.entry (segments_of image.now) (port_disk port)) }
     ensures new { (file : List ℕ) → IsImageOf file policy.ram_pages image.now →
-        IfOk result (λ p. IsNew p (image_start (rules_of policy) file (port_disk port))) }
-    ensures journal { IfOk result (λ p. p.journal ≡ journal_at_boot) }
-    ensures guarded { IfOk result IsGuarded }
+        IfOk result (λ b. IsNew b.system (image_start (rules_of policy) file (port_disk port))) }
+    ensures digests { (file : List ℕ) → IsImageOf file policy.ram_pages image.now → IfOk result (λ b. HasDigests b.system b.digests.items) }
+    ensures journal { IfOk result (λ b. b.system.journal ≡ journal_at_boot) }
+    ensures guarded { IfOk result (λ b. IsGuarded b.system) }
     ensures measured { OnOk result (measure (image_text image.now) ≡ policy.kernel) }
     ensures permitted { OnOk result (has_number policy.entries.items image.now.entry ≡ true) }
     ensures refused { IfErr result (RefusesImage image.now (rules_of policy)) }
 {
-    judge_image(rt, alloc, image, &policy)?;
-    Ok(assemble(alloc, image, policy, port)?)
+    let digests = judge_image(rt, alloc, image, &policy)?;
+    let system = assemble(alloc, image, policy, port)?;
+    Ok(BootedSystem { system, digests })
 }
 
-// The text has the policy's measure, and the entry is permitted.
+// The digests of the text, which has the policy's measure; and the entry is permitted.
 #[tactic(auto, using(crate::proofs::ImageStarting::image_refused))]
 fn judge_image<R: Threads + Sync>(
     rt: &R,
     alloc: Global,
     image: &KernelImage,
     policy: &Policy,
-) -> Result<(), BootRefusal>
+) -> Result<Vec<Digest>, BootRefusal>
+    ensures digests { IfOk result (λ digests. digests.items ≡ digests_of (image_text image.now)) }
     ensures measured { OnOk result (measure (image_text image.now) ≡ policy.now.kernel) }
     ensures permitted { OnOk result (has_number policy.now.entries.items image.now.entry ≡ true) }
     ensures words { OnOk result (AreWords policy.now.entries.items) }
     ensures refused { IfErr result (RefusesImage image.now (rules_of policy.now)) }
 {
-    judge_text(rt, alloc, image, policy.kernel)?;
+    let digests = judge_text(rt, alloc, image, policy.kernel)?;
     if is_permitted(&policy.entries, image.entry) {
-        Ok(())
+        Ok(digests)
     } else {
         Err(BootRefusal::Entry { entry: image.entry })
     }
 }
 
-// Refuses text whose measure isn't the one that is wanted. It is measured where it lies in the file, or else in a copy, which
+// The digests of the text. Refuses text whose measure isn't the one that is wanted. It is measured where it lies in the file, or else in a copy, which
 // is given back after this.
 #[tactic(auto, using(crate::proofs::ImageStarting::text_whole))]
 fn judge_text<R: Threads + Sync>(
@@ -88,7 +98,8 @@ fn judge_text<R: Threads + Sync>(
     alloc: Global,
     image: &KernelImage,
     wanted: Digest,
-) -> Result<(), BootRefusal>
+) -> Result<Vec<Digest>, BootRefusal>
+    ensures digests { IfOk result (λ digests. digests.items ≡ digests_of (image_text image.now)) }
     ensures measured { OnOk result (measure (image_text image.now) ≡ wanted) }
     ensures refused { IfErr result (RefusesFlat (image_text image.now) wanted) }
 {

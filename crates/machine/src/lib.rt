@@ -21,5 +21,6 @@ pub use boot::BootRefusal;
 pub use drawing::Drawing;
 pub use hw_devices::SECTOR_BYTES;
 pub use machine::Machine;
+pub use machine_start::Booted;
 pub use resume::ResumeFailure;
 pub use running::{flush_due, run};

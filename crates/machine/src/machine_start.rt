@@ -12,10 +12,10 @@ ghost use Rattle.spec_reference.specs.Soundness.{IsSoundDisk};
 ghost use Rattle.spec_hardware.specs.Reaches.{IsNew};
 ghost use Rattle.hw_devices.specs.Ports.{port_disk};
 ghost use Rattle.laws_resume.specs.Starts.{journal_at_boot};
-ghost use Rattle.machine.specs.Boot.{IsImageOf, IsRead, image_text, RefusesFlat, RefusesImage};
+ghost use Rattle.machine.specs.Boot.{HasDigests, IsImageOf, IsRead, image_text, RefusesFlat, RefusesImage};
 
 use crate::boot::BootRefusal;
-use crate::image_start::boot;
+use crate::image_start::{BootedSystem, boot};
 use crate::machine::Machine;
 use crate::start::flat;
 use elf64_load::KernelImage;
@@ -23,6 +23,86 @@ use hw_devices::Port;
 use std::alloc::Global;
 use std::thread::Threads;
 use sv_types::{Digest, Policy};
+
+/// A machine before its first event, and the digests of its text's pages, ascending, by which it was measured.
+#[derive(Drop)]
+pub struct Booted {
+    pub machine: Machine,
+    pub digests: Vec<Digest>,
+}
+
+impl Booted {
+    /// A machine as `Machine::boot` makes it, with the digests of its text.
+    pub fn block<R: Threads + Sync>(
+        rt: &R,
+        alloc: Global,
+        image: &KernelImage,
+        policy: Policy,
+        disk: Vec<u8>,
+    ) -> Result<Booted, BootRefusal>
+        requires within { IsTrue (rules_within (rules_of policy)) }
+        requires read { IsRead policy.ram_pages image.now }
+        requires sectors { length disk.items % sector_size ≡ 0 }
+        ensures new { (file : List ℕ) → IsImageOf file policy.ram_pages image.now →
+            IfOk result (λ b. IsNew b.machine (boot_start (rules_of policy) file disk.items)) }
+        ensures digests { IfOk result (λ b. HasDigests b.machine b.digests.items) }
+        ensures journal { IfOk result (λ b. b.machine.journal ≡ journal_at_boot) }
+        ensures measured { OnOk result (measure (image_text image.now) ≡ policy.kernel) }
+        ensures permitted { OnOk result (has_number policy.entries.items image.now.entry ≡ true) }
+        ensures refused { IfErr result (RefusesImage image.now (rules_of policy)) }
+    {
+        Booted::after(rt, alloc, image, policy, Port::block(disk))
+    }
+
+    /// The same with its disk behind a virtio block device.
+    pub fn virtio<R: Threads + Sync>(
+        rt: &R,
+        alloc: Global,
+        image: &KernelImage,
+        policy: Policy,
+        disk: Vec<u8>,
+    ) -> Result<Booted, BootRefusal>
+        requires within { IsTrue (rules_within (rules_of policy)) }
+        requires read { IsRead policy.ram_pages image.now }
+        requires sectors { length disk.items % sector_size ≡ 0 }
+        ensures new { (file : List ℕ) → IsImageOf file policy.ram_pages image.now →
+            IfOk result (λ b. IsNew b.machine (virtio_start (rules_of policy) file disk.items)) }
+        ensures digests { IfOk result (λ b. HasDigests b.machine b.digests.items) }
+        ensures journal { IfOk result (λ b. b.machine.journal ≡ journal_at_boot) }
+        ensures measured { OnOk result (measure (image_text image.now) ≡ policy.kernel) }
+        ensures permitted { OnOk result (has_number policy.entries.items image.now.entry ≡ true) }
+        ensures refused { IfErr result (RefusesImage image.now (rules_of policy)) }
+    {
+        Booted::after(rt, alloc, image, policy, Port::virtio(disk))
+    }
+
+    // The same with its disk behind a device as it stands.
+    fn after<R: Threads + Sync>(
+        rt: &R,
+        alloc: Global,
+        image: &KernelImage,
+        policy: Policy,
+        port: Port,
+    ) -> Result<Booted, BootRefusal>
+        requires within { IsTrue (rules_within (rules_of policy)) }
+        requires read { IsRead policy.ram_pages image.now }
+        requires quiet { IsSoundDisk (port_disk port) }
+        ensures new { (file : List ℕ) → IsImageOf file policy.ram_pages image.now →
+            IfOk result (λ b. IsNew b.machine (image_start (rules_of policy) file (port_disk port))) }
+        ensures digests { IfOk result (λ b. HasDigests b.machine b.digests.items) }
+        ensures journal { IfOk result (λ b. b.machine.journal ≡ journal_at_boot) }
+        ensures measured { OnOk result (measure (image_text image.now) ≡ policy.kernel) }
+        ensures permitted { OnOk result (has_number policy.entries.items image.now.entry ≡ true) }
+        ensures refused { IfErr result (RefusesImage image.now (rules_of policy)) }
+    {
+        let BootedSystem { system, digests } = boot(rt, alloc, image, policy, port)?;
+        let machine = Machine {
+            system,
+            none_reserved: false,
+        };
+        Ok(Booted { machine, digests })
+    }
+}
 
 impl Machine {
     /// A machine of 16 pages of RAM with these pages at their start, all of them approved, where the hart begins. It has
@@ -67,7 +147,7 @@ impl Machine {
         ensures permitted { OnOk result (has_number policy.entries.items image.now.entry ≡ true) }
         ensures refused { IfErr result (RefusesImage image.now (rules_of policy)) }
     {
-        Machine::boot_after(rt, alloc, image, policy, Port::block(disk))
+        Ok(Booted::block(rt, alloc, image, policy, disk)?.machine)
     }
 
     /// The same with its disk behind a virtio block device.
@@ -88,31 +168,6 @@ impl Machine {
         ensures permitted { OnOk result (has_number policy.entries.items image.now.entry ≡ true) }
         ensures refused { IfErr result (RefusesImage image.now (rules_of policy)) }
     {
-        Machine::boot_after(rt, alloc, image, policy, Port::virtio(disk))
-    }
-
-    // The same with its disk behind a device as it stands.
-    fn boot_after<R: Threads + Sync>(
-        rt: &R,
-        alloc: Global,
-        image: &KernelImage,
-        policy: Policy,
-        port: Port,
-    ) -> Result<Machine, BootRefusal>
-        requires within { IsTrue (rules_within (rules_of policy)) }
-        requires read { IsRead policy.ram_pages image.now }
-        requires quiet { IsSoundDisk (port_disk port) }
-        ensures new { (file : List ℕ) → IsImageOf file policy.ram_pages image.now →
-            IfOk result (λ m. IsNew m (image_start (rules_of policy) file (port_disk port))) }
-        ensures journal { IfOk result (λ m. m.journal ≡ journal_at_boot) }
-        ensures measured { OnOk result (measure (image_text image.now) ≡ policy.kernel) }
-        ensures permitted { OnOk result (has_number policy.entries.items image.now.entry ≡ true) }
-        ensures refused { IfErr result (RefusesImage image.now (rules_of policy)) }
-    {
-        let system = boot(rt, alloc, image, policy, port)?;
-        Ok(Machine {
-            system,
-            none_reserved: false,
-        })
+        Ok(Booted::virtio(rt, alloc, image, policy, disk)?.machine)
     }
 }

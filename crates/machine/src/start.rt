@@ -4,7 +4,7 @@ ghost use Rattle.std.specs.Prelude.{◌≡◌, ◌+◌, [], ◌≤◌, ◌*◌, 
 ghost use Rattle.spec_processor.specs.Bytes.{page_size};
 ghost use Rattle.sv_types.specs.Boot.{flat_ram_pages, max_flat_bytes};
 ghost use Rattle.sv_types.specs.Limits.{max_harts};
-ghost use Rattle.sv_types.specs.Measure.{measure};
+ghost use Rattle.sv_types.specs.Measure.{digests_of, measure};
 ghost use Rattle.sv_types.specs.Policies.{rules_of};
 ghost use Rattle.gstage_tables.specs.Layout.{max_bound, table_size};
 ghost use Rattle.page_guard.specs.Guarded.{TablesMatchGuard, Guards};
@@ -31,7 +31,7 @@ use machine_journal::Journal;
 use module_gate::Modules;
 use monitor_exits::HartSlot;
 use page_guard::{Entries, Guard, PrivilegeView};
-use page_measure::{Silent, measure};
+use page_measure::{Silent, digest_chunks, join_digests};
 use secvisor_core::Visor;
 use spec_processor::{PAGE_SIZE, RAM_BASE};
 use std::alloc::{AllocError, Global};
@@ -108,7 +108,7 @@ pub(crate) fn flat<R: Threads + Sync>(
     ensures measured { OnOk result (measure pages.now ≡ wanted) }
     ensures refused { IfErr result (RefusesFlat pages.now wanted) }
 {
-    judge_measure(rt, alloc, pages, wanted)?;
+    let _digests = judge_measure(rt, alloc, pages, wanted)?;
     Ok(assemble(alloc, pages, wanted)?)
 }
 
@@ -222,20 +222,23 @@ fn empty_caches(alloc: Global, harts: u8) -> Result<Vec<HartCaches>, AllocError>
 
 // ---- plain pages
 
-/// Refuses pages whose measure isn't the one that is wanted.
+/// The digests of pages, in their order. Refuses pages whose measure isn't the one that is wanted.
+#[tactic(auto, unfolding(sv_types::specs::Measure::measure))]
 pub(crate) fn judge_measure<R: Threads + Sync>(
     rt: &R,
     alloc: Global,
     pages: &[u8],
     wanted: Digest,
-) -> Result<(), BootRefusal>
+) -> Result<Vec<Digest>, BootRefusal>
     requires { length pages.now % page_size ≡ 0 }
+    ensures digests { IfOk result (λ digests. digests.items ≡ digests_of pages.now) }
     ensures measured { OnOk result (measure pages.now ≡ wanted) }
     ensures refused { IfErr result (RefusesFlat pages.now wanted) }
 {
-    let found = measure(rt, alloc, pages, &Silent)?;
+    let digests = digest_chunks(rt, alloc, pages, &Silent)?;
+    let found = join_digests(&digests);
     if is_same(&found, &wanted) {
-        Ok(())
+        Ok(digests)
     } else {
         Err(BootRefusal::Measure { found, wanted })
     }

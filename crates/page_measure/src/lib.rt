@@ -23,8 +23,7 @@ const CHUNK_PAGES: usize = 64;
 
 const CHUNK_BYTES: usize = CHUNK_PAGES * PAGE_SIZE;
 
-/// The measure of pages, which lie one after the other. The meter sees each chunk of 64 pages, of which the last may be
-/// shorter. Out of memory is the one refusal.
+/// The measure of pages, which lie one after the other, with the same meter. Out of memory is the one refusal.
 pub fn measure<R: Threads + Sync, M: Meter + Sync>(
     rt: &R,
     alloc: Global,
@@ -56,8 +55,9 @@ pub fn join_digests(digests: &[Digest]) -> Digest
     hasher.finalize()
 }
 
-// The digests of all pages, in their order.
-fn digest_chunks<R: Threads + Sync, M: Meter + Sync>(
+/// The digests of pages, which lie one after the other, in their order. The meter sees each chunk of 64 pages, of which the
+/// last may be shorter. Out of memory is the one refusal.
+pub fn digest_chunks<R: Threads + Sync, M: Meter + Sync>(
     rt: &R,
     alloc: Global,
     pages: &[u8],

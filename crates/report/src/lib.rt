@@ -7,5 +7,6 @@ mod notes;
 mod verdict;
 mod whole;
 
-pub use verdict::status_of;
+pub use notes::note_line;
+pub use verdict::{status_of, verdict_text};
 pub use whole::report;

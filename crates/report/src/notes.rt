@@ -69,7 +69,8 @@ fn retire_line(alloc: Global, hart: u8, turn: u64, code: SbiCode) -> Result<Stri
     format!(in alloc; "retire hart {hart} turn {turn} code {code}\n")
 }
 
-fn note_line(alloc: Global, note: Note) -> Result<String, AllocError>
+/// The line of a note.
+pub fn note_line(alloc: Global, note: Note) -> Result<String, AllocError>
     ensures { IfOk result (λ t. string_bytes t ≡ spec.note_line note) }
 {
     match note {

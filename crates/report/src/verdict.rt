@@ -71,6 +71,15 @@ pub fn push_verdict(alloc: Global, text: &mut String, verdict: Verdict) -> Resul
     }
 }
 
+/// The line of a verdict.
+pub fn verdict_text(alloc: Global, verdict: Verdict) -> Result<String, AllocError>
+    ensures { IfOk result (λ t. string_bytes t ≡ spec.verdict_line verdict) }
+{
+    let mut text = String::new(alloc);
+    push_verdict(alloc, &mut text, verdict)?;
+    Ok(text)
+}
+
 /// The status of a run that ended with a verdict.
 pub fn status_of(verdict: Verdict) -> Status
     ensures { result ≡ spec.run_status verdict }

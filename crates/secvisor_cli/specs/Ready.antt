@@ -34,6 +34,7 @@ use Rattle.cli_plans.specs.declared.asking.Unread.TheVariants as unread
 use Rattle.cli_plans.specs.declared.refusal.Refusal.TheVariants.{ReadFault, File}
 use Rattle.secvisor_cli.specs.declared.ready.Ready.{Ready}
 use Rattle.secvisor_cli.specs.declared.ready.Ready.TheVariants.{Run, Save}
+use Rattle.secvisor_cli.specs.declared.ready.MeasuredRun.{MeasuredRun}
 use Rattle.secvisor_cli.specs.declared.ready.PreparedRun.{PreparedRun}
 use Rattle.secvisor_cli.specs.declared.ready.Made.{Made}
 use Rattle.policy_making.specs.declared.policy.MeasuredKernel.{MeasuredKernel}
@@ -67,6 +68,11 @@ stop_of_unread unread.Memory = Memory
 abbrev pub run_ready : Result PreparedRun Stop → Result Ready Stop
 run_ready (Ok booted) = Ok (Run booted)
 run_ready (Err stop) = Err stop
+
+-- what is ready of a run without its digests
+abbrev pub run_of : Result MeasuredRun Stop → Result PreparedRun Stop
+run_of (Ok measured) = Ok measured.run
+run_of (Err stop) = Err stop
 
 -- a boot that is refused
 abbrev pub stop_of : BootRefusal → Stop

@@ -8,23 +8,23 @@ ghost use Rattle.sv_types.specs.Policies.{rules_of, rules_within};
 ghost use Rattle.sv_types.specs.Schedule.{Schedule};
 ghost use Rattle.spec_reference.specs.States.{has_number};
 ghost use Rattle.spec_hardware.specs.Reaches.{IsNew};
-ghost use Rattle.machine.specs.Boot.{IsImageOf, IsRead, image_text, RefusesImage};
+ghost use Rattle.machine.specs.Boot.{HasDigests, IsImageOf, IsRead, image_text, RefusesImage};
 ghost use Rattle.policy.specs.Text.{rules_of_text};
 ghost use Rattle.cli_plans.specs.CommandLine.{Auto};
 ghost use Rattle.cli_plans.specs.Plans.{policy_part, kernel_part, disk_part, text_part, script_part, boot_plan, run_plan, start_with};
 ghost use Rattle.cli_plans.specs.Reading.{MayFollow};
-ghost use Rattle.secvisor_cli.specs.Ready.{Prepares, Staged, MayStage, DrawsFrom, IsPolicy, IsKernel, IsScript, run_ready};
+ghost use Rattle.secvisor_cli.specs.Ready.{Prepares, Staged, MayStage, DrawsFrom, IsPolicy, IsKernel, IsScript, run_of, run_ready};
 ghost use Rattle.cli_plans.specs.Words.{source_value, run_value};
 ghost use Rattle.script.specs.HartCounts.{IsHartCount};
 ghost use Rattle.spec_processor.specs.Counters.{CanCount};
 
 use crate::parts::read_part;
-use crate::ready::{PreparedRun, Stop};
+use crate::ready::{MeasuredRun, PreparedRun, Stop};
 use cli_plans::command_words::DiskKind;
 use cli_plans::{FileFault, Part, Refusal, Run, Source};
 use elf64_load::{ElfRefusal, KernelImage, read_kernel};
 use host_io::Files;
-use machine::{BootRefusal, Machine, SECTOR_BYTES};
+use machine::{BootRefusal, Booted, SECTOR_BYTES};
 use policy::PolicyRefusal;
 use script::{Script, ScriptRefusal, auto, bursts, rounds};
 use std::alloc::Global;
@@ -56,6 +56,23 @@ pub fn prepare_run<'a, R: Threads + Sync, F: Files>(
     ensures prepares { Prepares (run_plan (run_value asked.now)) (F.state files.old) (F.state files.new) (run_ready result) }
     ensures draws { (number : ℕ) → source_value asked.now.script ≡ Auto number → IfOk result (DrawsFrom number) }
 {
+    Ok(prepare_measured(rt, alloc, asked, files)?.run)
+}
+
+/// The same with the digests of the machine's text.
+pub fn prepare_measured<'a, R: Threads + Sync, F: Files>(
+    rt: &R,
+    alloc: Global,
+    asked: &Run<'a>,
+    files: &mut F,
+) -> Result<MeasuredRun<'a>, Stop>
+    requires permitted { MayFollow (run_plan (run_value asked.now)) (F.state files.old) }
+    requires reads { CanCount (F.state files.old).read_faults }
+    requires events { asked.now.events ≤ max_events }
+    ensures prepares { Prepares (run_plan (run_value asked.now)) (F.state files.old) (F.state files.new) (run_ready (run_of result)) }
+    ensures draws { (number : ℕ) → source_value asked.now.script ≡ Auto number → IfOk result (λ m. DrawsFrom number m.run) }
+    ensures digests { IfOk result (λ m. HasDigests m.run.machine m.digests.items) }
+{
     let policy = read_policy(alloc, asked.policy, files)?;
     let file = read_part(alloc, files, Part::Image, asked.image, MAX_IMAGE_BYTES)?;
     boot_file(rt, alloc, asked, policy, &file, files)
@@ -69,28 +86,32 @@ pub fn boot_file<'a, R: Threads + Sync, F: Files>(
     policy: Policy,
     file: &[u8],
     files: &mut F,
-) -> Result<PreparedRun<'a>, Stop>
+) -> Result<MeasuredRun<'a>, Stop>
     requires permitted { MayFollow (kernel_part (rules_of policy) file.now (boot_plan (run_value asked.now) (rules_of policy) file.now)) (F.state files.old) }
     requires reads { CanCount (F.state files.old).read_faults }
     requires events { asked.now.events ≤ max_events }
     requires within { IsTrue (rules_within (rules_of policy)) }
     ensures prepares { Prepares (kernel_part (rules_of policy) file.now (boot_plan (run_value asked.now) (rules_of policy) file.now))
-        (F.state files.old) (F.state files.new) (run_ready result) }
-    ensures draws { (number : ℕ) → source_value asked.now.script ≡ Auto number → IfOk result (DrawsFrom number) }
+        (F.state files.old) (F.state files.new) (run_ready (run_of result)) }
+    ensures draws { (number : ℕ) → source_value asked.now.script ≡ Auto number → IfOk result (λ m. DrawsFrom number m.run) }
+    ensures digests { IfOk result (λ m. HasDigests m.run.machine m.digests.items) }
 {
     let image = judge_kernel(alloc, file, policy.ram_pages)?;
     let disk = read_disk(alloc, asked.disk, files)?;
     let script = read_script(alloc, &asked.script, policy.harts, files)?;
-    let machine = boot_with(rt, alloc, asked.kind, &image, policy, disk)?;
-    Ok(PreparedRun {
-        machine,
-        script,
-        events: asked.events,
-        save: asked.save,
+    let booted = boot_with(rt, alloc, asked.kind, &image, policy, disk)?;
+    Ok(MeasuredRun {
+        run: PreparedRun {
+            machine: booted.machine,
+            script,
+            events: asked.events,
+            save: asked.save,
+        },
+        digests: booted.digests,
     })
 }
 
-/// A machine with a disk of such a kind.
+/// A machine with a disk of such a kind, and the digests of its text.
 pub fn boot_with<R: Threads + Sync>(
     rt: &R,
     alloc: Global,
@@ -98,18 +119,20 @@ pub fn boot_with<R: Threads + Sync>(
     image: &KernelImage,
     policy: Policy,
     disk: Vec<u8>,
-) -> Result<Machine, BootRefusal>
+) -> Result<Booted, BootRefusal>
     requires within { IsTrue (rules_within (rules_of policy)) }
     requires read { IsRead policy.ram_pages image.now }
     requires sectors { length disk.items % sector_size ≡ 0 }
-    ensures new { (file : List ℕ) → IsImageOf file policy.ram_pages image.now → IfOk result (λ m. IsNew m (start_with kind (rules_of policy) file disk.items)) }
+    ensures new { (file : List ℕ) → IsImageOf file policy.ram_pages image.now →
+        IfOk result (λ b. IsNew b.machine (start_with kind (rules_of policy) file disk.items)) }
+    ensures digests { IfOk result (λ b. HasDigests b.machine b.digests.items) }
     ensures measured { OnOk result (measure (image_text image.now) ≡ policy.kernel) }
     ensures permitted { OnOk result (has_number policy.entries.items image.now.entry ≡ true) }
     ensures refused { IfErr result (RefusesImage image.now (rules_of policy)) }
 {
     match kind {
-        DiskKind::Block => Machine::boot(rt, alloc, image, policy, disk),
-        DiskKind::Virtio => Machine::boot_virtio(rt, alloc, image, policy, disk),
+        DiskKind::Block => Booted::block(rt, alloc, image, policy, disk),
+        DiskKind::Virtio => Booted::virtio(rt, alloc, image, policy, disk),
     }
 }
 

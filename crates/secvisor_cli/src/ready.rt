@@ -10,6 +10,7 @@ use policy_limits::PolicyFault;
 use policy_making::{BindFault, BindRefusal, MakingFault, MakingRefusal};
 use script::Script;
 use std::alloc::{AllocError, AllocFailed};
+use sv_types::Digest;
 
 /// What is ready of a command.
 #[derive(Drop)]
@@ -34,6 +35,13 @@ pub struct PreparedRun<'a> {
     pub events: u64,
     /// The name under which the disk is saved after the report, where it is.
     pub save: Option<&'a str>,
+}
+
+/// What is ready of a run, and the digests of its text's pages, ascending, by which the machine was measured.
+#[derive(Drop)]
+pub struct MeasuredRun<'a> {
+    pub run: PreparedRun<'a>,
+    pub digests: Vec<Digest>,
 }
 
 /// Why nothing is ready.

@@ -6,7 +6,8 @@ use Rattle.std.proofs.lemmas.Bool.{eqb-true, eqb-false, eq-eqb, ne_eqb}
 use Rattle.std.proofs.lemmas.Bool.Decides.{nat_tests}
 use Rattle.std.proofs.lemmas.List.{drop_all, drop_more}
 use Rattle.sv_types.specs.declared.protection.Protection.{Protection}
-use Rattle.snapshot_format.specs.Judgements.{are_same, is_same}
+use Rattle.sv_types.specs.Protections.{is_same}
+use Rattle.snapshot_format.specs.Judgements.{are_same}
 use Rattle.sv_types.proofs.TruthValues.{and_swap}
 
 -- ---- by their lengths and pairs

@@ -12,7 +12,7 @@ use Rattle.sv_types.specs.declared.protection.Protection.TheVariants.{Free, Held
 use Rattle.sv_types.specs.declared.saved.ModulePlacement.{ModulePlacement}
 use Rattle.spec_reference.specs.Loads.{is_good_load}
 use Rattle.spec_reference.specs.Origins.{is_init}
-use Rattle.sv_types.specs.Protections.{is_free}
+use Rattle.sv_types.specs.Protections.{is_free, is_same}
 use Rattle.spec_reference.specs.Protections.{protection_at}
 use Rattle.spec_reference.specs.States.{binding_at, module_pages, pages_in_rule}
 use Rattle.spec_reference.specs.declared.saved_machine.harts.SavedHart.{SavedHart}
@@ -96,17 +96,6 @@ with_approved rules s = take_pages Approved (all_free rules) (approved_of rules 
 -- and then the load its own, which are held; none where a page would be two parties'
 unfoldable pub guard_due : Rules → Contents → Option (List Protection)
 guard_due rules s = then_held (with_approved rules s) (load_pages rules s.loading)
-
-abbrev pub is_same : Protection → Protection → Bool
-is_same Free Free = true
-is_same Free Held = false
-is_same Free Approved = false
-is_same Held Free = false
-is_same Held Held = true
-is_same Held Approved = false
-is_same Approved Free = false
-is_same Approved Held = false
-is_same Approved Approved = true
 
 abbrev pub are_same : List Protection → List Protection → Bool
 are_same [] [] = true

@@ -1,18 +1,20 @@
 // A machine that is debugged.
-ghost use Rattle.std.specs.Prelude.{◌≡◌, ◌≤◌, ◌+◌, []};
+ghost use Rattle.std.specs.Prelude.{◌≡◌, ◌≤◌, ◌<◌, ◌+◌, [], IfSome};
+ghost use Rattle.std.proofs.Props.{props};
 ghost use Rattle.sv_types.specs.Limits.{max_events};
 ghost use Rattle.spec_reference.specs.Counting.{CountsAtMost};
 ghost use Rattle.cli_debug.specs.Upcoming.{most_upcoming};
 
 use crate::target::beginning::Beginning;
-use crate::target::stepping::{draw, step, turning};
+use crate::target::stepping::{after_row, draw, make_row, row_asked, turning};
 use debug_session::Target;
 use machine::Machine;
-use script::Script;
+use script::{EventRun, Script};
+use spec_processor::Lines;
 use spec_reference::saved_machine::SavedHart;
 use std::alloc::{AllocError, Global};
 use std::thread::Threads;
-use sv_types::{Event, Verdict};
+use sv_types::{Counts, Note, Protection, Verdict};
 
 /// A machine that is debugged: where its run begins, and where it stands.
 #[derive(Drop)]
@@ -23,14 +25,15 @@ pub struct DebuggedMachine<B: Drop> {
     machine: Machine,
     // The events that aren't drawn yet.
     script: Script,
-    // The next event.
-    next: Option<Event>,
+    // The next events, which are equal.
+    next: Option<EventRun>,
     // How many more may be drawn.
     left: u64,
     made: u64,
     // All bytes that the console printed.
     console: Vec<u8>,
     ghost none: { machine.journal.printed ≡ [] },
+    ghost some: { IfSome next (λ row. 0 < row.count) } by { Prim.hlevel props },
     ghost counts: { CountsAtMost made machine.journal.counts },
     ghost few: { made + most_upcoming next left ≤ events },
     ghost limit: { events ≤ max_events },
@@ -75,7 +78,7 @@ impl<B: Beginning + Drop> Target for DebuggedMachine<B> {
 
     fn most_left(&self) -> u64 {
         match self.next {
-            Some(_) => self.left + 1,
+            Some(row) => row.count + self.left,
             None => 0,
         }
     }
@@ -93,8 +96,7 @@ impl<B: Beginning + Drop> Target for DebuggedMachine<B> {
     }
 
     fn fetch_place(&self, hart: u8) -> Option<u64> {
-        let seen = self.machine.hart(hart)?;
-        if seen.started { Some(seen.pc) } else { None }
+        self.machine.fetch_place(hart)
     }
 
     fn verdict(&self) -> Verdict {
@@ -109,6 +111,22 @@ impl<B: Beginning + Drop> Target for DebuggedMachine<B> {
         self.machine.hart(hart)
     }
 
+    fn lines(&self, hart: u8) -> Option<Lines> {
+        self.machine.lines(hart)
+    }
+
+    fn notes(&self) -> &[Note] {
+        self.machine.journal()
+    }
+
+    fn counts(&self) -> Counts {
+        self.machine.counts()
+    }
+
+    fn protections(&self) -> &[Protection] {
+        self.machine.protections()
+    }
+
     fn ram(&self) -> &[u8] {
         self.machine.ram()
     }
@@ -117,16 +135,18 @@ impl<B: Beginning + Drop> Target for DebuggedMachine<B> {
         &self.console
     }
 
-    fn advance(&mut self) -> Result<(), AllocError> {
-        let Some(event) = self.next else {
-            return Ok(());
+    fn advance_row(&mut self, most: u64) -> Result<u64, AllocError> {
+        let Some(row) = self.next else {
+            return Ok(0);
         };
-        let told = step(&mut self.machine, event, &mut self.console);
-        let (next, left) = draw(&mut self.script, self.left);
+        let asked = row_asked(self.machine.verdict(), row.count, most);
+        let (count, told) = make_row(&mut self.machine, row.event, asked, &mut self.console);
+        let (next, left) = after_row(&mut self.script, row, count, self.left);
         self.next = next;
         self.left = left;
-        self.made += 1;
-        told
+        self.made += count;
+        told?;
+        Ok(count)
     }
 
     fn restart<R: Threads + Sync>(&mut self, rt: &R, alloc: Global) -> Result<(), AllocError> {

@@ -1,56 +1,104 @@
-// One event of a machine, and its console.
-ghost use Rattle.std.specs.Prelude.{◌≡◌, ◌<◌, ◌≤◌, ◌-◌, ◌+◌, ◌++◌, ℕ, List, [], OnOk, length};
-ghost use Rattle.sv_types.specs.Limits.{max_printed};
+// Equal events of a machine in a row, and its console.
+ghost use Rattle.std.specs.Prelude.{◌≡◌, ◌<◌, ◌≤◌, ◌-◌, ◌+◌, ℕ, [], OnOk, IfSome, Some, drop, replicate};
 ghost use Rattle.sv_types.specs.Schedule.{first_events};
+ghost use Rattle.sv_types.specs.declared.event.Verdict.TheVariants.{Running};
 ghost use Rattle.spec_reference.specs.Counting.{CountsAtMost};
-ghost use Rattle.spec_reference.specs.Run.{step};
+ghost use Rattle.spec_reference.specs.Run.{run};
 ghost use Rattle.spec_reference.specs.States.{State};
+ghost use Rattle.spec_hardware.specs.StandsFor.{StandsFor};
 ghost use Rattle.machine.specs.Limits.{max_counts};
 ghost use Rattle.machine.specs.Standing.{Stands};
 ghost use Rattle.debug_session.specs.Runs.{turning};
-ghost use Rattle.cli_debug.specs.Upcoming.{most_upcoming, upcoming};
+ghost use Rattle.cli_debug.specs.Upcoming.{most_upcoming, next_of, upcoming};
 
 use machine::Machine;
-use script::Script;
+use script::{EventRun, Script};
 use std::alloc::AllocError;
-use sv_types::Event;
+use sv_types::{Event, Verdict};
 
-/// Makes an event, and takes what it printed to the console's bytes.
-pub(crate) fn step(
+/// Makes an event up to `count` times, no more of it after one that printed or that ended the run, and takes what was printed to
+/// the console's bytes. Answers how often.
+pub(crate) fn make_row(
     machine: &mut Machine,
     event: Event,
+    count: u64,
     console: &mut Vec<u8>,
-) -> Result<(), AllocError>
+) -> (u64, Result<(), AllocError>)
+    requires some { 0 < count }
+    requires few { count ≤ max_counts }
     requires none { machine.old.journal.printed ≡ [] }
-    requires counts { CountsAtMost (max_counts - 1) machine.old.journal.counts }
-    ensures stands { OnOk result ((r : State) → Stands machine.old console.old.items r → Stands machine.new console.new.items (step r event)) }
+    requires counts { CountsAtMost (max_counts - count) machine.old.journal.counts }
+    ensures stands { OnOk result.1 ((r : State) → Stands machine.old console.old.items r →
+        Stands machine.new console.new.items (run r (replicate result.0 event))) }
+    ensures running { (r : State) → StandsFor machine.old r → machine.old.journal.verdict ≡ Running → (k : ℕ) → k < result.0 →
+        (run r (replicate k event)).journal.verdict ≡ Running }
     ensures none { machine.new.journal.printed ≡ [] }
-    ensures counts { (n : ℕ) → CountsAtMost n machine.old.journal.counts → CountsAtMost (n + 1) machine.new.journal.counts }
+    ensures counts { (n : ℕ) → CountsAtMost n machine.old.journal.counts → CountsAtMost (n + result.0) machine.new.journal.counts }
+    ensures some { 0 < result.0 }
+    ensures most { result.0 ≤ count }
 {
-    let _once = machine.repeat(event, 1);
+    let made = machine.repeat(event, count);
     let told = console.extend_from_slice(machine.printed());
     machine.clear_printed();
-    told
+    (made, told)
 }
 
-/// The hart whose turn an event is.
-pub(crate) fn turning(event: Option<Event>) -> Option<u8>
-    ensures { result ≡ turning event }
+/// How many of some equal events are asked of a machine at once: one, where the run has ended.
+pub(crate) fn row_asked(verdict: Verdict, count: u64, most: u64) -> u64
+    ensures count { 0 < count → result ≤ count }
+    ensures most { 0 < most → result ≤ most }
+    ensures some { 0 < count → 0 < most → 0 < result }
+    ensures running { 1 < result → verdict ≡ Running }
 {
-    match event {
-        Some(Event::Turn(hart)) => Some(hart),
-        Some(Event::Beat | Event::Key(_) | Event::Tick(_) | Event::Poke { .. }) | None => None,
+    match verdict {
+        Verdict::Running => count.min(most),
+        Verdict::Shutdown | Verdict::Stopped { .. } => 1,
     }
 }
 
-/// The next event of a script of which so many may still be drawn.
-pub(crate) fn draw(script: &mut Script, left: u64) -> (Option<Event>, u64)
+/// The hart whose turn the events at hand are.
+pub(crate) fn turning(row: Option<EventRun>) -> Option<u8>
+    ensures { result ≡ turning (next_of row) }
+{
+    match row?.event {
+        Event::Turn(hart) => Some(hart),
+        Event::Beat | Event::Key(_) | Event::Tick(_) | Event::Poke { .. } => None,
+    }
+}
+
+/// The next equal events of a script of which so many may still be drawn.
+pub(crate) fn draw(script: &mut Script, left: u64) -> (Option<EventRun>, u64)
     ensures same { upcoming result.0 result.1 script.new ≡ first_events left script.old }
     ensures fewer { most_upcoming result.0 result.1 ≤ left }
+    ensures some { IfSome result.0 (λ row. 0 < row.count) }
 {
     if left == 0 {
         return (None, 0);
     }
-    let next = script.next();
-    (next, left - 1)
+    let Some(row) = script.next_run(left) else {
+        return (None, 0);
+    };
+    (Some(row), left - row.count)
+}
+
+/// What is at hand after so many of the events at hand.
+pub(crate) fn after_row(
+    script: &mut Script,
+    row: EventRun,
+    made: u64,
+    left: u64,
+) -> (Option<EventRun>, u64)
+    requires { made ≤ row.count }
+    ensures same { upcoming result.0 result.1 script.new ≡ drop made (upcoming (Some row) left script.old) }
+    ensures fewer { most_upcoming result.0 result.1 + made ≤ row.count + left }
+    ensures some { IfSome result.0 (λ row. 0 < row.count) }
+{
+    if made == row.count {
+        return draw(script, left);
+    }
+    let rest = EventRun {
+        event: row.event,
+        count: row.count - made,
+    };
+    (Some(rest), left)
 }

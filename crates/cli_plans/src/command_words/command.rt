@@ -9,6 +9,15 @@ pub enum DiskKind {
     Virtio,
 }
 
+/// `show SNAPSHOT [KERNEL]`
+#[derive(Drop)]
+pub struct ShowWords<'a> {
+    /// The name of the snapshot.
+    pub saved: &'a str,
+    /// The name of the kernel whose symbols name addresses, where it is given.
+    pub kernel: Option<&'a str>,
+}
+
 /// `convert KERNEL IN OUT`
 #[derive(Drop)]
 pub struct ConvertWords<'a> {

@@ -65,6 +65,7 @@ fn arg_of<'a>(alloc: Global, argument: Argument<'a>) -> Arg<'a>
 {
     match argument {
         Argument::One(name) => Arg::new(alloc, name).required(true).action(ArgAction::Set),
+        Argument::Maybe(name) => Arg::new(alloc, name).action(ArgAction::Set),
         Argument::Any(name) => Arg::new(alloc, name).action(ArgAction::Append),
     }
 }

@@ -1,7 +1,7 @@
 // The words after the name of a command by their names, as `clap` finds them.
 ghost use Rattle.std.specs.Prelude.{◌≡◌, IfOk, IsTrue, false, map, string_bytes};
 ghost use Rattle.std.specs.List.{list_any};
-ghost use Rattle.std.specs.Option.{is_some};
+ghost use Rattle.std.specs.Option.{is_some, option_copied};
 ghost use Rattle.clap.specs.Words.{found_of, first_of, rows_of};
 ghost use Rattle.cli_plans.specs.Commands.{has_dash};
 ghost use Rattle.cli_plans.specs.Parsing.{Finds, HasWords, IsKnown, modules_found, wants_of, word_of};
@@ -34,6 +34,13 @@ pub fn word<'a>(matches: &ArgMatches<'a>, name: &str) -> &'a str
         Some(word) => word,
         None => unreachable!(),
     }
+}
+
+/// A word that may be left out.
+pub fn word_if_any<'a>(matches: &ArgMatches<'a>, name: &str) -> Option<&'a str>
+    ensures { option_copied result ≡ first_of name.now (rows_of (found_of matches.now)) }
+{
+    matches.get_str(name)
 }
 
 /// The modules of `measure`.

@@ -39,6 +39,8 @@ pub struct CommandRow {
 pub enum Argument<'a> {
     /// One word.
     One(&'a str),
+    /// One word, or none.
+    Maybe(&'a str),
     /// Any number of words, none too.
     Any(&'a str),
 }
@@ -151,7 +153,7 @@ pub static COMMANDS: [CommandRow; 16] = [
     CommandRow {
         name: SHOW_NAME,
         command: CommandName::Show,
-        about: "prints what a snapshot says of its machine: harts, pages, modules, devices, journal",
+        about: "prints what a snapshot says of its machine: harts, pages, modules, devices, journal; with\n      the kernel, the names of its code too",
     },
     CommandRow {
         name: GENERATED_NAME,
@@ -315,7 +317,7 @@ static RESUME: [Argument<'static>; 5] = [
     Argument::One("SAVE"),
 ];
 
-static SHOW: [Argument<'static>; 1] = [Argument::One("SNAPSHOT")];
+static SHOW: [Argument<'static>; 2] = [Argument::One("SNAPSHOT"), Argument::Maybe("KERNEL")];
 
 static MEASURE: [Argument<'static>; 7] = [
     Argument::One("OUT"),

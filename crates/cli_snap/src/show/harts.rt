@@ -1,8 +1,12 @@
 // The lines of harts.
-ghost use Rattle.std.specs.Prelude.{◌≡◌, ◌++◌, OnOk, IfOk, string_bytes};
+ghost use Rattle.std.specs.Prelude.{◌≡◌, ◌++◌, OnOk, IfOk, option_map, string_bytes};
+ghost use Rattle.sv_types.specs.Output.{line_end};
+ghost use Rattle.elf64_load.specs.KernelViews.{names_view};
 ghost use Rattle.cli_snap.specs.HartTexts as spec;
 
-use crate::show::lines::{named_line, push_named};
+use crate::show::lines::{joined, named_line, push_registers};
+use crate::show::names::name_after;
+use elf64_load::symbols::KernelNames;
 use spec_processor::Mode;
 use spec_reference::saved_machine::SavedHart;
 use std::alloc::{AllocError, Global};
@@ -27,11 +31,16 @@ const SUPERVISOR: [&str; 11] = [
     "timer",
 ];
 
-pub fn push_harts(alloc: Global, text: &mut String, harts: &[SavedHart]) -> Result<(), AllocError>
-    ensures { OnOk result (string_bytes text.new ≡ string_bytes text.old ++ spec.hart_texts harts.now) }
+pub fn push_harts(
+    alloc: Global,
+    text: &mut Vec<u8>,
+    names: Option<KernelNames<'_>>,
+    harts: &[SavedHart],
+) -> Result<(), AllocError>
+    ensures { OnOk result (text.new.items ≡ text.old.items ++ spec.hart_texts (option_map names_view names.entry) harts.now) }
 {
     'harts: for number in 0..harts.len() {
-        push_hart(alloc, text, number, &harts[number])?;
+        push_hart(alloc, text, names, number, &harts[number])?;
     }
     Ok(())
 }
@@ -39,28 +48,55 @@ pub fn push_harts(alloc: Global, text: &mut String, harts: &[SavedHart]) -> Resu
 #[tactic(auto, unfolding(crate::specs::HartTexts::hart_text))]
 fn push_hart(
     alloc: Global,
-    text: &mut String,
+    text: &mut Vec<u8>,
+    names: Option<KernelNames<'_>>,
     number: usize,
     hart: &SavedHart,
 ) -> Result<(), AllocError>
-    ensures { OnOk result (string_bytes text.new ≡ string_bytes text.old ++ spec.hart_text number hart.now) }
+    ensures { OnOk result (text.new.items ≡ text.old.items ++ spec.hart_text (option_map names_view names.entry) number hart.now) }
 {
-    let mut lines = hart_head(alloc, number, hart)?;
-    push_registers(alloc, &mut lines, hart)?;
-    push_supervisor(alloc, &mut lines, hart)?;
+    let mut lines = hart_head(alloc, names, number, hart)?;
+    push_integers(alloc, &mut lines, names, hart)?;
+    push_supervisor(alloc, &mut lines, names, hart)?;
     push_reservation(alloc, &mut lines, hart.reservation)?;
-    text.push_str(lines.as_str())
+    text.extend_from_slice(&lines)
 }
 
 #[tactic(auto, unfolding(crate::specs::HartTexts::hart_head))]
-fn hart_head(alloc: Global, number: usize, hart: &SavedHart) -> Result<String, AllocError>
-    ensures { IfOk result (λ t. string_bytes t ≡ spec.hart_head number hart.now) }
+fn hart_head(
+    alloc: Global,
+    names: Option<KernelNames<'_>>,
+    number: usize,
+    hart: &SavedHart,
+) -> Result<Vec<u8>, AllocError>
+    ensures { IfOk result (λ t. t.items ≡ spec.hart_head (option_map names_view names.entry) number hart.now) }
+{
+    let pc = hart_pc(alloc, number, hart)?;
+    let name = name_after(alloc, names, hart.pc)?;
+    let rest = head_rest(alloc, hart.entry)?;
+    joined(
+        alloc,
+        pc.as_str().as_bytes(),
+        &name,
+        rest.as_str().as_bytes(),
+    )
+}
+
+#[tactic(auto, unfolding(crate::specs::HartTexts::hart_pc))]
+fn hart_pc(alloc: Global, number: usize, hart: &SavedHart) -> Result<String, AllocError>
+    ensures { IfOk result (λ t. string_bytes t ≡ spec.hart_pc number hart.now) }
 {
     let standing = standing_name(hart.started);
     let mode = mode_name(hart.mode);
     let pc = address_text(alloc, hart.pc)?;
-    let entry = entry_text(alloc, hart.entry)?;
-    format!(in alloc; "hart {number} {standing} {mode} pc {pc}{entry}\n")
+    format!(in alloc; "hart {number} {standing} {mode} pc {pc}")
+}
+
+fn head_rest(alloc: Global, entry: Option<u8>) -> Result<String, AllocError>
+    ensures { IfOk result (λ t. string_bytes t ≡ spec.entry_text entry ++ line_end) }
+{
+    let entry = entry_text(alloc, entry)?;
+    format!(in alloc; "{entry}\n")
 }
 
 fn standing_name(started: bool) -> &'static str
@@ -88,17 +124,27 @@ fn entry_text(alloc: Global, entry: Option<u8>) -> Result<String, AllocError>
     }
 }
 
-#[tactic(auto, unfolding(crate::specs::HartTexts::register_lines))]
-fn push_registers(alloc: Global, text: &mut String, hart: &SavedHart) -> Result<(), AllocError>
-    ensures { OnOk result (string_bytes text.new ≡ string_bytes text.old ++ spec.register_lines hart.now) }
+#[tactic(auto, unfolding(crate::specs::HartTexts::integer_lines))]
+fn push_integers(
+    alloc: Global,
+    text: &mut Vec<u8>,
+    names: Option<KernelNames<'_>>,
+    hart: &SavedHart,
+) -> Result<(), AllocError>
+    ensures { OnOk result (text.new.items ≡ text.old.items ++ spec.integer_lines (option_map names_view names.entry) hart.now) }
 {
     let (_zero, registers) = hart.registers.split_at(1);
-    push_named(alloc, text, &REGISTERS, registers)
+    push_registers(alloc, text, names, &REGISTERS, registers)
 }
 
 #[tactic(auto, unfolding(crate::specs::HartTexts::supervisor_lines))]
-fn push_supervisor(alloc: Global, text: &mut String, hart: &SavedHart) -> Result<(), AllocError>
-    ensures { OnOk result (string_bytes text.new ≡ string_bytes text.old ++ spec.supervisor_lines hart.now) }
+fn push_supervisor(
+    alloc: Global,
+    text: &mut Vec<u8>,
+    names: Option<KernelNames<'_>>,
+    hart: &SavedHart,
+) -> Result<(), AllocError>
+    ensures { OnOk result (text.new.items ≡ text.old.items ++ spec.supervisor_lines (option_map names_view names.entry) hart.now) }
 {
     let values = [
         hart.sstatus,
@@ -113,19 +159,21 @@ fn push_supervisor(alloc: Global, text: &mut String, hart: &SavedHart) -> Result
         hart.satp,
         hart.timer,
     ];
-    push_named(alloc, text, &SUPERVISOR, &values)
+    push_registers(alloc, text, names, &SUPERVISOR, &values)
 }
 
 #[tactic(auto, unfolding(crate::specs::HartTexts::reservation_line))]
 fn push_reservation(
     alloc: Global,
-    text: &mut String,
+    text: &mut Vec<u8>,
     reservation: Option<u64>,
 ) -> Result<(), AllocError>
-    ensures { OnOk result (string_bytes text.new ≡ string_bytes text.old ++ spec.reservation_line reservation) }
+    ensures { OnOk result (text.new.items ≡ text.old.items ++ spec.reservation_line reservation) }
 {
     match reservation {
-        Some(gpa) => text.push_str(named_line(alloc, "reservation", gpa)?.as_str()),
+        Some(gpa) => text.extend_from_slice(
+            named_line(alloc, "reservation", gpa)?.as_str().as_bytes(),
+        ),
         None => Ok(()),
     }
 }

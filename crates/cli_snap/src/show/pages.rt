@@ -60,7 +60,7 @@ fn next_run(run: PageRun, page: Protection) -> PageRun
     ensures { result ≡ spec.next_run run page }
 {
     let last = run.last + 1;
-    if is_same(run.protection, page) {
+    if run.protection.is_same(page) {
         PageRun { last, ..run }
     } else {
         PageRun {
@@ -80,7 +80,7 @@ fn push_ended(
 ) -> Result<(), AllocError>
     ensures { OnOk result (string_bytes text.new ≡ string_bytes text.old ++ spec.ended_line run page) }
 {
-    if is_same(run.protection, page) {
+    if run.protection.is_same(page) {
         return Ok(());
     }
     push_run(alloc, text, run)
@@ -92,28 +92,6 @@ fn run_line(alloc: Global, run: PageRun) -> Result<String, AllocError>
 {
     let first = run.first;
     let last = run.last;
-    let name = protection_name(run.protection);
+    let name = run.protection.name();
     format!(in alloc; "pages {first} to {last} {name}\n")
-}
-
-fn is_same(one: Protection, other: Protection) -> bool
-    ensures { result ≡ spec.is_same one other }
-{
-    match (one, other) {
-        (Protection::Free, Protection::Free)
-        | (Protection::Held, Protection::Held)
-        | (Protection::Approved, Protection::Approved) => true,
-        _ => false,
-    }
-}
-
-#[tactic(auto, unfolding(crate::specs::PageTexts::protection_name))]
-fn protection_name(protection: Protection) -> &'static str
-    ensures { result.now ≡ spec.protection_name protection }
-{
-    match protection {
-        Protection::Free => "free",
-        Protection::Held => "held",
-        Protection::Approved => "approved",
-    }
 }

@@ -1,30 +1,50 @@
 // What is shown of a snapshot.
-ghost use Rattle.std.specs.Prelude.{◌≡◌, IfOk, string_bytes};
+ghost use Rattle.std.specs.Prelude.{◌≡◌, IfOk, option_map, string_bytes};
+ghost use Rattle.elf64_load.specs.KernelViews.{names_view};
 ghost use Rattle.snapshot_format.specs.Snapshots.{contents};
+ghost use Rattle.cli_snap.specs.PageTexts.{page_texts};
 ghost use Rattle.cli_snap.specs.SnapshotTexts as spec;
 
 use crate::show::devices::{console_line, disk_line, port_line};
 use crate::show::harts::push_harts;
 use crate::show::modules::{push_init, push_load, push_modules};
 use crate::show::pages::push_pages;
+use elf64_load::symbols::KernelNames;
 use report::report;
 use snapshot_format::Snapshot;
 use std::alloc::{AllocError, Global};
+use sv_types::Protection;
 
 /// What is shown of a snapshot, line by line: its events and its time in ticks; each hart with its registers by name; the
 /// pages of RAM by how they are guarded, as runs; modules, the load under way and whether init pages are retired; the
-/// devices; and the report that a run that ended here would print. Out of memory is the one refusal.
+/// devices; and the report that a run that ended here would print. With a kernel's names, the name of its code stands after a
+/// hart's pc, ra, stvec and sepc, where it has one. Out of memory is the one refusal.
 #[tactic(auto, unfolding(crate::specs::SnapshotTexts::snapshot_text))]
-pub fn snapshot_text(alloc: Global, snapshot: &Snapshot) -> Result<String, AllocError>
-    ensures { IfOk result (λ t. string_bytes t ≡ spec.snapshot_text (contents snapshot.now)) }
+pub fn snapshot_text(
+    alloc: Global,
+    snapshot: &Snapshot,
+    names: Option<KernelNames<'_>>,
+) -> Result<Vec<u8>, AllocError>
+    ensures { IfOk result (λ t. t.items ≡ spec.snapshot_text (option_map names_view names.entry) (contents snapshot.now)) }
 {
     let machine = &snapshot.machine;
-    let mut text = head_line(alloc, snapshot.events, machine.time)?;
-    push_harts(alloc, &mut text, &machine.harts)?;
-    push_pages(alloc, &mut text, &machine.protection)?;
-    text.push_str(gate_lines(alloc, snapshot)?.as_str())?;
-    text.push_str(device_lines(alloc, snapshot)?.as_str())?;
-    text.push_str(report(alloc, &machine.notes, machine.verdict, &machine.counts)?.as_str())?;
+    let mut text = Vec::new(alloc);
+    let head = head_line(alloc, snapshot.events, machine.time)?;
+    text.extend_from_slice(head.as_str().as_bytes())?;
+    push_harts(alloc, &mut text, names, &machine.harts)?;
+    text.extend_from_slice(page_lines(alloc, &machine.protection)?.as_str().as_bytes())?;
+    text.extend_from_slice(gate_lines(alloc, snapshot)?.as_str().as_bytes())?;
+    text.extend_from_slice(device_lines(alloc, snapshot)?.as_str().as_bytes())?;
+    let report = report(alloc, &machine.notes, machine.verdict, &machine.counts)?;
+    text.extend_from_slice(report.as_str().as_bytes())?;
+    Ok(text)
+}
+
+fn page_lines(alloc: Global, protection: &[Protection]) -> Result<String, AllocError>
+    ensures { IfOk result (λ t. string_bytes t ≡ page_texts protection.now) }
+{
+    let mut text = String::new(alloc);
+    push_pages(alloc, &mut text, protection)?;
     Ok(text)
 }
 

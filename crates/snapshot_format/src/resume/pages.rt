@@ -9,7 +9,7 @@ ghost use Rattle.sv_types.specs.Protections.{is_free};
 ghost use Rattle.spec_reference.specs.Protections.{protection_at};
 ghost use Rattle.spec_reference.specs.States.{module_pages};
 ghost use Rattle.snapshot_format.specs.Snapshots.{contents};
-ghost use Rattle.snapshot_format.specs.Judgements.{are_same, is_guarded_right, is_same, load_pages, loaded_pages};
+ghost use Rattle.snapshot_format.specs.Judgements.{are_same, is_guarded_right, load_pages, loaded_pages};
 ghost use Rattle.snapshot_format.specs.Taking.{IsTaken, Takes, left_of, taken_from};
 
 use crate::resume::text::is_retired;
@@ -159,16 +159,6 @@ fn take_load(guard: &mut [Protection], policy: &Policy, loading: &Option<SavedLo
 
 // ---- the protections of the snapshot
 
-fn is_same(one: Protection, other: Protection) -> bool
-    ensures { result ≡ is_same one other }
-{
-    match one {
-        Protection::Free => matches!(other, Protection::Free),
-        Protection::Held => matches!(other, Protection::Held),
-        Protection::Approved => matches!(other, Protection::Approved),
-    }
-}
-
 #[tactic(auto, using(crate::proofs::SameProtections::by_pairs))]
 fn are_same(ones: &[Protection], others: &[Protection]) -> bool
     ensures { result ≡ are_same ones.now others.now }
@@ -181,7 +171,7 @@ fn are_pairs_same(ones: &[Protection], others: &[Protection]) -> bool
     ensures { result ≡ are_same ones.now others.now }
 {
     'pages: for page in 0..ones.len() {
-        if !is_same(ones[page], others[page]) {
+        if !ones[page].is_same(others[page]) {
             return false;
         }
     }

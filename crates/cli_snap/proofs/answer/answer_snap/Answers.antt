@@ -7,29 +7,32 @@ use Rattle.cli_snap.proofs.answer.answer_snap.Goals as goal
 
 pub run_on_bench-requires-clause-saves : goal.run_on_bench-requires-clause-saves
 run_on_bench-requires-clause-saves g c =
-    let same = (follows_keeps _ _ _ _ c.in-Ok.ensures.follows).saves in
+    let same = (follows_keeps _ _ _ _ c.in-Ok.ensures.boots.follows).saves in
     let few = c.requires.saves in
     omega arith
 
 pub run_on_bench-requires-clause-fresh : goal.run_on_bench-requires-clause-fresh
-run_on_bench-requires-clause-fresh g c = (begins _ _ _ c.in-Ok.booted c.in-Ok.ensures).fresh
+run_on_bench-requires-clause-fresh g c = (begins _ _ _ c.in-Ok.booted.run c.in-Ok.ensures.boots).fresh
 
 pub run_on_bench-requires-clause-starts : goal.run_on_bench-requires-clause-starts
 run_on_bench-requires-clause-starts g c =
-    let b = begins _ _ _ c.in-Ok.booted c.in-Ok.ensures in record { start = b.start; new = b.is_new }
+    let b = begins _ _ _ c.in-Ok.booted.run c.in-Ok.ensures.boots in record { start = b.start; new = b.is_new }
+
+pub run_on_bench-requires-clause-digests : goal.run_on_bench-requires-clause-digests
+run_on_bench-requires-clause-digests g c = c.in-Ok.ensures.digests
 
 pub run_on_bench-requires-clause-snapshot : goal.run_on_bench-requires-clause-snapshot
 run_on_bench-requires-clause-snapshot g c =
-    may_under _ (g.F.Files.state c.args.files.now) (g.F.Files.state c.prepare_snap.new.files) (follows_permits _ _ _ _ c.in-Ok.ensures.follows) c.requires.snapshot
+    may_under _ (g.F.Files.state c.args.files.now) (g.F.Files.state c.prepare_snap.new.files) (follows_permits _ _ _ _ c.in-Ok.ensures.boots.follows) c.requires.snapshot
 
 pub returns-in-Ok : goal.returns-in-Ok
 returns-in-Ok g c =
-    let b = begins _ _ _ c.in-Ok.booted c.in-Ok.ensures in
+    let b = begins _ _ _ c.in-Ok.booted.run c.in-Ok.ensures.boots in
     record { reached = _; read = _; follows = b.follows; answers = c.run_on_bench.ensures b.start b.is_new }
 
 pub returns-in-Err-Refused : goal.returns-in-Err-Refused
 returns-in-Err-Refused g c =
-    let p = rw c.in-Err-Refused.field-0-is at c.in-Err-Refused.ensures in record {
+    let p = rw c.in-Err-Refused.field-0-is at c.in-Err-Refused.ensures.boots in record {
       reached = _;
       read = _;
       follows = refused_follows _ _ _ c.in-Err-Refused.refusal p;
@@ -38,5 +41,5 @@ returns-in-Err-Refused g c =
 
 pub returns-in-Err-Memory : goal.returns-in-Err-Memory
 returns-in-Err-Memory g c =
-    let p = rw c.in-Err-Memory.field-0-is at c.in-Err-Memory.ensures in
+    let p = rw c.in-Err-Memory.field-0-is at c.in-Err-Memory.ensures.boots in
     record { reached = None; read = _; follows = wanting_follows _ _ _ p; answers = (refl, refl) }

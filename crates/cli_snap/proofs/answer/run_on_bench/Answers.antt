@@ -13,7 +13,7 @@ try_place-requires-clause-permitted g c = ([], c.requires.snapshot [])
 pub returns-in_err-try_place : goal.returns-in_err-try_place
 returns-in_err-try_place g c = λ start new.
     err_by _ c.in_err-try_place.field-0.0
-    (λ r. TriesAndSnaps start (first_events c.args.ready.events c.args.ready.script) c.args.name.now
+    (λ r. TriesAndSnaps start (first_events c.args.ready.run.events c.args.ready.run.script) c.args.name.now
     (outside (g.F.Files.state c.args.files.now) (g.O.Sink.state c.args.out.now) c.args.bench.now.machine)
     (outside (g.F.Files.state c.try_place.new.files) (g.O.Sink.state c.args.out.now) c.args.bench.now.machine) r)
     c.from_residual.ensures.1
@@ -30,7 +30,7 @@ returns g c = λ start new.
       (
         c.run_and_save-result.new.machine,
         refl,
-        subst (λ (f : FilesState). SnapsTo start (first_events c.args.ready.events c.args.ready.script) c.args.name.now c.run_and_save-result.new.machine f
+        subst (λ (f : FilesState). SnapsTo start (first_events c.args.ready.run.events c.args.ready.run.script) c.args.name.now c.run_and_save-result.new.machine f
             (g.F.Files.state c.run_and_save-result.new.files) (g.O.Sink.state c.args.out.now) (g.O.Sink.state c.run_and_save-result.new.out) c.run_and_save-result.result)
             c.in_ok-try_place.ensures.1 (c.run_and_save-result.ensures start new),
       ),

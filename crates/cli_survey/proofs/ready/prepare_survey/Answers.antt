@@ -62,9 +62,9 @@ returns-in_err-booted g c =
 pub returns : goal.returns
 returns g c =
     begins (run_value c.args.asked.now) (rules_of c.in_ok-policy.policy) c.in_ok-bytes.bytes.items _ _ _ _
-    (record { booted = c.in_ok-booted.booted; kernel = record { bytes = c.in_ok-bytes.bytes; ram_pages = c.in_ok-policy.policy.ram_pages } })
+    (record { booted = c.in_ok-booted.booted.run; kernel = record { bytes = c.in_ok-bytes.bytes; ram_pages = c.in_ok-policy.policy.ram_pages } })
     c.requires.run.0 c.in_ok-policy.ensures.stage c.in_ok-bytes.ensures
     (subst
     (λ (b : List ℕ). Prepares (kernel_part (rules_of c.in_ok-policy.policy) b (boot_plan (run_value c.args.asked.now) (rules_of c.in_ok-policy.policy) b))
-    (g.F.Files.state c.read_part.new.files) (g.F.Files.state c.boot_file.new.files) (Ok (Run c.in_ok-booted.booted)))
+    (g.F.Files.state c.read_part.new.files) (g.F.Files.state c.boot_file.new.files) (Ok (Run c.in_ok-booted.booted.run)))
     c.deref.ensures.value c.in_ok-booted.ensures.prepares) refl

@@ -3,11 +3,11 @@ use Rattle.cli_plans.specs.CommandLine.{show_judged}
 use Rattle.cli_snap.proofs.ShowAnswerLemmas.{may_ok, shows_ok, shows_refused, shows_want}
 use Rattle.cli_snap.proofs.show.answer.answer.Goals as goal
 
-pub show_file-requires-clause-permitted : goal.show_file-requires-clause-permitted
-show_file-requires-clause-permitted g c = may_ok (show_judged (map string_bytes c.args.words.now)) _ _ c.in-Ok.ensures c.requires.permitted
+pub show_files-requires-clause-permitted : goal.show_files-requires-clause-permitted
+show_files-requires-clause-permitted g c = may_ok (show_judged (map string_bytes c.args.words.now)) _ _ c.in-Ok.ensures c.requires.permitted
 
 pub returns-in-Ok : goal.returns-in-Ok
-returns-in-Ok g c = shows_ok (show_judged (map string_bytes c.args.words.now)) _ _ _ _ _ _ c.in-Ok.ensures c.show_file.ensures
+returns-in-Ok g c = shows_ok (show_judged (map string_bytes c.args.words.now)) _ _ _ _ _ _ c.in-Ok.ensures c.show_files.ensures
 
 pub returns-in-Err-Refused : goal.returns-in-Err-Refused
 returns-in-Err-Refused g c =

@@ -1,5 +1,5 @@
 use Rattle.std.proofs.Common.{map, string_bytes}
-use Rattle.cli_snap.specs.Showing.{name_in}
+use Rattle.cli_snap.specs.Showing.{asked_in}
 use Rattle.cli_snap.proofs.ShowAnswerLemmas.{answers_held, keeps_files, writes}
 use Rattle.cli_snap.proofs.show.answer.secvisor_show.Goals as goal
 
@@ -7,9 +7,9 @@ pub returns-clause-headline : goal.returns-clause-headline
 returns-clause-headline g c = record { result = c.answer.result; shows = c.answer.ensures; status = c.status_of_end.ensures }
 
 pub returns-clause-held : goal.returns-clause-held
-returns-clause-held g c = λ name is tells same. record {
+returns-clause-held g c = λ asked is tells same. record {
   result = c.answer.result;
-  ends = answers_held name (name_in (map string_bytes c.args.words.now)) _ _ _ _ c.answer.result is tells same c.answer.ensures;
+  ends = answers_held asked (asked_in (map string_bytes c.args.words.now)) _ _ _ _ c.answer.result is tells same c.answer.ensures;
   status = c.status_of_end.ensures;
 }
 
