@@ -107,7 +107,6 @@ is_done start asked name old new answer r =
 run_replays : (line : LiveLine) (words : LiveWords) (old new : LiveOutside) (read : FilesState) (start : State) (asked : List Event) (save : Option (List ℕ)) (answer : Status) → LineGood line words →
     Follows (live_plan (Ok words)) old.files read (Some (RunFrom start asked save)) →
     RunsLive start asked words.out (live_outside read old.sink old.keys old.bench) new (Ok answer) → Replays line old new answer
-unfolding live_plan
 run_replays line words old new read start asked save answer good follows r =
     let reads : Follows (run_plan (unsaved_run line.kind line.image line.policy line.disk (Auto 0) good.count)) old.files read (Some (RunFrom start asked save)) =
     subst (λ (w : LiveWords). Follows (run_plan w.run) old.files read (Some (RunFrom start asked save))) good.words_are
@@ -154,7 +153,6 @@ refused_unended refusal old new answer a (inr it) =
 reached_replays : (line : LiveLine) (words : Result LiveWords Refusal) (reached : Option Due) (old new : LiveOutside) (read : FilesState) (answer : Status) → live_judged (live_line line) ≡ words →
     Follows (live_plan words) old.files read reached → AnswersLiveReached (out_of words) reached (live_outside read old.sink old.keys old.bench) new (Ok answer) → HasEnded answer old.keys new.keys →
     Replays line old new answer
-unfolding live_plan
 reached_replays line words None old new read answer is follows a ended = absurd (cc a.0)
 reached_replays line words (Some (Refuse refusal)) old new read answer is follows a ended = absurd (refused_unended refusal (live_outside read old.sink old.keys old.bench) new answer a ended)
 reached_replays line words (Some (Make out rules printed)) old new read answer is follows a ended = absurd a
@@ -338,4 +336,5 @@ reached_fault plan name (Some (Make out rules line)) old new read result never f
 pub live_fault : (words : List (List ℕ)) (old new : LiveOutside) (result : Result Status Trouble) → PerformsLive (live_judged words) old new result → status_of_end result ≡ Status.ReadFault →
     LiveFault (live_plan (live_judged words)) old new
 live_fault words old new result p is =
-    reached_fault (live_plan (live_judged words)) (out_of (live_judged words)) p.reached old new p.read result (asked_found_faults (λ (w : LiveWords). run_plan w.run) (live_judged words) (live_no_read_fault words) (λ w. run_found_faults w.run)) p.follows p.answers is
+    reached_fault (live_plan (live_judged words)) (out_of (live_judged words)) p.reached old new p.read result
+    (asked_found_faults (λ (w : LiveWords). run_plan w.run) (live_judged words) (live_no_read_fault words) (λ w. run_found_faults w.run)) p.follows p.answers is

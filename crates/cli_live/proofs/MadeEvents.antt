@@ -1,12 +1,12 @@
 -- Events that are made one after another, and what of the console is written.
-use Rattle.std.proofs.Common.{◌≡◌, ◌≤◌, ◌<◌, ◌+◌, ◌-◌, ◌^◌, ◌%◌, ◌≢◌, ℕ, ◌⊎◌, inl, inr, Bool, IsFalse, IsTrue, OnOk, OnErr}
+use Rattle.std.proofs.Common.{◌≡◌, ◌≤◌, ◌<◌, ◌+◌, ◌-◌, ◌^◌, ◌%◌, ◌≢◌, ℕ, ◌⊎◌, inl, inr, IsFalse, IsTrue, OnOk, OnErr}
 use Rattle.std.proofs.Common.{IsErr, Result, Ok, Err, true, false, List, [], ◌∷◌, ◌++◌, length, drop, refl, sym, ◌∙◌, ap, subst, arith}
 use Rattle.std.proofs.Common.{length-append}
 use Rattle.std.proofs.lemmas.List.{length-drop}
 use Rattle.std.specs.Result.{is_err}
 use Rattle.sv_types.specs.Limits.{max_events, max_printed}
 use Rattle.sv_types.specs.declared.event.Event.{Event}
-use Rattle.sv_types.specs.declared.event.Event.TheVariants.{Turn, Beat, Key, Tick, Poke}
+use Rattle.sv_types.specs.declared.event.Event.TheVariants.{Key}
 use Rattle.sv_types.specs.declared.event.Verdict.{Verdict}
 use Rattle.sv_types.specs.declared.event.Verdict.TheVariants.{Running, Shutdown, Stopped}
 use Rattle.sv_types.specs.declared.event.Counts.{Counts}
@@ -23,7 +23,7 @@ use Rattle.host_io.proofs.SinkLemmas.{after_taking-append, after_taking-nil}
 use Rattle.live_keys.specs.Journal.{events_of, key_bytes}
 use Rattle.live_keys.specs.declared.journal.Journal.{Journal}
 use Rattle.machine.specs.Standing.{HasState, Stands}
-use Rattle.machine.specs.Console.{ComesDue, Flushed, flush_is_due}
+use Rattle.machine.specs.Console.{Flushed, flush_is_due}
 use Rattle.machine.proofs.Standing.{stands_away, stands_verdict, cleared_none}
 use Rattle.machine.proofs.ConsoleLemmas.{left_printed, reaches_more, stands_next}
 use Rattle.machine.proofs.Repeated.{counts_within}

@@ -32,7 +32,7 @@ use Rattle.live_keys.proofs.JournalLines.{number_back}
 use Rattle.cli_plans.specs.declared.file_fault.FileFault.{FileFault}
 use Rattle.cli_plans.specs.declared.file_fault.Part.{Part}
 use Rattle.cli_plans.specs.declared.refusal.Refusal.{Refusal}
-use Rattle.cli_plans.specs.declared.refusal.Refusal.TheVariants.{NoCommand, Measure, Entry}
+use Rattle.cli_plans.specs.declared.refusal.Refusal.TheVariants.{Measure, Entry}
 use Rattle.cli_plans.specs.declared.command_words.command.DiskKind.{DiskKind}
 use Rattle.cli_plans.specs.CommandLine.{Command, Run, RunWords, Source, Text, Auto, judgement_of_words, named_judged, command_after}
 use Rattle.cli_plans.specs.CommandLine.{live_after, run_words, unless_none, LiveWords, unsaved_run, live_words, live_judged, max_live_events}
@@ -393,7 +393,7 @@ run_judged_as line words script events save good names saves few =
 pub words_due : (line : LiveLine) (words : LiveWords) (script : List ℕ) (events : ℕ) (save : List ℕ) (held : List ℕ → Option (List ℕ)) → LineGood line words → NamesScript script →
     has_dash save ≡ false →
     events ≤ max_events → due_in held (plan_of (judgement_of_words (run_line line script events save))) ≡ due_in held (run_plan (again_run line script events (unless_none save)))
-unfolding plan_of command_plan
+unfolding command_plan
 words_due line words script events save held good names saves few =
     ap (λ (asked : Result Command Refusal). due_in held (plan_of asked)) (run_judged_as line words script events save good names saves few)
 

@@ -153,7 +153,8 @@ AnswersLiveReached name (Some due) old new result = AnswersLive name due old new
 -- the files were asked as the plan says, and what is due at its end was answered
 abbrev pub PerformsLive : Result LiveWords Refusal → LiveOutside → LiveOutside → Result Status Trouble → Type 0
 PerformsLive words old new result =
-    CarriesOut (live_plan words) old.files (λ read reached. AnswersLiveReached (out_of words) reached (live_outside read old.sink old.keys old.bench) new result)
+    CarriesOut (live_plan words) old.files
+    (λ read reached. AnswersLiveReached (out_of words) reached (live_outside read old.sink old.keys old.bench) new result)
 
 -- the same as a status
 pub record LiveHeadline (words : Result LiveWords Refusal) (old new : LiveOutside) (answer : Status) : Type 0 where

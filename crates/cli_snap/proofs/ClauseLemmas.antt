@@ -12,7 +12,6 @@ use Rattle.cli_plans.specs.Plans.{Due, Refuse, RunFrom, Make, Plan, run_plan, sn
 use Rattle.cli_plans.specs.Reading.{Follows}
 use Rattle.cli_plans.specs.declared.refusal.Refusal.{Refusal}
 use Rattle.host_io.specs.declared.trouble.Trouble.{Trouble}
-use Rattle.host_io.specs.declared.trouble.Trouble.TheVariants.{Write, Memory}
 use Rattle.cli_plans.proofs.PlanLemmas.{asked_unread, HasFault, HasFoundFaults, follows_keeps}
 use Rattle.secvisor_cli.proofs.SaveLemmas.{changes, ChangesOut, changes_none, exact_saving, writes_faults}
 use Rattle.cli_plans.proofs.FoundFaults.{asked_found_faults, run_found_faults}
@@ -98,4 +97,5 @@ reached_fault plan name (Some (Make out rules line)) old new read result never f
 pub snap_fault : (words : List (List ℕ)) (old new : Outside) (result : Result Status Trouble) → PerformsSnap (snap_judged words) old new result → status_of_end result ≡ Status.ReadFault →
     HasFault (snap_plan (snap_judged words)) old.files new.files
 snap_fault words old new result p is =
-    reached_fault (snap_plan (snap_judged words)) (out_of (snap_judged words)) p.reached old new p.read result (asked_found_faults (λ (w : SnapWords). run_plan w.run) (snap_judged words) (snap_no_read_fault words) (λ w. run_found_faults w.run)) p.follows p.answers is
+    reached_fault (snap_plan (snap_judged words)) (out_of (snap_judged words)) p.reached old new p.read result
+    (asked_found_faults (λ (w : SnapWords). run_plan w.run) (snap_judged words) (snap_no_read_fault words) (λ w. run_found_faults w.run)) p.follows p.answers is

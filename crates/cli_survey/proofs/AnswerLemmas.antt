@@ -58,7 +58,6 @@ ready_performs words f0 f1 s0 s1 b0 b1 ready result b runs = record {
 
 pub words_performed : (words : Result RunWords Refusal) (value : RunWords) (old new : Outside) (result : Result Status Trouble) → words ≡ Ok value →
     PerformsRun value old new result → PerformsSurvey words old new result
-unfolding survey_plan
 words_performed words value old new result is it =
     subst (λ (j : Result RunWords Refusal). PerformsSurvey j old new result) (sym is)
     (record { reached = it.reached; read = it.read; follows = inr it.follows; answers = it.answers })

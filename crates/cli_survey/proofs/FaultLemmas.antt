@@ -15,7 +15,7 @@ use Rattle.cli_plans.specs.Plans.{Due, Refuse, RunFrom, Make, Plan, survey_plan,
 use Rattle.cli_plans.specs.Reading.{Follows}
 use Rattle.cli_plans.proofs.FoundFaults.{run_found_faults, asked_found_faults}
 use Rattle.cli_plans.proofs.PlanLemmas.{HasFault, HasFoundFaults}
-use Rattle.cli_plans.proofs.WordLemmas.{NoReadFault, survey_no_read_fault}
+use Rattle.cli_plans.proofs.WordLemmas.{survey_no_read_fault}
 use Rattle.secvisor_cli.specs.Answers.{Outside, outside}
 use Rattle.secvisor_cli.proofs.TopLemmas.{refused_fault, wants_no_fault}
 use Rattle.cli_survey.specs.SurveyAnswers.{AnswersReached, PerformsSurvey, SurveysFile, image_of, survey_status}

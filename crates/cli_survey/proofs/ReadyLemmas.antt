@@ -14,8 +14,8 @@ use Rattle.spec_reference.specs.Start.{AreWords, IsStart, boot_start, start as b
 use Rattle.spec_reference.specs.States.{State, has_number}
 use Rattle.host_io.specs.Outside.{FilesState}
 use Rattle.script.specs.AutoScripts.{events_of_text, first_refused}
-use Rattle.cli_plans.specs.CommandLine.{RunWords, Source, Rounds, Auto, Bursts, Text}
-use Rattle.cli_plans.specs.Plans.{Due, Refuse, RunFrom, Make, Plan, End, Read, Judge, Found, Faulty, Missing, Longer, Held, found_plan}
+use Rattle.cli_plans.specs.CommandLine.{RunWords, Source, Text}
+use Rattle.cli_plans.specs.Plans.{Due, Refuse, RunFrom, Make, Plan, End, Read, Judge, Found, Held, found_plan}
 use Rattle.cli_plans.specs.Plans.{policy_part, part_judged, kernel_part, disk_refusal, disk_part, text_part, script_part, image_measure}
 use Rattle.cli_plans.specs.Plans.{boot_judged, boot_plan, image_plan, max_image_bytes, run_plan}
 use Rattle.cli_plans.specs.Reading.{Follows, FoundAs}

@@ -4,9 +4,9 @@ use Rattle.std.proofs.Common.{append_assoc, append-nil, arith, slice_get, Some, 
 use Rattle.sv_types.specs.Limits.{max_printed}
 use Rattle.sv_types.specs.declared.event.Counts.{Counts}
 use Rattle.sv_types.specs.declared.event.Event.{Event}
-use Rattle.sv_types.specs.declared.event.Rule.TheVariants.{Entry, Write}
+use Rattle.sv_types.specs.declared.event.Rule.TheVariants.{Write}
 use Rattle.sv_types.specs.declared.event.Verdict.{Verdict}
-use Rattle.sv_types.specs.declared.event.Verdict.TheVariants.{Running, Shutdown, Stopped}
+use Rattle.sv_types.specs.declared.event.Verdict.TheVariants.{Running, Stopped}
 use Rattle.std.specs.Prelude.{Option, None}
 use Rattle.spec_reference.specs.Counting.{CountsAtMost}
 use Rattle.spec_reference.specs.Run.{HasEnded, run, step}

@@ -110,7 +110,6 @@ reached_fault words (Some (Make name rules line)) files read saved old new resul
 
 judged_fault : (judged : Result SnapWords Refusal) (files saved : FilesState) (old new : SinkState) (result : Result Status Trouble) → NoReadFault judged → Shrinks judged files saved old new result →
     status_of_end result ≡ Status.ReadFault → HasFault (snap_plan judged) files saved
-unfolding snap_plan
 judged_fault (Err why) files saved old new result never it is = absurd (written_no_fault (refusal_status why) (refusal_line why) old new result never it.1.writes is)
 judged_fault (Ok words) files saved old new result never (inl it) is = absurd (wants_no_fault result it.0 is)
 judged_fault (Ok words) files saved old new result never (inr it) is = reached_fault words it.reached files it.read saved old new result it.follows it.answers is

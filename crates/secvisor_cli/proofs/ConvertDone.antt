@@ -20,7 +20,7 @@ use Rattle.cli_plans.specs.declared.file_fault.FileFault.{FileFault}
 use Rattle.secvisor_cli.specs.Answers.{Headline, Meets, MeetsReached, Outside, outside}
 use Rattle.cli_plans.specs.CommandLine.{Convert}
 use Rattle.secvisor_cli.specs.Converted.{Holds, IsBoundOf, IsConverted}
-use Rattle.cli_plans.specs.Plans.{Due, Refuse, Plan, End, Read, Judge, Found, Faulty, Missing, Longer, Held, binding_plan, binding_refusal}
+use Rattle.cli_plans.specs.Plans.{Due, Refuse, Plan, End, Read, Judge, Found, Held, binding_plan, binding_refusal}
 use Rattle.cli_plans.specs.Plans.{bound_plan, command_plan, convert_plan, due_of_convert, converted_judged, found_plan, kernel_part}
 use Rattle.cli_plans.specs.Plans.{part_judged, plan_of, policy_judged, policy_part, status_due}
 use Rattle.cli_plans.specs.Reading.{Follows, FoundAs}
@@ -118,7 +118,7 @@ module _ (words : ConvertSplit) (files : FilesState) where
   convert_done _ now found = λ e. absurd (cc e)
 
   words_done : DoneAs (IsBoundDue words files) files (plan_of (Ok (Convert words)))
-  unfolding plan_of command_plan
+  unfolding command_plan
   words_done = convert_done
 
 converted_by : (words : ConvertSplit) (due : Due) (old new : Outside) (files : FilesState) → IsBoundDue words old.files due
