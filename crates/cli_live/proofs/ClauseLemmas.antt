@@ -189,7 +189,8 @@ run_unrefused : (start : State) (asked : List Event) (name : List ℕ) (old new 
     is_refusal (status_of_end result) ≡ true → ⊥
 run_unrefused start asked name old new (Ok answer) r refused =
     answer_no_refusal (run start r.journal).journal.verdict old.keys new.keys answer (is_done start asked name old new answer r).status refused
-run_unrefused start asked name old new _ r refused = cc refused
+run_unrefused start asked name old new (Err Write) r refused = cc refused
+run_unrefused start asked name old new (Err Memory) r refused = cc refused
 
 -- ---- the counts
 
@@ -320,7 +321,8 @@ run_fault : (start : State) (asked : List Event) (name : List ℕ) (old new : Li
     status_of_end result ≡ Status.ReadFault →
     old.keys.faults < new.keys.faults
 run_fault start asked name old new (Ok answer) r is = answer_fault (run start r.journal).journal.verdict old.keys new.keys answer (is_done start asked name old new answer r).status is
-run_fault start asked name old new _ r is = absurd (cc is)
+run_fault start asked name old new (Err Write) r is = absurd (cc is)
+run_fault start asked name old new (Err Memory) r is = absurd (cc is)
 
 reached_fault : (plan : Plan) (name : List ℕ) (reached : Option Due) (old new : LiveOutside) (read : FilesState) (result : Result Status Trouble) → HasFoundFaults plan →
     Follows plan old.files read reached →

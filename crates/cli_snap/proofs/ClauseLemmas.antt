@@ -12,6 +12,7 @@ use Rattle.cli_plans.specs.Plans.{Due, Refuse, RunFrom, Make, Plan, run_plan, sn
 use Rattle.cli_plans.specs.Reading.{Follows}
 use Rattle.cli_plans.specs.declared.refusal.Refusal.{Refusal}
 use Rattle.host_io.specs.declared.trouble.Trouble.{Trouble}
+use Rattle.host_io.specs.declared.trouble.Trouble.TheVariants.{Write, Memory}
 use Rattle.cli_plans.proofs.PlanLemmas.{asked_unread, HasFault, HasFoundFaults, follows_keeps}
 use Rattle.secvisor_cli.proofs.SaveLemmas.{changes, ChangesOut, changes_none, exact_saving, writes_faults}
 use Rattle.cli_plans.proofs.FoundFaults.{asked_found_faults, run_found_faults}
@@ -82,7 +83,8 @@ saves_no_fault start events name f0 f1 old new (Ok status) answer w it = made_no
 run_no_fault : (start : State) (events : List Event) (name : List ℕ) (old new : Outside) (result : Result Status Trouble) → RunsSnap start events name old new result →
     status_of_end result ≢ Status.ReadFault
 run_no_fault start events name old new (Ok answer) r = saves_no_fault start events name old.files new.files old.sink new.sink r.2.written answer r.2.writes r.2.saves
-run_no_fault start events name old new _ r = λ is. cc is
+run_no_fault start events name old new (Err Write) r = λ is. cc is
+run_no_fault start events name old new (Err Memory) r = λ is. cc is
 
 reached_fault : (plan : Plan) (name : List ℕ) (reached : Option Due) (old new : Outside) (read : FilesState) (result : Result Status Trouble) → HasFoundFaults plan →
     Follows plan old.files read reached →

@@ -90,7 +90,8 @@ shrink_unread (Ok words) files saved old new result bad it = cc bad
 saved_no_fault : (saving : Saving) (line : List ℕ) (files saved : FilesState) (old new : SinkState) (result : Result Status Trouble) → SavesAndWrites saving line files saved old new result →
     status_of_end result ≢ Status.ReadFault
 saved_no_fault saving line files saved old new (Ok status) it = λ is. cc (it.0, is)
-saved_no_fault saving line files saved old new _ it = λ is. cc is
+saved_no_fault saving line files saved old new (Err Write) it = λ is. cc is
+saved_no_fault saving line files saved old new (Err Memory) it = λ is. cc is
 
 shrunk_no_fault : (name : List ℕ) (shrunk : Shrunk) (files saved : FilesState) (old new : SinkState) (result : Result Status Trouble) → AnswersShrunk name shrunk files saved old new result →
     status_of_end result ≢ Status.ReadFault

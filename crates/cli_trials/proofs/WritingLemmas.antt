@@ -27,10 +27,12 @@ written_rises due bytes old new (Err Memory) it = same_rises old new it
 pub written_no_fault : (due : Status) (bytes : List ℕ) (old new : SinkState) (result : Result Status Trouble) → due ≢ Status.ReadFault → WritesAll due bytes old new result →
     status_of_end result ≢ Status.ReadFault
 written_no_fault due bytes old new (Ok status) never it = λ is. never (sym it.0 ∙ is)
-written_no_fault due bytes old new _ never it = λ is. cc is
+written_no_fault due bytes old new (Err Write) never it = λ is. cc is
+written_no_fault due bytes old new (Err Memory) never it = λ is. cc is
 
 pub refused_fault : (plan : Plan) (refusal : Refusal) (files read : FilesState) (old new : SinkState) (result : Result Status Trouble) → HasFoundFaults plan →
     Follows plan files read (Some (Refuse refusal)) →
     WritesAll (refusal_status refusal) (refusal_line refusal) old new result → status_of_end result ≡ Status.ReadFault → HasFault plan files read
 refused_fault plan refusal files read old new (Ok status) never follows it is = read_fault plan files read (Refuse refusal) never follows (sym it.0 ∙ is)
-refused_fault plan refusal files read old new _ never follows it is = absurd (cc is)
+refused_fault plan refusal files read old new (Err Write) never follows it is = absurd (cc is)
+refused_fault plan refusal files read old new (Err Memory) never follows it is = absurd (cc is)

@@ -427,7 +427,8 @@ pub refused_fault : (plan : Plan) (refusal : Refusal) (old new : Outside) (read 
 refused_fault plan refusal old new read (Ok answer) never follows a is =
     let status : answer ≡ refusal_status refusal = refused_status refusal (outside read old.sink old.bench) new answer a in
     fault_at plan old.files read new.files (ap (λ (f : FilesState). f.read_faults) a.saves.0) (read_fault plan old.files read (Refuse refusal) never follows (sym status ∙ is))
-refused_fault plan refusal old new read _ never follows a is = absurd (cc is)
+refused_fault plan refusal old new read (Err Write) never follows a is = absurd (cc is)
+refused_fault plan refusal old new read (Err Memory) never follows a is = absurd (cc is)
 
 -- of any plan
 pub plan_fault : (plan : Plan) (old new : Outside) (result : Result Status Trouble) → HasFoundFaults plan → Performs plan old new result → status_of_end result ≡ Status.ReadFault →
