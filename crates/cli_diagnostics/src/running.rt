@@ -6,6 +6,7 @@ ghost use Rattle.sv_types.specs.Policies.{rules_of, rules_within};
 
 use crate::faults::{image_fault, policy_fault};
 use crate::files::{Found, MostBytes, Reread, read_part, remark_at, remark_on};
+use cli_plans::is_no_file;
 use elf64_load::{ElfRefusal, read_kernel};
 use policy::PolicyRefusal;
 use policy_limits::PolicyFault;
@@ -152,9 +153,4 @@ fn line_refused(alloc: Global, name: &str, line: u64) -> Found {
         Ok(what) => remark_on(alloc, name, what.as_str()),
         Err(_) => Found::Nothing,
     }
-}
-
-// Whether a script's word names no file.
-fn is_no_file(name: &str) -> bool {
-    name == "none" || name.starts_with("auto:") || name.starts_with("bursts:")
 }

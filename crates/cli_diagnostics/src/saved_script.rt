@@ -1,6 +1,7 @@
 // The name under which a live run saves its script.
 
 use cli_plans::command_words::{CommandName, DiskKind, Naming, named};
+use cli_plans::is_no_file;
 
 /// What there is to say of a word under which `live` or `vlive` saves its script, where `run` or `vrun` takes that word for no
 /// file.
@@ -14,11 +15,6 @@ pub fn script_remark(words: &[String]) -> Option<&'static str> {
         }
         _ => None,
     }
-}
-
-// Whether SCRIPT takes a word for no file.
-fn is_no_file(out: &str) -> bool {
-    out == "none" || out.starts_with("auto:") || out.starts_with("bursts:")
 }
 
 fn remark_of(kind: DiskKind) -> &'static str {

@@ -25,11 +25,11 @@ use Rattle.cli_plans.specs.Plans.{Due, Refuse, RunFrom, Make, Saving, Plan, run_
 use Rattle.cli_plans.specs.Reading.{Follows}
 use Rattle.secvisor_cli.specs.Answers.{outside, Writes, SavedAfter}
 use Rattle.host_io.specs.Endings.{status_of_end}
-use Rattle.cli_plans.proofs.PlanLemmas.{Keeps, HasFault, HasFoundFaults, follows_keeps}
+use Rattle.cli_plans.proofs.PlanLemmas.{asked_unread, Keeps, HasFault, HasFoundFaults, follows_keeps}
 use Rattle.secvisor_cli.proofs.SaveLemmas.{changes, exact_saving, ChangesOut, changes_none, writes_faults}
-use Rattle.cli_plans.proofs.FoundFaults.{run_found_faults, run_no_read_fault}
-use Rattle.secvisor_cli.proofs.TopLemmas.{EffectOut, changes_vain, effect_out, refused_status, refused_fault}
-use Rattle.cli_plans.proofs.WordLemmas.{NoReadFault, live_no_read_fault}
+use Rattle.cli_plans.proofs.FoundFaults.{asked_found_faults, run_found_faults, run_no_read_fault}
+use Rattle.secvisor_cli.proofs.TopLemmas.{EffectOut, changes_vain, effect_out, refused_status, refused_fault, wants_no_fault}
+use Rattle.cli_plans.proofs.WordLemmas.{live_no_read_fault}
 use Rattle.cli_live.specs.LiveAnswers.{LiveOutside, live_outside, IsScriptOf, SavesScript, read_status, after_reading, is_refusal, RunsLive, AnswersLive, AnswersLiveReached, PerformsLive}
 use Rattle.cli_live.specs.LiveReady.{out_of}
 use Rattle.cli_live.specs.Replays.{LiveLine, live_line, HasEnded, is_of_run, Replays}
@@ -107,7 +107,6 @@ is_done start asked name old new answer r =
 run_replays : (line : LiveLine) (words : LiveWords) (old new : LiveOutside) (read : FilesState) (start : State) (asked : List Event) (save : Option (List ℕ)) (answer : Status) → LineGood line words →
     Follows (live_plan (Ok words)) old.files read (Some (RunFrom start asked save)) →
     RunsLive start asked words.out (live_outside read old.sink old.keys old.bench) new (Ok answer) → Replays line old new answer
-unfolding live_plan
 run_replays line words old new read start asked save answer good follows r =
     let reads : Follows (run_plan (unsaved_run line.kind line.image line.policy line.disk (Auto 0) good.count)) old.files read (Some (RunFrom start asked save)) =
     subst (λ (w : LiveWords). Follows (run_plan w.run) old.files read (Some (RunFrom start asked save))) good.words_are
@@ -154,7 +153,6 @@ refused_unended refusal old new answer a (inr it) =
 reached_replays : (line : LiveLine) (words : Result LiveWords Refusal) (reached : Option Due) (old new : LiveOutside) (read : FilesState) (answer : Status) → live_judged (live_line line) ≡ words →
     Follows (live_plan words) old.files read reached → AnswersLiveReached (out_of words) reached (live_outside read old.sink old.keys old.bench) new (Ok answer) → HasEnded answer old.keys new.keys →
     Replays line old new answer
-unfolding live_plan
 reached_replays line words None old new read answer is follows a ended = absurd (cc a.0)
 reached_replays line words (Some (Refuse refusal)) old new read answer is follows a ended = absurd (refused_unended refusal (live_outside read old.sink old.keys old.bench) new answer a ended)
 reached_replays line words (Some (Make out rules printed)) old new read answer is follows a ended = absurd a
@@ -304,25 +302,12 @@ live_unsaved words old new result p is =
 
 -- ---- words that are refused
 
-refused_same : (name : List ℕ) (refusal : Refusal) (reached : Option Due) (old new : LiveOutside) (result : Result Status Trouble) → reached ≡ Some (Refuse refusal) →
-    AnswersLiveReached name reached old new result →
-    new.files ≡ old.files
-refused_same name refusal reached old new result is a =
-    (subst (λ (r : Option Due). AnswersLiveReached name r old new result) is a).0.saves.0
-
 pub live_unread : (words : Result LiveWords Refusal) (old new : LiveOutside) (result : Result Status Trouble) → is_ok words ≡ false → PerformsLive words old new result → new.files ≡ old.files
-unfolding live_plan
-live_unread (Err refusal) old new result is p =
-    refused_same [] refusal p.reached (live_outside p.read old.sink old.keys old.bench) new result p.follows.0 p.answers ∙ p.follows.1
-live_unread (Ok words) old new result is p = absurd (cc is)
+live_unread words old new result bad p =
+    asked_unread (λ (w : LiveWords). run_plan w.run) words old.files new.files
+    (λ read reached. AnswersLiveReached (out_of words) reached (live_outside read old.sink old.keys old.bench) new result) bad (λ refusal a. a.0.saves.0) p
 
 -- ---- a read fault
-
--- the plan says read fault only where a read found no file, words never do
-live_found_faults : (words : Result LiveWords Refusal) → NoReadFault words → HasFoundFaults (live_plan words)
-unfolding live_plan
-live_found_faults (Ok words) never = run_found_faults words.run
-live_found_faults (Err refusal) never = never
 
 -- of the files, or of the keys
 abbrev LiveFault : Plan → (old new : LiveOutside) → Type 0
@@ -342,9 +327,7 @@ run_fault start asked name old new (Err Memory) r is = absurd (cc is)
 reached_fault : (plan : Plan) (name : List ℕ) (reached : Option Due) (old new : LiveOutside) (read : FilesState) (result : Result Status Trouble) → HasFoundFaults plan →
     Follows plan old.files read reached →
     AnswersLiveReached name reached (live_outside read old.sink old.keys old.bench) new result → status_of_end result ≡ Status.ReadFault → LiveFault plan old new
-reached_fault plan name None old new read (Ok answer) never follows a is = absurd (cc a.0)
-reached_fault plan name None old new read (Err Write) never follows a is = absurd (cc is)
-reached_fault plan name None old new read (Err Memory) never follows a is = absurd (cc is)
+reached_fault plan name None old new read result never follows a is = absurd (wants_no_fault result a.0 is)
 reached_fault plan name (Some (Refuse refusal)) old new read result never follows a is = inl (refused_fault plan refusal (outside old.files old.sink old.bench)
     (outside new.files new.sink new.bench) read result never follows a.0 is)
 reached_fault plan name (Some (RunFrom start asked save)) old new read result never follows (inl a) is =
@@ -355,4 +338,5 @@ reached_fault plan name (Some (Make out rules line)) old new read result never f
 pub live_fault : (words : List (List ℕ)) (old new : LiveOutside) (result : Result Status Trouble) → PerformsLive (live_judged words) old new result → status_of_end result ≡ Status.ReadFault →
     LiveFault (live_plan (live_judged words)) old new
 live_fault words old new result p is =
-    reached_fault (live_plan (live_judged words)) (out_of (live_judged words)) p.reached old new p.read result (live_found_faults (live_judged words) (live_no_read_fault words)) p.follows p.answers is
+    reached_fault (live_plan (live_judged words)) (out_of (live_judged words)) p.reached old new p.read result
+    (asked_found_faults (λ (w : LiveWords). run_plan w.run) (live_judged words) (live_no_read_fault words) (λ w. run_found_faults w.run)) p.follows p.answers is

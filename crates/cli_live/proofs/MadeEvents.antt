@@ -1,12 +1,12 @@
 -- Events that are made one after another, and what of the console is written.
-use Rattle.std.proofs.Common.{◌≡◌, ◌≤◌, ◌<◌, ◌+◌, ◌-◌, ◌^◌, ◌%◌, ◌≢◌, ℕ, ◌⊎◌, inl, inr, Bool, IsFalse, IsTrue, OnOk, OnErr}
+use Rattle.std.proofs.Common.{◌≡◌, ◌≤◌, ◌<◌, ◌+◌, ◌-◌, ◌^◌, ◌%◌, ◌≢◌, ℕ, ◌⊎◌, inl, inr, IsFalse, IsTrue, OnOk, OnErr}
 use Rattle.std.proofs.Common.{IsErr, Result, Ok, Err, true, false, List, [], ◌∷◌, ◌++◌, length, drop, refl, sym, ◌∙◌, ap, subst, arith}
 use Rattle.std.proofs.Common.{length-append}
 use Rattle.std.proofs.lemmas.List.{length-drop}
 use Rattle.std.specs.Result.{is_err}
 use Rattle.sv_types.specs.Limits.{max_events, max_printed}
 use Rattle.sv_types.specs.declared.event.Event.{Event}
-use Rattle.sv_types.specs.declared.event.Event.TheVariants.{Turn, Beat, Key, Tick, Poke}
+use Rattle.sv_types.specs.declared.event.Event.TheVariants.{Key}
 use Rattle.sv_types.specs.declared.event.Verdict.{Verdict}
 use Rattle.sv_types.specs.declared.event.Verdict.TheVariants.{Running, Shutdown, Stopped}
 use Rattle.sv_types.specs.declared.event.Counts.{Counts}
@@ -23,7 +23,7 @@ use Rattle.host_io.proofs.SinkLemmas.{after_taking-append, after_taking-nil}
 use Rattle.live_keys.specs.Journal.{events_of, key_bytes}
 use Rattle.live_keys.specs.declared.journal.Journal.{Journal}
 use Rattle.machine.specs.Standing.{HasState, Stands}
-use Rattle.machine.specs.Console.{ComesDue, Flushed, flush_is_due}
+use Rattle.machine.specs.Console.{Flushed, flush_is_due}
 use Rattle.machine.proofs.Standing.{stands_away, stands_verdict, cleared_none}
 use Rattle.machine.proofs.ConsoleLemmas.{left_printed, reaches_more, stands_next}
 use Rattle.machine.proofs.Repeated.{counts_within}
@@ -82,16 +82,12 @@ key_comes (Stopped rule hart turn) byte = tt
 
 -- a key leaves a run running, or ended
 key_happens : (m : Machine) (e : Event) (after : Machine) → IsKey e → Happens m e after → after.journal.verdict ≡ m.journal.verdict
-key_happens m (Turn hart) after is it = absurd is
-key_happens m Beat after is it = absurd is
 key_happens m (Key byte) after is it = ap (λ (x : Machine). x.journal.verdict) it.same
-key_happens m (Tick ticks) after is it = absurd is
-key_happens m (Poke gpa value) after is it = absurd is
+key_happens m _ after is it = absurd is
 
 key_under : (v : Verdict) (m : Machine) (e : Event) (after : Machine) → IsKey e → HappensUnder v m e after → after.journal.verdict ≡ m.journal.verdict
 key_under Running m e after is it = key_happens m e after is it
-key_under Shutdown m e after is it = ap (λ (x : Machine). x.journal.verdict) it
-key_under (Stopped rule hart turn) m e after is it = ap (λ (x : Machine). x.journal.verdict) it
+key_under _ m e after is it = ap (λ (x : Machine). x.journal.verdict) it
 
 pub key_verdict : (m : Machine) (e : Event) (after : Machine) → IsKey e → IsEvent m e after → after.journal.verdict ≡ m.journal.verdict
 unfolding IsEvent
@@ -333,9 +329,8 @@ auto_made script next old new event drawn rest grown =
 
 pub both_on : {T U E : Type 0} (driven : Result T E) (ended : Result U E) (P Q S : Type 0) → (P → Q → S) → OnErr driven (IsErr ended) → OnOk driven P → OnOk ended Q → is_err ended ≡ false → S
 both_on (Ok x) (Ok y) P Q S then first p q never = then p q
-both_on (Ok x) (Err e) P Q S then first p q never = absurd (cc never)
 both_on (Err d) (Ok y) P Q S then first p q never = absurd (cc first)
-both_on (Err d) (Err e) P Q S then first p q never = absurd (cc never)
+both_on _ _ _ _ _ then first p q never = absurd (cc never)
 
 pub both_break : {T U E : Type 0} (driven : Result T E) (ended : Result U E) (old mid new : LiveRun) (s t u : SinkState) → is_err ended ≡ true →
     OnOk driven (GoesOn (events_made old) (events_made mid) old.machine mid.machine s t) → OnErr driven (BrokeOff old mid s t) →

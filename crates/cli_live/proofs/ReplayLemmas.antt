@@ -32,7 +32,7 @@ use Rattle.live_keys.proofs.JournalLines.{number_back}
 use Rattle.cli_plans.specs.declared.file_fault.FileFault.{FileFault}
 use Rattle.cli_plans.specs.declared.file_fault.Part.{Part}
 use Rattle.cli_plans.specs.declared.refusal.Refusal.{Refusal}
-use Rattle.cli_plans.specs.declared.refusal.Refusal.TheVariants.{NoCommand, Measure, Entry}
+use Rattle.cli_plans.specs.declared.refusal.Refusal.TheVariants.{Measure, Entry}
 use Rattle.cli_plans.specs.declared.command_words.command.DiskKind.{DiskKind}
 use Rattle.cli_plans.specs.CommandLine.{Command, Run, RunWords, Source, Text, Auto, judgement_of_words, named_judged, command_after}
 use Rattle.cli_plans.specs.CommandLine.{live_after, run_words, unless_none, LiveWords, unsaved_run, live_words, live_judged, max_live_events}
@@ -105,8 +105,7 @@ boot_gives : (measured entered : Bool) (first : State) (asked again : List Event
 boot_gives true true first asked again one other by_measure by_entry start events save is =
     let same : first ≡ start = cc is in
     record { events_are = cc is; start_is = sym same; boots = ap (λ (s : State). RunFrom s again other) same }
-boot_gives true false first asked again one other by_measure by_entry start events save is = absurd (cc is)
-boot_gives false entered first asked again one other by_measure by_entry start events save is = absurd (cc is)
+boot_gives _ _ first asked again one other by_measure by_entry start events save is = absurd (cc is)
 
 booted : (kind : DiskKind) (rules : Rules) (file disk : List ℕ) (asked again : List Event) (one other : Option (List ℕ)) (start : State) (events : List Event) (save : Option (List ℕ)) →
     boot_judged kind rules file disk asked one ≡ RunFrom start events save →
@@ -307,9 +306,7 @@ record IsWithin (number high_enough : Bool) (value n : ℕ) : Type 0 where
 
 within_by : (number low_enough high_enough : Bool) (value n : ℕ) → (if number && low_enough && high_enough then Some value else None) ≡ Some n → IsWithin number high_enough value n
 within_by true true true value n is = record { number_is = refl; high_is = refl; value_is = cc is }
-within_by true true false value n is = absurd (cc is)
-within_by true false high value n is = absurd (cc is)
-within_by false low high value n is = absurd (cc is)
+within_by _ _ _ value n is = absurd (cc is)
 
 within_high : (low high n : ℕ) (text : List ℕ) → number_within low high text ≡ Some n → n ≤ high
 unfolding number_within
@@ -396,7 +393,7 @@ run_judged_as line words script events save good names saves few =
 pub words_due : (line : LiveLine) (words : LiveWords) (script : List ℕ) (events : ℕ) (save : List ℕ) (held : List ℕ → Option (List ℕ)) → LineGood line words → NamesScript script →
     has_dash save ≡ false →
     events ≤ max_events → due_in held (plan_of (judgement_of_words (run_line line script events save))) ≡ due_in held (run_plan (again_run line script events (unless_none save)))
-unfolding plan_of command_plan
+unfolding command_plan
 words_due line words script events save held good names saves few =
     ap (λ (asked : Result Command Refusal). due_in held (plan_of asked)) (run_judged_as line words script events save good names saves few)
 

@@ -24,7 +24,7 @@ use Rattle.cli_plans.specs.declared.refusal.Refusal.{Refusal}
 use Rattle.host_io.specs.declared.trouble.Trouble.{Trouble}
 use Rattle.host_io.specs.declared.trouble.Trouble.TheVariants.{Write, Memory}
 use Rattle.cli_plans.specs.Plans.{Due, Refuse, RunFrom, Make, Exactly, max_script_bytes, live_plan}
-use Rattle.cli_plans.specs.Reading.{Follows}
+use Rattle.cli_plans.specs.Reading.{CarriesOut}
 use Rattle.secvisor_cli.specs.Answers.{outside, IsFree, TriedInVain, Writes, SavedAfter, WritesAndSaves}
 use Rattle.host_io.specs.Endings.{status_of_end}
 use Rattle.cli_plans.specs.CommandLine.{LiveWords}
@@ -151,12 +151,10 @@ AnswersLiveReached name None old new result = IsErrOf result Memory × (new ≡ 
 AnswersLiveReached name (Some due) old new result = AnswersLive name due old new result
 
 -- the files were asked as the plan says, and what is due at its end was answered
-pub record PerformsLive (words : Result LiveWords Refusal) (old new : LiveOutside) (result : Result Status Trouble) : Type 0 where
-  pub reached : Option Due
-  -- the files once they were read
-  pub read : FilesState
-  pub follows : Follows (live_plan words) old.files read reached
-  pub answers : AnswersLiveReached (out_of words) reached (live_outside read old.sink old.keys old.bench) new result
+abbrev pub PerformsLive : Result LiveWords Refusal → LiveOutside → LiveOutside → Result Status Trouble → Type 0
+PerformsLive words old new result =
+    CarriesOut (live_plan words) old.files
+    (λ read reached. AnswersLiveReached (out_of words) reached (live_outside read old.sink old.keys old.bench) new result)
 
 -- the same as a status
 pub record LiveHeadline (words : Result LiveWords Refusal) (old new : LiveOutside) (answer : Status) : Type 0 where

@@ -34,7 +34,7 @@ use Rattle.cli_plans.specs.declared.command_words.command.DiskKind.{DiskKind}
 use Rattle.cli_plans.specs.CommandLine.{Command, Flat, Generated, Run, RunWords, Source, Rounds, Auto, Bursts, Text, MakePolicy, PolicyWords, Convert, judgement_of_words}
 use Rattle.cli_plans.specs.Plans.{Refuse, RunFrom, max_image_bytes, max_object_bytes, making_fault, made_judged, made_part, Kernel}
 use Rattle.cli_plans.specs.Plans.{digest_part, Modules, no_modules, with_module, module_part, modules_part, making_plan, measure_plan, Plan}
-use Rattle.cli_plans.specs.Plans.{End, status_due, found_plan, flat_plan, command_plan, plan_of, measure_judged, pages_judged}
+use Rattle.cli_plans.specs.Plans.{End, status_due, found_plan, flat_plan, asked_plan, command_plan, plan_of, measure_judged, pages_judged}
 use Rattle.cli_plans.specs.Plans.{is_whole_pages, flat_events, gen_plan, gen_due, gen_disk, policy_judged, policy_part, part_judged}
 use Rattle.cli_plans.specs.Plans.{kernel_part, disk_refusal, disk_part, text_part, script_part, image_measure, boot_judged, boot_plan}
 use Rattle.cli_plans.specs.Plans.{image_plan, run_plan, start_with, due_of_measure, binding_refusal, converted_judged, bound_plan}
@@ -182,10 +182,10 @@ command_found_faults (Run words) = run_found_faults words
 command_found_faults (MakePolicy words) = measure_found_faults words
 command_found_faults (Convert words) = convert_found_faults words
 
-words_found_faults : (asked : Result Command Refusal) → NoReadFault asked → HasFoundFaults (plan_of asked)
-unfolding plan_of
-words_found_faults (Ok command) is = command_found_faults command
-words_found_faults (Err refusal) is = is
+-- words never do
+pub asked_found_faults : {A : Type 0} (next : A → Plan) (asked : Result A Refusal) → NoReadFault asked → ((words : A) → HasFoundFaults (next words)) → HasFoundFaults (asked_plan next asked)
+asked_found_faults next (Ok words) is never = never words
+asked_found_faults next (Err refusal) is never = is
 
 pub judged_found_faults : (words : List (List ℕ)) → HasFoundFaults (plan_of (judgement_of_words words))
-judged_found_faults words = words_found_faults (judgement_of_words words) (words_no_read_fault words)
+judged_found_faults words = asked_found_faults command_plan (judgement_of_words words) (words_no_read_fault words) command_found_faults

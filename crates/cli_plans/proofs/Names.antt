@@ -1,11 +1,11 @@
 -- The first word names the command, and the words after it have no dash.
-use Rattle.std.proofs.Common.{◌≡◌, ◌∙◌, ◌<◌, ◌≤◌, ◌-◌, ℕ, Bool, true, false, true≢false, ◌||◌, List, [], ◌∷◌, length, slice_index_or, take}
+use Rattle.std.proofs.Common.{◌≡◌, ◌∙◌, ◌≤◌, ◌-◌, Bool, false, ◌||◌, List, [], ◌∷◌, length, slice_index_or, take}
 use Rattle.std.proofs.Common.{drop, map, cond, None, refl, ap, sym, arith, String, Global, string_bytes}
 use Rattle.std.specs.List.{list_any}
 use Rattle.std.proofs.lemmas.Bool.{or_parts}
 use Rattle.std.proofs.lemmas.List.{take_all}
 use Rattle.clap.specs.Words.{Text}
-use Rattle.cli_plans.specs.Commands.{Named, has_dash, name_of, named_by, named_shape, named_words}
+use Rattle.cli_plans.specs.Commands.{has_dash, name_of, named_by, named_shape, named_words}
 
 pub list_any_map : {A B : Type 0} (p : B → Bool) (f : A → B) (xs : List A) → list_any p (map f xs) ≡ list_any (λ x. p (f x)) xs
 list_any_map p f [] = refl

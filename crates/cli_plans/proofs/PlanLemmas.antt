@@ -1,10 +1,13 @@
--- Files that are asked fact a plan says, whatever the plan.
-use Rattle.std.proofs.Common.{◌≡◌, ◌≢◌, ℕ, ◌<◌, ◌≤◌, List, [], ◌∷◌, Bool, IsTrue, refl, sym, ◌∙◌, ap, subst, arith, inl, inr, ◌⊎◌, Option, Some, None}
+-- Files that are asked as a plan says, whatever the plan.
+use Rattle.std.proofs.Common.{◌≡◌, ◌≢◌, ℕ, ◌<◌, ◌≤◌, List, [], ◌∷◌, Bool, IsTrue, false, refl, sym, ◌∙◌, ap, subst, arith, inl, inr, ◌⊎◌, Option, Some, None}
+use Rattle.std.proofs.Common.{Result, Ok, Err}
+use Rattle.std.specs.Result.{is_ok}
 use Rattle.std.proofs.lemmas.Option.{same_Some}
 use Rattle.sv_types.specs.declared.status.Status.{Status}
 use Rattle.host_io.specs.Outside.{FilesState, after_asking}
-use Rattle.cli_plans.specs.Plans.{Due, Content, Exactly, PolicyOf, Saving, saves_due, Plan, End, Read, Judge, Found, Faulty, Missing, Longer, Held, status_due}
-use Rattle.cli_plans.specs.Reading.{MayFollow, MayHold, MaySave, FoundAs, Follows, IsNamed, IsUnder, SavesUnder}
+use Rattle.cli_plans.specs.declared.refusal.Refusal.{Refusal}
+use Rattle.cli_plans.specs.Plans.{Due, Refuse, Content, Exactly, PolicyOf, Saving, asked_plan, saves_due, Plan, End, Read, Judge, Found, Faulty, Missing, Longer, Held, status_due}
+use Rattle.cli_plans.specs.Reading.{CarriesOut, MayFollow, MayHold, MaySave, FoundAs, Follows, IsNamed, IsUnder, SavesUnder}
 
 -- ---- one read
 
@@ -49,7 +52,7 @@ keeps_both old mid new a b =
       saves = b.saves ∙ a.saves;
     }
 
-keeps_same : (old new : FilesState) → new ≡ old → Keeps old new
+pub keeps_same : (old new : FilesState) → new ≡ old → Keeps old new
 keeps_same old new is =
     let same : new.read_faults ≡ old.read_faults = ap (λ (f : FilesState). f.read_faults) is in
     record {
@@ -173,3 +176,28 @@ may_follow (End due) files all saves = may_save_any (saves_due due) files saves
 may_follow (Read name limit next) files all saves =
     (all ((name, limit) ∷ []), λ found. may_follow (next found) (after_asking name limit files) (λ asked. all ((name, limit) ∷ asked)) saves)
 may_follow (Judge next) files all saves = may_follow next files all saves
+
+-- ---- words, and then a plan
+
+pub asked_refuses : {A : Type 0} (next : A → Plan) (asked : Result A Refusal) (refusal : Refusal) (files : FilesState) → asked ≡ Err refusal →
+    Follows (asked_plan next asked) files files (Some (Refuse refusal))
+asked_refuses next asked refusal files is = subst (λ (j : Result _ Refusal). Follows (asked_plan next j) files files (Some (Refuse refusal))) (sym is) (refl, refl)
+
+pub asked_wants : {A : Type 0} (next : A → Plan) (asked : Result A Refusal) (files : FilesState) → IsTrue (is_ok asked) → Follows (asked_plan next asked) files files None
+asked_wants next (Ok words) files good = inl (refl, refl)
+asked_wants next (Err refusal) files good = absurd (cc good)
+
+pub asked_goes : {A : Type 0} (next : A → Plan) (asked : Result A Refusal) (words : A) (old new : FilesState) (reached : Option Due) → asked ≡ Ok words →
+    Follows (next words) old new reached → Follows (asked_plan next asked) old new reached
+asked_goes next asked words old new reached is follows = subst (λ (j : Result _ Refusal). Follows (asked_plan next j) old new reached) (sym is) (inr follows)
+
+pub asked_may : {A : Type 0} (next : A → Plan) (asked : Result A Refusal) (words : A) (files : FilesState) → asked ≡ Ok words → MayFollow (asked_plan next asked) files →
+    MayFollow (next words) files
+asked_may next asked words files is may = subst (λ (j : Result _ Refusal). MayFollow (asked_plan next j) files) is may
+
+-- words that are refused read no file, where a refusal leaves the files as they are
+pub asked_unread : {A : Type 0} (next : A → Plan) (asked : Result A Refusal) (old new : FilesState) (answered : FilesState → Option Due → Type 0) → is_ok asked ≡ false →
+    ((refusal : Refusal) → answered old (Some (Refuse refusal)) → new ≡ old) → CarriesOut (asked_plan next asked) old answered → new ≡ old
+asked_unread next (Err refusal) old new answered bad same p =
+    same refusal (subst (λ (r : Option Due). answered old r) p.follows.0 (subst (λ (f : FilesState). answered f p.reached) p.follows.1 p.answers))
+asked_unread next (Ok words) old new answered bad same p = absurd (cc bad)

@@ -19,21 +19,21 @@ use Rattle.policy_making.proofs.WordsWithin.{entries_count, entries_good, span_o
 use Rattle.cli_plans.specs.declared.command_words.command.DiskKind.{DiskKind}
 use Rattle.cli_plans.specs.declared.command_words.table.CommandName.{CommandName}
 use Rattle.cli_plans.specs.declared.command_words.table.CommandName.TheVariants as command
-use Rattle.cli_plans.specs.Commands.{Named, FlatSplit, RunSplit, LiveSplit, SnapSplit, SweepSplit, ResumeSplit, MeasureSplit, ConvertSplit}
+use Rattle.cli_plans.specs.Commands.{Named, RunSplit, LiveSplit, SnapSplit, SweepSplit, MeasureSplit}
 use Rattle.cli_plans.specs.Commands.{flat_split, gen_split, run_split, survey_split, live_split, snap_split, sweep_split, resume_split}
 use Rattle.cli_plans.specs.Commands.{show_split, measure_split, convert_split, named_words}
 use Rattle.cli_plans.specs.declared.refusal.Refusal.{Refusal}
-use Rattle.cli_plans.specs.declared.refusal.Refusal.TheVariants.{OutOfRange, NoCommand}
+use Rattle.cli_plans.specs.declared.refusal.Refusal.TheVariants.{OutOfRange}
 use Rattle.cli_plans.specs.declared.words.DrawnOrder.{DrawnOrder}
 use Rattle.cli_plans.specs.declared.refusal.Word.{Word}
 use Rattle.cli_plans.specs.Refusals.{refusal_status}
-use Rattle.cli_plans.specs.CommandLine.{Command, Convert, LiveWords, SnapWords, ResumeWords, Source, flat_words, gen_words, source_of}
+use Rattle.cli_plans.specs.CommandLine.{Command, Convert, Source, flat_words, gen_words, source_of}
 use Rattle.cli_plans.specs.CommandLine.{run_words, live_words, live_of, snap_words, snap_of, sweep_with, sweep_words, sweep_of, most_runs}
 use Rattle.cli_plans.specs.CommandLine.{drawn_order_of, resume_words, resume_of, entries_judged, init_of, terms_with, terms_words}
 use Rattle.cli_plans.specs.CommandLine.{terms_judged, making_words, making_judged, flat_judged, gen_judged, run_judged, split_judged}
-use Rattle.cli_plans.specs.CommandLine.{command_after, live_after, snap_after, sweep_after, shrink_after, resume_after, show_after}
+use Rattle.cli_plans.specs.CommandLine.{command_after, live_after, snap_after, sweep_after, shrink_after, resume_after}
 use Rattle.cli_plans.specs.CommandLine.{named_judged, judgement_of_words, live_judged, snap_judged, sweep_judged, shrink_judged}
-use Rattle.cli_plans.specs.CommandLine.{resume_judged, show_judged, survey_words, survey_after, survey_judged, survey_of, debug_after, debug_judged}
+use Rattle.cli_plans.specs.CommandLine.{resume_judged, survey_words, survey_after, survey_judged, survey_of, debug_after, debug_judged}
 
 -- ---- so many words are of no command
 

@@ -1,6 +1,7 @@
 -- The words of a command line by their names: what they ask for, or the first one that is out of its range. This
 -- project's own.
 use Rattle.std.specs.Prelude.{ℕ, ◌^◌, ◌-◌, ◌+◌, nat_lt, List, if◌then◌else◌, Option, Some, None, option_map, take, drop, Result, Ok, Err, codes}
+use Rattle.std.specs.Prelude.{Bool, true, false, not}
 use Rattle.std.specs.Str.{bytes_eq}
 use Rattle.cli_plans.specs.declared.command_words.command.DiskKind.{DiskKind}
 use Rattle.cli_plans.specs.declared.command_words.table.CommandName.{CommandName}
@@ -138,6 +139,14 @@ source_of word =
     else if bytes_eq (take 5 word) (codes "auto:") then auto_of (drop 5 word)
     else if bytes_eq (take 7 word) (codes "bursts:") then bursts_of (drop 7 word)
     else Some (Text word)
+
+abbrev pub is_text : Option Source → Bool
+is_text (Some (Text name)) = true
+is_text _ = false
+
+-- whether a word as SCRIPT is no file
+abbrev pub is_no_file : List ℕ → Bool
+is_no_file word = not (is_text (source_of word))
 
 abbrev pub run_of : RunSplit → Source → ℕ → RunWords
 run_of w script events = record {

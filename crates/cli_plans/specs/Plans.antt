@@ -250,17 +250,19 @@ run_plan words = policy_part words.policy (image_plan words)
 
 -- ---- survey, debug, live and snap: what `run` reads and judges for the same words
 
-unfoldable pub survey_plan : Result RunWords Refusal → Plan
-survey_plan (Err refusal) = End (Refuse refusal)
-survey_plan (Ok words) = Judge (run_plan words)
+-- words that are refused never run out of memory, and else memory may run out for reading them by their names
+abbrev pub asked_plan : {A : Type 0} → (next : A → Plan) → Result A Refusal → Plan
+asked_plan next (Err refusal) = End (Refuse refusal)
+asked_plan next (Ok words) = Judge (next words)
 
-unfoldable pub live_plan : Result LiveWords Refusal → Plan
-live_plan (Err refusal) = End (Refuse refusal)
-live_plan (Ok words) = Judge (run_plan words.run)
+abbrev pub survey_plan : Result RunWords Refusal → Plan
+survey_plan words = asked_plan run_plan words
 
-unfoldable pub snap_plan : Result SnapWords Refusal → Plan
-snap_plan (Err refusal) = End (Refuse refusal)
-snap_plan (Ok words) = Judge (run_plan words.run)
+abbrev pub live_plan : Result LiveWords Refusal → Plan
+live_plan words = asked_plan (λ w. run_plan w.run) words
+
+abbrev pub snap_plan : Result SnapWords Refusal → Plan
+snap_plan words = asked_plan (λ w. run_plan w.run) words
 
 -- ---- measure: each file is read once, just before its first judgement
 
@@ -349,7 +351,5 @@ command_plan (Run words) = run_plan words
 command_plan (MakePolicy words) = measure_plan words
 command_plan (Convert words) = convert_plan words
 
--- words that are refused never run out of memory, and else memory may run out for reading them by their names
-unfoldable pub plan_of : Result Command Refusal → Plan
-plan_of (Err refusal) = End (Refuse refusal)
-plan_of (Ok command) = Judge (command_plan command)
+abbrev pub plan_of : Result Command Refusal → Plan
+plan_of words = asked_plan command_plan words

@@ -41,6 +41,14 @@ Follows (Read name limit next) old new reached =
     ⊎ ((found : Found) × (now : FilesState) × FoundAs old now name limit found × Follows (next found) now new reached)
 Follows (Judge next) old new reached = ((reached ≡ None) × (new ≡ old)) ⊎ Follows next old new reached
 
+-- the files were asked as the plan says, and what was reached was answered
+pub record CarriesOut (plan : Plan) (old : FilesState) (answered : (read : FilesState) → (reached : Option Due) → Type 0) : Type 0 where
+  pub reached : Option Due
+  -- the files once they were read
+  pub read : FilesState
+  pub follows : Follows plan old read reached
+  pub answers : answered read reached
+
 -- the plan may ask for this name
 abbrev pub IsNamed : Plan → List ℕ → Type 0
 IsNamed (End due) name = ⊥

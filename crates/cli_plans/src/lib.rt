@@ -18,4 +18,5 @@ pub use judgement::judge;
 pub use refusal::{Refusal, Word};
 pub use words::{
     Command, DrawnOrder, Flat, Live, MakePolicy, Resume, Run, Snap, Source, Sweep, Terms,
+    is_no_file,
 };

@@ -3,7 +3,7 @@ ghost use Rattle.std.specs.Prelude.{◌≡◌, ◌≤◌, ◌+◌, ◌^◌, opti
 ghost use Rattle.std.specs.Option.{option_copied};
 ghost use Rattle.sv_types.specs.Numbers.{digest_of, number_within};
 ghost use Rattle.sv_types.specs.Limits.{max_events};
-ghost use Rattle.cli_plans.specs.CommandLine.{drawn_order_of, most_runs, unless_none, source_of, auto_of, bursts_of, terms_judged, init_of};
+ghost use Rattle.cli_plans.specs.CommandLine.{drawn_order_of, is_no_file, most_runs, unless_none, source_of, auto_of, bursts_of, terms_judged, init_of};
 ghost use Rattle.cli_plans.specs.Words.{IsRead, IsWord, source_value, terms_value};
 
 use crate::command_words::{ConvertWords, DiskKind};
@@ -229,6 +229,13 @@ pub fn unless_none(word: &str) -> Option<&str>
     ensures { option_copied result ≡ unless_none word.now }
 {
     if word == "none" { None } else { Some(word) }
+}
+
+/// Whether a word as SCRIPT is no file.
+pub fn is_no_file(word: &str) -> bool
+    ensures { result ≡ is_no_file word.now }
+{
+    !matches!(source_of(word), Some(Source::Text(_)))
 }
 
 // Where the events of a run come from, none where the word is out of range.

@@ -20,7 +20,7 @@ use Rattle.cli_plans.specs.declared.command_words.command.DiskKind.{DiskKind}
 use Rattle.cli_plans.specs.CommandLine.{RunWords, Source, Rounds, Auto, Bursts, Text, judgement_of_words, run_words, source_of}
 use Rattle.cli_plans.specs.CommandLine.{command_after, named_judged, snap_after, unless_none, SnapWords, unsaved_run, snap_judged, snap_words}
 use Rattle.secvisor_cli.specs.DueIn.{due_in}
-use Rattle.cli_plans.specs.Plans.{Due, Refuse, RunFrom, Make, Plan, Found, Faulty, Missing, Longer, Held, boot_judged, boot_plan}
+use Rattle.cli_plans.specs.Plans.{Due, Refuse, RunFrom, Make, Plan, Found, Held, boot_judged, boot_plan}
 use Rattle.cli_plans.specs.Plans.{command_plan, disk_part, disk_refusal, found_plan, image_measure, image_plan, kernel_part, part_judged}
 use Rattle.cli_plans.specs.Plans.{plan_of, policy_judged, policy_part, run_plan, script_part, start_with, text_part, snap_plan}
 use Rattle.cli_plans.specs.declared.file_fault.FileFault.{FileFault}
@@ -45,10 +45,8 @@ module _ (held : List ℕ → Option (List ℕ)) (save : Option (List ℕ)) wher
   found_same : (part : Part) (other next : List ℕ → Plan) (found : Found) → ((bytes : List ℕ) → SameBut (other bytes) (next bytes)) →
       SameBut (found_plan part other found) (found_plan part next found)
   unfolding found_plan
-  found_same part other next Faulty same = refl
-  found_same part other next Missing same = refl
-  found_same part other next Longer same = refl
   found_same part other next (Held bytes) same = same bytes
+  found_same part other next _ same = refl
 
   part_same : {F : Type 0} (file_fault : F → FileFault) (other next : Plan) (fault : Option F) → SameBut other next →
       SameBut (part_judged file_fault other fault) (part_judged file_fault next fault)
@@ -147,9 +145,7 @@ snap_of_line line = record {
 words_by : (held : List ℕ → Option (List ℕ)) (line : SnapLine) (save : List ℕ) (source : Option Source) (count : Option ℕ) (start : State) (events : List Event) (kept : Option (List ℕ)) →
     snap_judged (snap_line line) ≡ snap_words (snap_of_line line) source count →
     due_in held (plan_of (run_words (split_of line save) source count)) ≡ RunFrom start events kept → SnapAccepted held line start events
-unfolding plan_of command_plan run_words snap_words snap_plan
-words_by held line save None count start events kept words due = absurd (cc due)
-words_by held line save (Some source) None start events kept words due = absurd (cc due)
+unfolding command_plan run_words snap_words
 words_by held line save (Some source) (Some count) start events kept words due =
     let asked : RunWords = unsaved_run line.kind line.image line.policy line.disk source count in
     record {
@@ -158,6 +154,7 @@ words_by held line save (Some source) (Some count) start events kept words due =
       out = refl;
       due = run_same held None (record asked { save = unless_none save }) ∙ ap (with_save None) due;
     }
+words_by held line save _ _ start events kept words due = absurd (cc due)
 
 -- the names of the commands
 snap_named : (kind : DiskKind) → name_of (snap_name kind) ≡ Some (command.Snap kind)
@@ -180,7 +177,6 @@ undashed line none =
     ∙ ap (λ (name : Option CommandName). named_judged snap_after (named_by name (line.image ∷ line.policy ∷ line.disk ∷ line.script ∷ line.events ∷ line.out ∷ []))) (snap_named line.kind)
 
 no_run : (held : List ℕ → Option (List ℕ)) (refusal : Refusal) (start : State) (events : List Event) (kept : Option (List ℕ)) → due_in held (plan_of (Err refusal)) ≡ RunFrom start events kept → ⊥
-unfolding plan_of
 no_run held refusal start events kept is = cc is
 
 line_by : (held : List ℕ → Option (List ℕ)) (line : SnapLine) (save : List ℕ) (dashed : Bool) (start : State) (events : List Event) (kept : Option (List ℕ)) → has_dash line.out ≡ false →

@@ -45,11 +45,8 @@ register_width offset width =
 
 -- no transfer is under way
 rests : (status : BlockStatus) (b : BlockState) (n : ℕ) → is_under_way status ≡ false → Transfers status b n
-rests BlockStatus.Idle b n is = tt
 rests (BlockStatus.Busy command done) b n is = absurd (cc is)
-rests BlockStatus.Done b n is = tt
-rests BlockStatus.Denied b n is = tt
-rests BlockStatus.OutOfRange b n is = tt
+rests _ b n is = tt
 
 begun : (b : BlockState) (n : ℕ) → can_begin b n ≡ true → IsOnDisk b 0 n
 begun b n can =
@@ -90,9 +87,7 @@ unless_holds b next n false holds other = other refl
 low_small : (register : BlockRegister) (width value : ℕ) → width ≡ block_width register → value % 256 ^ width < 256 ^ block_width register
 low_small Sector width value is = subst (λ (w : ℕ). value % 256 ^ w < 256 ^ 8) (sym is) (mod-lt value (lit< tt))
 low_small Address width value is = subst (λ (w : ℕ). value % 256 ^ w < 256 ^ 8) (sym is) (mod-lt value (lit< tt))
-low_small Count width value is = subst (λ (w : ℕ). value % 256 ^ w < 256 ^ 4) (sym is) (mod-lt value (lit< tt))
-low_small Command width value is = subst (λ (w : ℕ). value % 256 ^ w < 256 ^ 4) (sym is) (mod-lt value (lit< tt))
-low_small Status width value is = subst (λ (w : ℕ). value % 256 ^ w < 256 ^ 4) (sym is) (mod-lt value (lit< tt))
+low_small _ width value is = subst (λ (w : ℕ). value % 256 ^ w < 256 ^ 4) (sym is) (mod-lt value (lit< tt))
 
 abbrev stored_by : BlockDevice → (width value : ℕ) → BlockRegister → BlockDevice
 stored_by d width value k = record d { block = unless_busy d.block (block_stored d.block (length d.bytes) k (value % 256 ^ width)) }
@@ -163,7 +158,6 @@ device_by sector gpa count status bytes = record { block = block_by sector gpa c
 dma_step_by : (sector gpa count n : ℕ) (status : BlockStatus) (bytes ram : List ℕ) (may_write : ℕ → Bool) → HoldsDevice n (device_by sector gpa count status bytes)
     → HoldsDevice n (block_beat (device_by sector gpa count status bytes) ram may_write).device
 unfolding block_beat
-dma_step_by sector gpa count n BlockStatus.Idle bytes ram may_write holds = holds
 dma_step_by sector gpa count n (BlockStatus.Busy BlockCommand.DiskToMemory done) bytes ram may_write holds =
     let b : BlockState = block_by sector gpa count (BlockStatus.Busy BlockCommand.DiskToMemory done) in
     choose_holds n (not (in_ram ram (gpa + 64 * done) 64)) _ _
@@ -179,9 +173,7 @@ dma_step_by sector gpa count n (BlockStatus.Busy BlockCommand.MemoryToDisk done)
       size = moved_size bytes ram sector gpa count done (ram_offset (gpa + 64 * done)) n holds.size holds.block;
       block = after_beat sector gpa count done n BlockCommand.MemoryToDisk holds.block;
     })
-dma_step_by sector gpa count n BlockStatus.Done bytes ram may_write holds = holds
-dma_step_by sector gpa count n BlockStatus.Denied bytes ram may_write holds = holds
-dma_step_by sector gpa count n BlockStatus.OutOfRange bytes ram may_write holds = holds
+dma_step_by sector gpa count n _ bytes ram may_write holds = holds
 
 pub beat_holds : (d : BlockDevice) (n : ℕ) (ram : List ℕ) (may_write : ℕ → Bool) → HoldsDevice n d → HoldsDevice n (block_beat d ram may_write).device
 beat_holds d n ram may_write holds = dma_step_by d.block.sector d.block.gpa d.block.count n d.block.status d.bytes ram may_write holds

@@ -1,5 +1,5 @@
 -- From what `snap` performed to each of its clauses.
-use Rattle.std.proofs.Common.{◌≡◌, ◌≢◌, ◌≤◌, ℕ, List, [], false, ◌∙◌, sym, ap, subst, arith, inl, inr, Option, Some, None, Result, Ok, Err}
+use Rattle.std.proofs.Common.{◌≡◌, ◌≢◌, ◌≤◌, ℕ, List, [], false, ◌∙◌, sym, ap, arith, inl, inr, Option, Some, None, Result, Ok, Err}
 use Rattle.std.specs.Result.{is_ok}
 use Rattle.sv_types.specs.declared.event.Event.{Event}
 use Rattle.sv_types.specs.declared.status.Status.{Status}
@@ -8,16 +8,16 @@ use Rattle.spec_reference.specs.States.{State}
 use Rattle.host_io.specs.Outside.{FilesState, SinkState}
 use Rattle.secvisor_cli.specs.Answers.{Outside, outside, Writes}
 use Rattle.host_io.specs.Endings.{status_of_end}
-use Rattle.cli_plans.specs.Plans.{Due, Refuse, RunFrom, Make, Plan, snap_plan}
+use Rattle.cli_plans.specs.Plans.{Due, Refuse, RunFrom, Make, Plan, run_plan, snap_plan}
 use Rattle.cli_plans.specs.Reading.{Follows}
 use Rattle.cli_plans.specs.declared.refusal.Refusal.{Refusal}
 use Rattle.host_io.specs.declared.trouble.Trouble.{Trouble}
 use Rattle.host_io.specs.declared.trouble.Trouble.TheVariants.{Write, Memory}
-use Rattle.cli_plans.proofs.PlanLemmas.{HasFault, HasFoundFaults, follows_keeps}
+use Rattle.cli_plans.proofs.PlanLemmas.{asked_unread, HasFault, HasFoundFaults, follows_keeps}
 use Rattle.secvisor_cli.proofs.SaveLemmas.{changes, ChangesOut, changes_none, exact_saving, writes_faults}
-use Rattle.cli_plans.proofs.FoundFaults.{run_found_faults}
-use Rattle.secvisor_cli.proofs.TopLemmas.{EffectOut, changes_vain, effect_out, refused_fault}
-use Rattle.cli_plans.proofs.WordLemmas.{NoReadFault, snap_no_read_fault}
+use Rattle.cli_plans.proofs.FoundFaults.{asked_found_faults, run_found_faults}
+use Rattle.secvisor_cli.proofs.TopLemmas.{EffectOut, changes_vain, effect_out, refused_fault, wants_no_fault}
+use Rattle.cli_plans.proofs.WordLemmas.{snap_no_read_fault}
 use Rattle.cli_snap.specs.SnapAnswers.{saving_of, SavesMade, SavesSnapshot, RunsSnap, AnswersSnapReached, PerformsSnap}
 use Rattle.cli_plans.specs.CommandLine.{SnapWords, snap_judged}
 use Rattle.cli_snap.specs.SnapReady.{out_of}
@@ -62,24 +62,12 @@ snap_effect words old new result p =
 
 -- ---- words that are refused
 
-refused_same : (name : List ℕ) (refusal : Refusal) (reached : Option Due) (old new : Outside) (result : Result Status Trouble) → reached ≡ Some (Refuse refusal) →
-    AnswersSnapReached name reached old new result →
-    new.files ≡ old.files
-refused_same name refusal reached old new result is a = (subst (λ (r : Option Due). AnswersSnapReached name r old new result) is a).saves.0
-
 pub snap_unread : (words : Result SnapWords Refusal) (old new : Outside) (result : Result Status Trouble) → is_ok words ≡ false → PerformsSnap words old new result → new.files ≡ old.files
-unfolding snap_plan
-snap_unread (Err refusal) old new result is p =
-    refused_same [] refusal p.reached (outside p.read old.sink old.bench) new result p.follows.0 p.answers ∙ p.follows.1
-snap_unread (Ok words) old new result is p = absurd (cc is)
+snap_unread words old new result bad p =
+    asked_unread (λ (w : SnapWords). run_plan w.run) words old.files new.files (λ read reached. AnswersSnapReached (out_of words) reached (outside read old.sink old.bench) new result) bad
+    (λ refusal a. a.saves.0) p
 
 -- ---- a read fault
-
--- the plan says read fault only where a read found no file, words never do
-snap_found_faults : (words : Result SnapWords Refusal) → NoReadFault words → HasFoundFaults (snap_plan words)
-unfolding snap_plan
-snap_found_faults (Ok words) never = run_found_faults words.run
-snap_found_faults (Err refusal) never = never
 
 made_no_fault : (start : State) (events : List Event) (name : List ℕ) (old new : FilesState) (status answer : Status) → status ≡ Status.Done → SavesMade start events name old new status (Ok answer) →
     answer ≢ Status.ReadFault
@@ -101,9 +89,7 @@ run_no_fault start events name old new (Err Memory) r = λ is. cc is
 reached_fault : (plan : Plan) (name : List ℕ) (reached : Option Due) (old new : Outside) (read : FilesState) (result : Result Status Trouble) → HasFoundFaults plan →
     Follows plan old.files read reached →
     AnswersSnapReached name reached (outside read old.sink old.bench) new result → status_of_end result ≡ Status.ReadFault → HasFault plan old.files new.files
-reached_fault plan name None old new read (Ok answer) never follows a is = absurd (cc a.0)
-reached_fault plan name None old new read (Err Write) never follows a is = absurd (cc is)
-reached_fault plan name None old new read (Err Memory) never follows a is = absurd (cc is)
+reached_fault plan name None old new read result never follows a is = absurd (wants_no_fault result a.0 is)
 reached_fault plan name (Some (Refuse refusal)) old new read result never follows a is = refused_fault plan refusal old new read result never follows a is
 reached_fault plan name (Some (RunFrom start events save)) old new read result never follows (inl a) is =
     absurd (run_no_fault start events name (outside read old.sink old.bench) new result a.1 is)
@@ -113,4 +99,5 @@ reached_fault plan name (Some (Make out rules line)) old new read result never f
 pub snap_fault : (words : List (List ℕ)) (old new : Outside) (result : Result Status Trouble) → PerformsSnap (snap_judged words) old new result → status_of_end result ≡ Status.ReadFault →
     HasFault (snap_plan (snap_judged words)) old.files new.files
 snap_fault words old new result p is =
-    reached_fault (snap_plan (snap_judged words)) (out_of (snap_judged words)) p.reached old new p.read result (snap_found_faults (snap_judged words) (snap_no_read_fault words)) p.follows p.answers is
+    reached_fault (snap_plan (snap_judged words)) (out_of (snap_judged words)) p.reached old new p.read result
+    (asked_found_faults (λ (w : SnapWords). run_plan w.run) (snap_judged words) (snap_no_read_fault words) (λ w. run_found_faults w.run)) p.follows p.answers is

@@ -91,16 +91,13 @@ record HasNumbers (b : BlockState) : Type 0 where
 still_has : (sector gpa count : ℕ) (status : BlockStatus) (bytes : List ℕ) → HasNumbers (block_by sector gpa count status)
     → IsSoundBlock (record { block = block_by sector gpa count status; bytes = bytes }) → block.has (block_by sector gpa count status) ≡ true
 unfolding block standing_status transfer
-still_has sector gpa count BlockStatus.Idle bytes is sound = rw (is.sector, is.gpa, is.count, is.few) refl
 still_has sector gpa count (BlockStatus.Busy BlockCommand.DiskToMemory done) bytes is sound =
     let t = transfer_in (block_by sector gpa count (BlockStatus.Busy BlockCommand.DiskToMemory done)) bytes done refl refl sound in
     rw (is.sector, is.gpa, is.count, is.few, t.some, t.aligned, is.done, t.left) refl
 still_has sector gpa count (BlockStatus.Busy BlockCommand.MemoryToDisk done) bytes is sound =
     let t = transfer_in (block_by sector gpa count (BlockStatus.Busy BlockCommand.MemoryToDisk done)) bytes done refl refl sound in
     rw (is.sector, is.gpa, is.count, is.few, t.some, t.aligned, is.done, t.left) refl
-still_has sector gpa count BlockStatus.Done bytes is sound = rw (is.sector, is.gpa, is.count, is.few) refl
-still_has sector gpa count BlockStatus.Denied bytes is sound = rw (is.sector, is.gpa, is.count, is.few) refl
-still_has sector gpa count BlockStatus.OutOfRange bytes is sound = rw (is.sector, is.gpa, is.count, is.few) refl
+still_has sector gpa count _ bytes is sound = rw (is.sector, is.gpa, is.count, is.few) refl
 
 block_has : (b : BlockState) (bytes : List ℕ) → is_typed_block b ≡ true → IsSoundBlock (record { block = b; bytes = bytes }) → block.has b ≡ true
 block_has b bytes typed sound =
@@ -146,8 +143,6 @@ descriptors_have : (count reached : ℕ) (before : List VirtioPart) (n : ℕ) (p
     → ((k : ℕ) → k < n → may_stand count reached (length before + k) (get_or parts k no_part) ≡ true) → has_all (next_descriptor count reached) before n parts ≡ true
 unfolding has_all next_descriptor descriptor
 descriptors_have count reached before zero [] size typed stands = refl
-descriptors_have count reached before zero (part ∷ parts) size typed stands = absurd (omega (arith, size))
-descriptors_have count reached before (suc n) [] size typed stands = absurd (omega (arith, size))
 descriptors_have count reached before (suc n) (part ∷ parts) size typed stands =
     let one = first_true (is_typed_part part) (list_all is_typed_part parts) typed in
     let gpa = first_true (is_word part.gpa) (nat_lt part.len (2 ^ 32)) one in
@@ -157,6 +152,7 @@ descriptors_have count reached before (suc n) (part ∷ parts) size typed stands
     both_true _ _ (both_true _ _ (both_true (is_word part.gpa) _ gpa (both_true (register.has part.len) _ len (flag_has part.write))) here)
     (descriptors_have count reached (before ++ part ∷ []) n parts (omega (arith, size)) (second_true (is_typed_part part) (list_all is_typed_part parts) typed)
     (λ k lt. subst (λ (p : ℕ). may_stand count reached p (get_or parts k no_part) ≡ true) (omega (arith, more)) (stands (suc k) (omega (arith, lt)))))
+descriptors_have count reached before _ _ size typed stands = absurd (omega (arith, size))
 
 parts_have : (q : VirtioRequest) → IsPlaced q → list_all is_typed_part q.parts ≡ true → (descriptors q.count q.part).has q.parts ≡ true
 unfolding descriptors

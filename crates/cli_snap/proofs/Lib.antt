@@ -8,7 +8,6 @@ pub mod CountsRise
 pub mod DisksStay
 pub mod EndLemmas
 pub mod FileHolds
-pub mod ReadyLemmas
 pub mod RunLemmas
 pub mod SaveLemmas
 pub mod SkipLemmas

@@ -1,6 +1,5 @@
 -- From what `resume` performed to each of its clauses.
-use Rattle.std.proofs.Common.{◌≡◌, ◌≢◌, ℕ, List, false, ◌∙◌, Option, Some, None, Result, Ok, Err}
-use Rattle.std.specs.Result.{is_ok}
+use Rattle.std.proofs.Common.{◌≡◌, ◌≢◌, ℕ, List, Option, Some, None, Result, Ok, Err}
 use Rattle.sv_types.specs.Policies.{Rules}
 use Rattle.sv_types.specs.Schedule.{Schedule}
 use Rattle.sv_types.specs.declared.event.Event.{Event}
@@ -12,25 +11,16 @@ use Rattle.snapshot_format.specs.declared.refusal.SnapRefusal.{SnapRefusal}
 use Rattle.snapshot_format.specs.Judgements.{resume_refusal}
 use Rattle.snapshot_format.specs.ResumedStates.{resumed_state}
 use Rattle.snapshot_format.specs.declared.resume.refusal.ResumeRefusal.{ResumeRefusal}
-use Rattle.secvisor_cli.specs.Answers.{Outside, outside, Performs}
+use Rattle.secvisor_cli.specs.Answers.{Outside, Performs}
 use Rattle.host_io.specs.Endings.{status_of_end}
 use Rattle.cli_plans.specs.Plans.{Plan, found_plan, policy_part, status_due}
-use Rattle.cli_plans.specs.declared.refusal.Refusal.{Refusal}
 use Rattle.host_io.specs.declared.trouble.Trouble.{Trouble}
 use Rattle.cli_plans.proofs.PlanLemmas.{HasFault, HasFoundFaults}
-use Rattle.cli_plans.proofs.FoundFaults.{policy_found_faults, run_no_read_fault, script_found_faults}
-use Rattle.secvisor_cli.proofs.TopLemmas.{plan_fault, refused_same}
-use Rattle.cli_plans.proofs.WordLemmas.{NoReadFault, resume_no_read_fault}
+use Rattle.cli_plans.proofs.FoundFaults.{asked_found_faults, policy_found_faults, run_no_read_fault, script_found_faults}
+use Rattle.secvisor_cli.proofs.TopLemmas.{plan_fault}
+use Rattle.cli_plans.proofs.WordLemmas.{resume_no_read_fault}
 use Rattle.cli_snap.specs.ResumePlans.{after_policy, behind_script, after_snapshot, contents_judged, events_after, resume_plan, resumed_due, snapshot_part, words_plan}
 use Rattle.cli_plans.specs.CommandLine.{ResumeWords, resume_judged}
-
--- ---- words that are refused
-
-pub unread : (words : Result ResumeWords Refusal) (old new : Outside) (result : Result Status Trouble) → is_ok words ≡ false → Performs (resume_plan words) old new result → new.files ≡ old.files
-unfolding resume_plan
-unread (Err refusal) old new result is p =
-    refused_same refusal p.reached (outside p.read old.sink old.bench) new result p.follows.0 p.answers ∙ p.follows.1
-unread (Ok words) old new result is p = absurd (cc is)
 
 -- ---- a read fault
 
@@ -60,12 +50,7 @@ words_faults : (words : ResumeWords) → HasFoundFaults (words_plan words)
 unfolding words_plan snapshot_part found_plan
 words_faults words = (λ e. cc e, λ bytes. judged_faults (after_snapshot words) (snapshot_read bytes) (snapshot_faults words))
 
-plan_faults : (words : Result ResumeWords Refusal) → NoReadFault words → HasFoundFaults (resume_plan words)
-unfolding resume_plan
-plan_faults (Ok words) is = words_faults words
-plan_faults (Err refusal) is = is
-
 pub resume_fault : (words : List (List ℕ)) (old new : Outside) (result : Result Status Trouble) → Performs (resume_plan (resume_judged words)) old new result →
     status_of_end result ≡ Status.ReadFault → HasFault (resume_plan (resume_judged words)) old.files new.files
 resume_fault words old new result p is =
-    plan_fault (resume_plan (resume_judged words)) old new result (plan_faults (resume_judged words) (resume_no_read_fault words)) p is
+    plan_fault (resume_plan (resume_judged words)) old new result (asked_found_faults words_plan (resume_judged words) (resume_no_read_fault words) words_faults) p is

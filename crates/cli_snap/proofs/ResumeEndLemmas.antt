@@ -12,7 +12,7 @@ use Rattle.snapshot_format.specs.declared.refusal.SnapRefusal.{SnapRefusal}
 use Rattle.snapshot_format.specs.declared.refusal.SnapRefusal.TheVariants.{TooLong}
 use Rattle.snapshot_format.specs.ResumedStates.{resumed_state}
 use Rattle.snapshot_format.specs.declared.resume.refusal.ResumeRefusal.{ResumeRefusal}
-use Rattle.cli_plans.specs.CommandLine.{Source, Rounds, Auto, Bursts, Text, ResumeWords, resume_judged}
+use Rattle.cli_plans.specs.CommandLine.{Source, Text, ResumeWords, resume_judged}
 use Rattle.secvisor_cli.specs.DueIn.{due_in}
 use Rattle.cli_plans.specs.Plans.{RunFrom, Plan, Judge, max_policy_bytes, max_script_bytes, part_judged, policy_judged, policy_part, script_part, text_part}
 use Rattle.cli_plans.specs.declared.file_fault.FileFault.{FileFault}
@@ -61,10 +61,8 @@ module _ (held : List ℕ → Option (List ℕ)) where
   script_due : (source : Source) (harts : ℕ) (script : Schedule) (next : Schedule → Plan) → HoldScript held source harts script →
       due_in held (script_part harts source next) ≡ due_in held (next script)
   unfolding script_part
-  script_due Rounds harts script next is = ap (λ (s : Schedule). due_in held (next s)) (sym is)
-  script_due (Auto number) harts script next is = ap (λ (s : Schedule). due_in held (next s)) (sym is)
-  script_due (Bursts number) harts script next is = ap (λ (s : Schedule). due_in held (next s)) (sym is)
   script_due (Text name) harts script next it = text_due name harts script next it
+  script_due _ harts script next is = ap (λ (s : Schedule). due_in held (next s)) (sym is)
 
   words_due : (words : ResumeWords) (s : Contents) (rules : Rules) (script : Schedule) → HoldResumable held words s rules script →
       due_in held (words_plan words) ≡ RunFrom (resumed_state rules s) (events_after s.events words.events script) words.save
@@ -77,7 +75,6 @@ module _ (held : List ℕ → Option (List ℕ)) where
 
 pub plan_due : (held : List ℕ → Option (List ℕ)) (judged : Result ResumeWords Refusal) (words : ResumeWords) (s : Contents) (rules : Rules) (script : Schedule) → judged ≡ Ok words →
     HoldResumable held words s rules script → due_in held (resume_plan judged) ≡ RunFrom (resumed_state rules s) (events_after s.events words.events script) words.save
-unfolding resume_plan
 plan_due held judged words s rules script is it =
     ap (λ (j : Result ResumeWords Refusal). due_in held (resume_plan j)) is ∙ words_due held words s rules script it
 

@@ -14,9 +14,9 @@ use Rattle.snapshot_format.specs.declared.whole.Snapshot.{Snapshot}
 use Rattle.snapshot_format.specs.Judgements.{resume_refusal}
 use Rattle.snapshot_format.specs.ResumedStates.{resumed_state}
 use Rattle.snapshot_format.specs.declared.resume.refusal.ResumeRefusal.{ResumeRefusal}
-use Rattle.cli_plans.specs.Plans.{Due, Refuse, RunFrom, Make, Plan, End, Judge, Held}
+use Rattle.cli_plans.specs.Plans.{Due, Refuse, RunFrom, Plan, End, Judge, Held}
 use Rattle.cli_plans.specs.Reading.{FoundAs, Follows, MayFollow}
-use Rattle.secvisor_cli.specs.Ready.{IsReadyWhere, IsRunnable, PartRead, Passes, Prepares, Staged}
+use Rattle.secvisor_cli.specs.Ready.{IsRunnable, PartRead, Passes, Prepares, Staged}
 use Rattle.cli_plans.specs.declared.file_fault.FileFault.{FileFault}
 use Rattle.cli_plans.specs.declared.file_fault.Part.{Part}
 use Rattle.secvisor_cli.specs.declared.ready.PreparedRun.{PreparedRun}
@@ -24,9 +24,9 @@ use Rattle.secvisor_cli.specs.declared.ready.Stop.{Stop}
 use Rattle.secvisor_cli.specs.declared.ready.Stop.TheVariants.{Refused, Memory}
 use Rattle.cli_plans.specs.declared.refusal.Refusal.TheVariants.{File}
 use Rattle.secvisor_cli.proofs.ReadyLemmas.{end_ready, judge_ready, judge_wants, read_ready, stopped_ready}
-use Rattle.secvisor_cli.proofs.StageLemmas.{read_follows, read_may, read_faults}
+use Rattle.secvisor_cli.proofs.StageLemmas.{read_follows, read_may, read_faults, pass_ready}
 use Rattle.cli_snap.specs.ResumePlans.{contents_judged, snapshot_part, resumed_due}
-use Rattle.cli_snap.specs.ResumeReady.{IsMachine, IsResumed, IsResumedWhere, IsSnapshot, Resumes}
+use Rattle.cli_snap.specs.ResumeReady.{IsMachine, IsResumed, IsSnapshot, Resumes}
 use Rattle.cli_snap.proofs.CountLemmas.{counted}
 
 -- ---- the snapshot
@@ -57,27 +57,25 @@ snapshot_unread name old new stop it = λ next. stopped_ready _ _ _ _ old new st
 
 -- ---- any stage
 
-stopped_where : (reached : Option Due) (stop : Stop) → IsReadyWhere reached (Err stop) → IsResumedWhere reached (Err stop)
-stopped_where None (Refused given) it = absurd (cc it)
-stopped_where None Memory it = refl
-stopped_where (Some (Refuse refusal)) (Refused given) it = it
-stopped_where (Some (RunFrom start events save)) (Refused given) it = absurd it
-stopped_where (Some (Make name rules line)) (Refused given) it = absurd it
-stopped_where (Some due) Memory it = absurd it
-
--- a stage that gave nothing is where the plan ends
-pub stops : (plan : Plan) (old new : FilesState) (stop : Stop) → Prepares plan old new (Err stop) → Resumes plan old new (Err stop)
-stops plan old new stop p = record { reached = p.reached; follows = p.follows; ready = stopped_where p.reached stop p.ready }
-
 -- what is ready after a stage that passes
 pub pass : {A : Type 0} (stage : (A → Plan) → Plan) (value : A) (next : A → Plan) (old now new : FilesState) (result : Result PreparedRun Stop) →
     Passes stage value old now → Resumes (next value) now new result → Resumes (stage next) old new result
-pass stage value next old now new result passes p = record { reached = p.reached; follows = passes.follows next new p.reached p.follows; ready = p.ready }
+pass stage value next old now new (Ok booted) passes on =
+    record { start = on.start; follows = passes.follows next new _ on.follows; is_new = on.is_new; runnable = on.runnable }
+pass stage value next old now new (Err stop) passes p = pass_ready stage value next old now new (Err stop) passes p
 
 pub judge_end : (due : Due) (files : FilesState) (result : Result PreparedRun Stop) → IsResumed due result → Resumes (Judge (End due)) files files result
-judge_end due files (Ok booted) it = record { reached = Some due; follows = inr (refl, refl); ready = it }
-judge_end due files (Err (Refused refusal)) it = record { reached = Some due; follows = inr (refl, refl); ready = it }
+judge_end (RunFrom start events save) files (Ok booted) it = record {
+  start = start;
+  follows =
+      subst (λ (es : List Event). Follows (Judge (End (RunFrom start events save))) files files (Some (RunFrom start es (option_copied booted.save)))) (sym it.1)
+      (subst (λ (name : Option (List ℕ)). Follows (Judge (End (RunFrom start events save))) files files (Some (RunFrom start events name))) (sym it.2) (inr (refl, refl)));
+  is_new = it.0;
+  runnable = it.3;
+}
+judge_end (Refuse why) files (Err (Refused refusal)) it = record { reached = Some (Refuse why); follows = inr (refl, refl); ready = it }
 judge_end due files (Err Memory) it = record { reached = None; follows = inl (refl, refl); ready = refl }
+judge_end _ files _ it = absurd it
 
 -- ---- the machine
 

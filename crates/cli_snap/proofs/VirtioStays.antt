@@ -1,5 +1,5 @@
 -- What holds of the virtio block device and its disk after a store, and after a beat.
-use Rattle.std.proofs.Common.{◌≡◌, ℕ, zero, suc, ◌+◌, ◌-◌, ◌*◌, ◌%◌, ◌^◌, ◌≤◌, List, [], ◌∷◌, ◌++◌, length, filter, Bool, true, false, not, ◌&&◌, ◌||◌, arith, refl, subst, ◌∙◌}
+use Rattle.std.proofs.Common.{◌≡◌, ℕ, suc, ◌+◌, ◌-◌, ◌*◌, ◌%◌, ◌^◌, ◌≤◌, List, [], ◌∷◌, ◌++◌, length, filter, Bool, true, false, not, ◌&&◌, ◌||◌, arith, refl, subst, ◌∙◌}
 use Rattle.std.specs.Prelude.{Option, Some, None, option_map, if◌then◌else◌, ◌==◌, nat_lt}
 use Rattle.std.specs.List.{list_all}
 use Rattle.std.proofs.lemmas.Bool.Decides.{nat_tests}
@@ -65,20 +65,12 @@ used_holds n d address k = either n (can_set d) (record d { used = address }) d 
 
 put_holds : (n : ℕ) (d : VirtioDevice) (register : VirtioRegister) (value : ℕ) → HoldsVirtio n d → HoldsVirtio n (put d register value)
 unfolding put
-put_holds n d VirtioRegister.MagicValue value k = k
-put_holds n d VirtioRegister.Version value k = k
-put_holds n d VirtioRegister.DeviceId value k = k
-put_holds n d VirtioRegister.VendorId value k = k
-put_holds n d VirtioRegister.DeviceFeatures value k = k
 put_holds n d VirtioRegister.DeviceFeaturesSelect value k = record { size = k.size; moves = k.moves }
 put_holds n d VirtioRegister.DriverFeatures value k = features_hold n d value k
 put_holds n d VirtioRegister.DriverFeaturesSelect value k = record { size = k.size; moves = k.moves }
 put_holds n d VirtioRegister.QueueSelect value k = record { size = k.size; moves = k.moves }
-put_holds n d VirtioRegister.QueueSizeMax value k = k
 put_holds n d VirtioRegister.QueueSize value k = size_holds n d value k
 put_holds n d VirtioRegister.QueueReady value k = ready_holds n d value k
-put_holds n d VirtioRegister.QueueNotify value k = k
-put_holds n d VirtioRegister.InterruptStatus value k = k
 put_holds n d VirtioRegister.InterruptAcknowledge value k = record { size = k.size; moves = k.moves }
 put_holds n d VirtioRegister.Status value k = status_holds n d value k
 put_holds n d VirtioRegister.DescriptorsLow value k = descriptors_hold n d (with_low d.descriptors value) k
@@ -87,9 +79,7 @@ put_holds n d VirtioRegister.AvailableLow value k = available_holds n d (with_lo
 put_holds n d VirtioRegister.AvailableHigh value k = available_holds n d (with_high d.available value) k
 put_holds n d VirtioRegister.UsedLow value k = used_holds n d (with_low d.used value) k
 put_holds n d VirtioRegister.UsedHigh value k = used_holds n d (with_high d.used value) k
-put_holds n d VirtioRegister.ConfigGeneration value k = k
-put_holds n d VirtioRegister.CapacityLow value k = k
-put_holds n d VirtioRegister.CapacityHigh value k = k
+put_holds n d _ value k = k
 
 -- what a device becomes, if it becomes one
 abbrev pub AnyHoldsVirtio : ℕ → Option VirtioDevice → Type 0
@@ -125,12 +115,11 @@ piece_lies n false gpa place size fits = fits
 
 pieces_lie : (k n : ℕ) (write : Bool) (gpa place len : ℕ) → place + len ≤ n → AllLieOn n (pieces k write gpa place len)
 unfolding pieces
-pieces_lie zero n write gpa place len fits = tt
-pieces_lie (suc k) n write gpa place zero fits = tt
 pieces_lie (suc k) n write gpa place (suc m) fits =
     let size = piece_size gpa (suc m) in
     let few : size ≤ suc m = omega arith in
     (piece_lies n write gpa place size (omega (arith, few, fits)), pieces_lie k n write (gpa + size) (place + size) (suc m - size) (omega (arith, few, fits)))
+pieces_lie _ n write gpa place _ fits = tt
 
 data_lie : (n place : ℕ) (parts : List VirtioPart) → place + bytes_in parts ≤ n → AllLieOn n (data_moves place parts)
 unfolding data_moves
@@ -144,8 +133,7 @@ sectors_fit disk_size sector size is = grind (arith, nat_tests)
 
 done_fits : (known can : Bool) → is_done (if known then (if can then VirtioResult.Done else VirtioResult.Failed) else VirtioResult.Unsupported) ≡ true → can ≡ true
 done_fits true true is = refl
-done_fits true false is = absurd (cc)
-done_fits false can is = absurd (cc)
+done_fits _ _ is = absurd (cc)
 
 moves_by_lie : (ram : List ℕ) (n kind sector : ℕ) (parts : List VirtioPart) (done : Bool) → is_done (result_by ram n kind sector parts) ≡ done
     → AllLieOn n (if done then data_moves (512 * sector) parts else [])

@@ -8,7 +8,7 @@ use Rattle.snapshot_format.specs.declared.refusal.SnapRefusal.{SnapRefusal}
 use Rattle.snapshot_format.specs.Judgements.{resume_refusal}
 use Rattle.snapshot_format.specs.ResumedStates.{resumed_state}
 use Rattle.snapshot_format.specs.declared.resume.refusal.ResumeRefusal.{ResumeRefusal}
-use Rattle.cli_plans.specs.Plans.{Due, Refuse, RunFrom, Plan, End, Judge, read_part, policy_part, script_part}
+use Rattle.cli_plans.specs.Plans.{Due, Refuse, RunFrom, Plan, End, Judge, asked_plan, read_part, policy_part, script_part}
 use Rattle.cli_plans.specs.declared.file_fault.FileFault.{FileFault}
 use Rattle.cli_plans.specs.declared.file_fault.Part.{Part}
 use Rattle.cli_plans.specs.declared.refusal.Refusal.{Refusal}
@@ -50,6 +50,5 @@ after_snapshot words s = policy_part words.policy (after_policy words s)
 unfoldable pub words_plan : ResumeWords → Plan
 words_plan words = snapshot_part words.saved (after_snapshot words)
 
-unfoldable pub resume_plan : Result ResumeWords Refusal → Plan
-resume_plan (Err refusal) = End (Refuse refusal)
-resume_plan (Ok words) = Judge (words_plan words)
+abbrev pub resume_plan : Result ResumeWords Refusal → Plan
+resume_plan words = asked_plan words_plan words

@@ -1,8 +1,9 @@
 -- What is made ready of `resume`, before anything is written.
-use Rattle.std.specs.Prelude.{◌≡◌, Option, Some, None, Result, Ok, Err, IsErrOf}
+use Rattle.std.specs.Prelude.{◌≡◌, Some, None, Result, Ok, Err}
 use Rattle.std.specs.Option.{option_copied}
 use Rattle.sv_types.specs.Policies.{Rules}
 use Rattle.sv_types.specs.Schedule.{first_events}
+use Rattle.spec_reference.specs.States.{State}
 use Rattle.spec_hardware.specs.Machine.{Machine}
 use Rattle.spec_hardware.specs.Reaches.{IsNew}
 use Rattle.host_io.specs.Outside.{FilesState}
@@ -14,7 +15,7 @@ use Rattle.snapshot_format.specs.ResumedStates.{resumed_state}
 use Rattle.snapshot_format.specs.declared.resume.refusal.ResumeRefusal.{ResumeRefusal}
 use Rattle.cli_plans.specs.Plans.{Due, Refuse, RunFrom, Make, Plan}
 use Rattle.cli_plans.specs.Reading.{Follows}
-use Rattle.secvisor_cli.specs.Ready.{IsRunnable}
+use Rattle.secvisor_cli.specs.Ready.{IsRunnable, Prepares}
 use Rattle.cli_plans.specs.declared.file_fault.FileFault.{FileFault}
 use Rattle.secvisor_cli.specs.declared.ready.PreparedRun.{PreparedRun}
 use Rattle.secvisor_cli.specs.declared.ready.Stop.{Stop}
@@ -32,17 +33,16 @@ IsResumed (Refuse refusal) (Ok booted) = ⊥
 IsResumed (Refuse refusal) (Err (Refused given)) = given ≡ refusal
 IsResumed due (Err Memory) = Unit {0}
 
--- where memory ran out, the end of the plan wasn't reached
-abbrev pub IsResumedWhere : Option Due → Result PreparedRun Stop → Type 0
-IsResumedWhere None result = IsErrOf result Memory
-IsResumedWhere (Some due) (Ok booted) = IsResumed due (Ok booted)
-IsResumedWhere (Some due) (Err (Refused refusal)) = IsResumed due (Err (Refused refusal))
-IsResumedWhere (Some due) (Err Memory) = ⊥
+-- a machine that goes on, and its run, which is due
+pub record GoesOn (plan : Plan) (old new : FilesState) (booted : PreparedRun) : Type 0 where
+  pub start : State
+  pub follows : Follows plan old new (Some (RunFrom start (first_events booted.events booted.script) (option_copied booted.save)))
+  pub is_new : IsNew booted.machine start
+  pub runnable : IsRunnable booted
 
-pub record Resumes (plan : Plan) (old new : FilesState) (result : Result PreparedRun Stop) : Type 0 where
-  pub reached : Option Due
-  pub follows : Follows plan old new reached
-  pub ready : IsResumedWhere reached result
+abbrev pub Resumes : Plan → FilesState → FilesState → Result PreparedRun Stop → Type 0
+Resumes plan old new (Ok booted) = GoesOn plan old new booted
+Resumes plan old new (Err stop) = Prepares plan old new (Err stop)
 
 -- ---- the parts, judged
 

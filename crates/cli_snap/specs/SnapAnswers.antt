@@ -17,7 +17,7 @@ use Rattle.sv_types.specs.Limits.{max_printed}
 use Rattle.secvisor_cli.specs.Answers.{Outside, outside, IsFree, TriedInVain, Writes, SavedAfter, WritesAndSaves}
 use Rattle.host_io.specs.Endings.{status_of_end}
 use Rattle.cli_plans.specs.Plans.{Due, Refuse, RunFrom, Make, Saving, Exactly, Plan, snap_plan}
-use Rattle.cli_plans.specs.Reading.{Follows}
+use Rattle.cli_plans.specs.Reading.{CarriesOut}
 use Rattle.cli_plans.specs.declared.refusal.Refusal.{Refusal}
 use Rattle.host_io.specs.declared.trouble.Trouble.{Trouble}
 use Rattle.host_io.specs.declared.trouble.Trouble.TheVariants.{Write, Memory}
@@ -98,12 +98,9 @@ AnswersSnapReached name None old new result = IsErrOf result Memory × (new ≡ 
 AnswersSnapReached name (Some due) old new result = AnswersSnap name due old new result
 
 -- the files were asked as a plan says, and what is due at its end was answered
-pub record PerformsRun (plan : Plan) (name : List ℕ) (old new : Outside) (result : Result Status Trouble) : Type 0 where
-  pub reached : Option Due
-  -- the files once they were read
-  pub read : FilesState
-  pub follows : Follows plan old.files read reached
-  pub answers : AnswersSnapReached name reached (outside read old.sink old.bench) new result
+abbrev pub PerformsRun : Plan → (name : List ℕ) → Outside → Outside → Result Status Trouble → Type 0
+PerformsRun plan name old new result =
+    CarriesOut plan old.files (λ read reached. AnswersSnapReached name reached (outside read old.sink old.bench) new result)
 
 abbrev pub PerformsSnap : Result SnapWords Refusal → Outside → Outside → Result Status Trouble → Type 0
 PerformsSnap words old new result = PerformsRun (snap_plan words) (out_of words) old new result

@@ -1,5 +1,5 @@
 -- From what is ready of `survey` to what is answered, and what follows of that.
-use Rattle.std.proofs.Common.{◌≡◌, ◌≤◌, ℕ, List, [], IsTrue, false, refl, sym, ◌∙◌, ap, subst, arith, inl, inr, Option, Some, None, Result, Ok, Err, IsErrOf}
+use Rattle.std.proofs.Common.{◌≡◌, ◌≤◌, ℕ, List, IsTrue, false, sym, ap, subst, arith, inr, Option, Some, None, Result, Ok}
 use Rattle.std.specs.Result.{is_ok}
 use Rattle.sv_types.specs.Limits.{max_events}
 use Rattle.sv_types.specs.Schedule.{first_events}
@@ -9,23 +9,18 @@ use Rattle.spec_reference.specs.States.{State}
 use Rattle.spec_hardware.specs.Machine.{Machine}
 use Rattle.spec_hardware.specs.Reaches.{IsNew}
 use Rattle.host_io.specs.Outside.{FilesState, SinkState, MayWrite}
-use Rattle.host_io.specs.declared.trouble.Trouble.TheVariants.{Memory}
 use Rattle.host_io.specs.declared.trouble.Trouble.{Trouble}
 use Rattle.machine.specs.Console.{MayRun}
 use Rattle.machine.proofs.Repeated.{counts_within}
 use Rattle.cli_plans.specs.CommandLine.{RunWords, survey_judged}
 use Rattle.cli_plans.specs.Plans.{Due, Refuse, RunFrom, Make, run_plan, survey_plan}
 use Rattle.cli_plans.specs.Reading.{MayFollow}
-use Rattle.cli_plans.specs.Refusals.{refusal_line, refusal_status, takes_memory}
 use Rattle.cli_plans.specs.declared.refusal.Refusal.{Refusal}
-use Rattle.cli_plans.proofs.PlanLemmas.{Keeps, follows_keeps, may_follow}
-use Rattle.secvisor_cli.specs.Answers.{Outside, outside, Writes, WritesAndSaves}
-use Rattle.secvisor_cli.specs.Ready.{IsFresh, IsReadyWhere, Prepares}
+use Rattle.cli_plans.proofs.PlanLemmas.{asked_unread, Keeps, follows_keeps, may_follow}
+use Rattle.secvisor_cli.specs.Answers.{Outside, outside}
+use Rattle.secvisor_cli.specs.Ready.{IsFresh}
 use Rattle.secvisor_cli.specs.declared.ready.PreparedRun.{PreparedRun}
-use Rattle.secvisor_cli.specs.declared.ready.Stop.TheVariants.{Refused}
-use Rattle.secvisor_cli.specs.declared.ready.Stop.TheVariants as stop
 use Rattle.secvisor_cli.proofs.SaveLemmas.{writes_faults}
-use Rattle.secvisor_cli.proofs.TopLemmas.{refused_writes}
 use Rattle.cli_survey.specs.SurveyAnswers.{AnswersReached, BeginsSurvey, IsAtStart, PerformsRun, PerformsSurvey, RunsSurvey, image_of}
 use Rattle.cli_survey.specs.declared.ready.ReadySurvey.{ReadySurvey}
 use Rattle.cli_survey.proofs.ReadyLemmas.{is_start}
@@ -59,59 +54,13 @@ ready_performs words f0 f1 s0 s1 b0 b1 ready result b runs = record {
   };
 }
 
--- ---- refusals, and out of memory
-
-refused_where : (image : List ℕ) (before : FilesState) (reached : Option Due) (given : Refusal) (files : FilesState) (old new : SinkState) (bench : Option Machine) (result : Result Status Trouble) →
-    IsReadyWhere reached (Err (Refused given)) → Writes (refusal_status given) (refusal_line given) old new result → (IsErrOf result Memory → IsTrue (takes_memory given)) →
-    (IsErrOf result Memory → new ≡ old) → AnswersReached image before reached (outside files old bench) (outside files new bench) result
-refused_where image before None given files old new bench result it w wants quiet = absurd (cc it)
-refused_where image before (Some (Refuse refusal)) given files old new bench result it w wants quiet =
-    subst (λ (r : Refusal). WritesAndSaves (Refuse r) (outside files old bench) (outside files new bench) result) it (refused_writes given files old new bench result w wants quiet)
-refused_where image before (Some (RunFrom start events save)) given files old new bench result it w wants quiet = absurd it
-refused_where image before (Some (Make out rules line)) given files old new bench result it w wants quiet = absurd it
-
-pub refused_performs : (words : RunWords) (f0 f1 : FilesState) (old new : SinkState) (bench : Option Machine) (given : Refusal) (result : Result Status Trouble) →
-    Prepares (run_plan words) f0 f1 (Err (Refused given)) → Writes (refusal_status given) (refusal_line given) old new result → (IsErrOf result Memory → IsTrue (takes_memory given)) →
-    (IsErrOf result Memory → new ≡ old) → PerformsRun words (outside f0 old bench) (outside f1 new bench) result
-refused_performs words f0 f1 old new bench given result p w wants quiet =
-    record { reached = p.reached; read = f1; follows = p.follows; answers = refused_where words.image f0 p.reached given f1 old new bench result p.ready w wants quiet }
-
-wanting_where : (image : List ℕ) (before : FilesState) (reached : Option Due) (old : Outside) → IsReadyWhere reached (Err stop.Memory) → AnswersReached image before reached old old (Err Memory)
-wanting_where image before None old it = (refl, refl)
-wanting_where image before (Some (Refuse refusal)) old it = absurd it
-wanting_where image before (Some (RunFrom start events save)) old it = absurd it
-wanting_where image before (Some (Make out rules line)) old it = absurd it
-
-pub wanting_performs : (words : RunWords) (f0 f1 : FilesState) (sink : SinkState) (bench : Option Machine) → Prepares (run_plan words) f0 f1 (Err stop.Memory) →
-    PerformsRun words (outside f0 sink bench) (outside f1 sink bench) (Err Memory)
-wanting_performs words f0 f1 sink bench p =
-    record { reached = p.reached; read = f1; follows = p.follows; answers = wanting_where words.image f0 p.reached (outside f1 sink bench) p.ready }
-
 -- ---- the words
-
-pub words_refused : (words : Result RunWords Refusal) (refusal : Refusal) (files : FilesState) (old new : SinkState) (bench : Option Machine) (result : Result Status Trouble) → words ≡ Err refusal →
-    Writes (refusal_status refusal) (refusal_line refusal) old new result → (IsErrOf result Memory → IsTrue (takes_memory refusal)) → (IsErrOf result Memory → new ≡ old) →
-    PerformsSurvey words (outside files old bench) (outside files new bench) result
-unfolding survey_plan
-words_refused words refusal files old new bench result is w wants quiet =
-    subst (λ (j : Result RunWords Refusal). PerformsSurvey j (outside files old bench) (outside files new bench) result) (sym is)
-    (record { reached = Some (Refuse refusal); read = files; follows = (refl, refl); answers = refused_writes refusal files old new bench result w wants quiet })
-
-pub words_may : (words : Result RunWords Refusal) (value : RunWords) (files : FilesState) → words ≡ Ok value → MayFollow (survey_plan words) files → MayFollow (run_plan value) files
-unfolding survey_plan
-words_may words value files is may = subst (λ (j : Result RunWords Refusal). MayFollow (survey_plan j) files) is may
 
 pub words_performed : (words : Result RunWords Refusal) (value : RunWords) (old new : Outside) (result : Result Status Trouble) → words ≡ Ok value →
     PerformsRun value old new result → PerformsSurvey words old new result
-unfolding survey_plan
 words_performed words value old new result is it =
     subst (λ (j : Result RunWords Refusal). PerformsSurvey j old new result) (sym is)
     (record { reached = it.reached; read = it.read; follows = inr it.follows; answers = it.answers })
-
-pub words_want : (words : Result RunWords Refusal) (old : Outside) → IsTrue (is_ok words) → PerformsSurvey words old old (Err Memory)
-unfolding survey_plan
-words_want (Ok words) old good = record { reached = None; read = old.files; follows = inl (refl, refl); answers = (refl, refl) }
-words_want (Err refusal) old good = absurd (cc good)
 
 -- ---- what becomes of the files and the sink
 
@@ -138,9 +87,9 @@ pub writes : (words : Result RunWords Refusal) (old new : Outside) (result : Res
 writes words old new result p = reached_writes (image_of words) old.files p.reached (outside p.read old.sink old.bench) new result p.answers
 
 pub unread : (words : Result RunWords Refusal) (old new : Outside) (result : Result Status Trouble) → is_ok words ≡ false → PerformsSurvey words old new result → new.files ≡ old.files
-unfolding survey_plan
-unread (Err refusal) old new result bad p = reached_files [] old.files p.reached (outside p.read old.sink old.bench) new result p.answers ∙ p.follows.1
-unread (Ok words) old new result bad p = absurd (cc bad)
+unread words old new result bad p =
+    asked_unread run_plan words old.files new.files (λ read reached. AnswersReached (image_of words) old.files reached (outside read old.sink old.bench) new result) bad
+    (λ refusal a. a.saves.0) p
 
 -- where all names may be asked for
 pub may_survey : (words : List (List ℕ)) (files : FilesState) → ((asked : List (List ℕ × ℕ)) → IsTrue (files.permits asked)) →

@@ -10,24 +10,17 @@ use Rattle.host_io.specs.Endings.{status_of_end}
 use Rattle.host_io.specs.Outside.{FilesState}
 use Rattle.host_io.specs.declared.trouble.Trouble.{Trouble}
 use Rattle.host_io.specs.declared.trouble.Trouble.TheVariants.{Write, Memory}
-use Rattle.cli_plans.specs.CommandLine.{RunWords, survey_judged}
-use Rattle.cli_plans.specs.Plans.{Due, Refuse, RunFrom, Make, Plan, survey_plan}
+use Rattle.cli_plans.specs.CommandLine.{survey_judged}
+use Rattle.cli_plans.specs.Plans.{Due, Refuse, RunFrom, Make, Plan, survey_plan, run_plan}
 use Rattle.cli_plans.specs.Reading.{Follows}
-use Rattle.cli_plans.specs.declared.refusal.Refusal.{Refusal}
-use Rattle.cli_plans.proofs.FoundFaults.{run_found_faults}
+use Rattle.cli_plans.proofs.FoundFaults.{run_found_faults, asked_found_faults}
 use Rattle.cli_plans.proofs.PlanLemmas.{HasFault, HasFoundFaults}
-use Rattle.cli_plans.proofs.WordLemmas.{NoReadFault, survey_no_read_fault}
+use Rattle.cli_plans.proofs.WordLemmas.{survey_no_read_fault}
 use Rattle.secvisor_cli.specs.Answers.{Outside, outside}
-use Rattle.secvisor_cli.proofs.TopLemmas.{refused_fault}
+use Rattle.secvisor_cli.proofs.TopLemmas.{refused_fault, wants_no_fault}
 use Rattle.cli_survey.specs.SurveyAnswers.{AnswersReached, PerformsSurvey, SurveysFile, image_of, survey_status}
 
--- the plan says so only where a read found no file
-found_faults : (words : Result RunWords Refusal) → NoReadFault words → HasFoundFaults (survey_plan words)
-unfolding survey_plan
-found_faults (Ok words) never = run_found_faults words
-found_faults (Err refusal) never = never
-
--- ---- nor does a survey
+-- ---- no survey says so
 
 run_no_fault : (v : Verdict) → run_status v ≢ Status.ReadFault
 run_no_fault Running = λ e. cc e
@@ -47,9 +40,7 @@ surveyed_no_fault image files start events old new (Err Memory) s = λ is. cc is
 reached_fault : (plan : Plan) (image : List ℕ) (before : FilesState) (reached : Option Due) (old new : Outside) (read : FilesState) (result : Result Status Trouble) → HasFoundFaults plan →
     Follows plan old.files read reached → AnswersReached image before reached (outside read old.sink old.bench) new result → status_of_end result ≡ Status.ReadFault →
     HasFault plan old.files new.files
-reached_fault plan image before None old new read (Ok answer) never follows a is = absurd (cc a.0)
-reached_fault plan image before None old new read (Err Write) never follows a is = absurd (cc is)
-reached_fault plan image before None old new read (Err Memory) never follows a is = absurd (cc is)
+reached_fault plan image before None old new read result never follows a is = absurd (wants_no_fault result a.0 is)
 reached_fault plan image before (Some (Refuse refusal)) old new read result never follows a is = refused_fault plan refusal old new read result never follows a is
 reached_fault plan image before (Some (RunFrom start events save)) old new read result never follows a is =
     absurd (surveyed_no_fault image before start events (outside read old.sink old.bench) new result a is)
@@ -59,4 +50,4 @@ pub survey_fault : (words : List (List ℕ)) (old new : Outside) (result : Resul
     status_of_end result ≡ Status.ReadFault → HasFault (survey_plan (survey_judged words)) old.files new.files
 survey_fault words old new result p is =
     reached_fault (survey_plan (survey_judged words)) (image_of (survey_judged words)) old.files p.reached old new p.read result
-    (found_faults (survey_judged words) (survey_no_read_fault words)) p.follows p.answers is
+    (asked_found_faults run_plan (survey_judged words) (survey_no_read_fault words) run_found_faults) p.follows p.answers is

@@ -12,9 +12,9 @@ use Rattle.sv_types.specs.declared.policy.Export.{Export}
 use Rattle.sv_types.specs.declared.saved.ModulePlacement.{ModulePlacement}
 use Rattle.sv_types.specs.Policies.{ModuleRule, Rules, field_end}
 use Rattle.sv_types.specs.declared.event.Event.{Event}
-use Rattle.sv_types.specs.declared.event.Event.TheVariants.{Turn, Beat, Key, Tick, Poke}
+use Rattle.sv_types.specs.declared.event.Event.TheVariants.{Turn}
 use Rattle.sv_types.specs.declared.event.Verdict.{Verdict}
-use Rattle.sv_types.specs.declared.event.Verdict.TheVariants.{Running, Shutdown, Stopped}
+use Rattle.sv_types.specs.declared.event.Verdict.TheVariants.{Running}
 use Rattle.spec_reference.specs.Run.{HasEnded, run, step}
 use Rattle.spec_reference.specs.Loads.{is_as_measured, is_good_load, module_bases, module_text}
 use Rattle.spec_reference.specs.Relocations.{field_right, fields_right}
@@ -72,16 +72,12 @@ none_of r h (Some hart) none = ap (λ (x : Option Loading). refusal_of r h hart 
 none_in : (r : State) (e : Event) → r.loading ≡ None → refusal_in r e ≡ []
 unfolding refusal_in
 none_in r (Turn h) none = none_of r h (slice_get r.harts h) none
-none_in r Beat none = refl
-none_in r (Key byte) none = refl
-none_in r (Tick n) none = refl
-none_in r (Poke gpa value) none = refl
+none_in r _ none = refl
 
 none_under : (v : Verdict) (r : State) (e : Event) → r.loading ≡ None → refusals_under v r e ≡ []
 unfolding refusals_under
 none_under Running r e none = none_in r e none
-none_under Shutdown r e none = refl
-none_under (Stopped rule h turn) r e none = refl
+none_under _ r e none = refl
 
 pub none_refused : (r : State) (e : Event) → r.loading ≡ None → refusals r e ≡ []
 none_refused r e none = none_under r.journal.verdict r e none
@@ -90,8 +86,7 @@ none_refused r e none = none_under r.journal.verdict r e none
 ended_under : (v : Verdict) (r : State) (e : Event) → HasEnded v → refusals_under v r e ≡ []
 unfolding refusals_under
 ended_under Running r e ended = absurd ended
-ended_under Shutdown r e ended = refl
-ended_under (Stopped rule h turn) r e ended = refl
+ended_under _ r e ended = refl
 
 pub none_after : (r : State) (left : List Event) → HasEnded r.journal.verdict → IsNoWrite r.journal.verdict → refused r left ≡ []
 none_after r [] ended none = refl

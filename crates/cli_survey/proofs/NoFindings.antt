@@ -7,9 +7,9 @@ use Rattle.std.proofs.lemmas.Bool.Decides.{nat_tests}
 use Rattle.sv_types.specs.Output.{line_end, run_status}
 use Rattle.sv_types.specs.declared.event.Event.{Event}
 use Rattle.sv_types.specs.declared.event.Note.{Note}
-use Rattle.sv_types.specs.declared.event.Rule.TheVariants.{Entry, Write}
+use Rattle.sv_types.specs.declared.event.Rule.TheVariants.{Write}
 use Rattle.sv_types.specs.declared.event.Verdict.{Verdict}
-use Rattle.sv_types.specs.declared.event.Verdict.TheVariants.{Running, Shutdown, Stopped}
+use Rattle.sv_types.specs.declared.event.Verdict.TheVariants.{Stopped}
 use Rattle.sv_types.specs.Kernel.{kernel_segments}
 use Rattle.spec_reference.specs.Report.{output, report}
 use Rattle.spec_reference.specs.Run.{run, step}
@@ -77,10 +77,8 @@ none_passed (p ∷ ps) none =
 
 calm_of : (v : Verdict) → pass_of v ≡ [] → IsNoWrite v
 unfolding pass_of
-calm_of Running none = tt
-calm_of Shutdown none = tt
-calm_of (Stopped (Entry target) h turn) none = tt
 calm_of (Stopped (Write pc gpa) h turn) none = absurd (cc none)
+calm_of _ none = tt
 
 same_run : (r : State) (events : List Event) → passes r events ≡ [] → survey r events ≡ run r events
 same_run r [] none = refl

@@ -12,11 +12,10 @@ use Rattle.cli_plans.specs.declared.command_words.command.DiskKind.{DiskKind}
 use Rattle.spec_reference.specs.Soundness.{IsSound}
 use Rattle.spec_reference.specs.Start.{AreWords, IsStart, boot_start, start as begin}
 use Rattle.spec_reference.specs.States.{State, has_number}
-use Rattle.spec_hardware.specs.Reaches.{IsNew}
 use Rattle.host_io.specs.Outside.{FilesState}
 use Rattle.script.specs.AutoScripts.{events_of_text, first_refused}
-use Rattle.cli_plans.specs.CommandLine.{RunWords, Source, Rounds, Auto, Bursts, Text}
-use Rattle.cli_plans.specs.Plans.{Due, Refuse, RunFrom, Make, Plan, End, Read, Judge, Found, Faulty, Missing, Longer, Held, found_plan}
+use Rattle.cli_plans.specs.CommandLine.{RunWords, Source, Text}
+use Rattle.cli_plans.specs.Plans.{Due, Refuse, RunFrom, Make, Plan, End, Read, Judge, Found, Held, found_plan}
 use Rattle.cli_plans.specs.Plans.{policy_part, part_judged, kernel_part, disk_refusal, disk_part, text_part, script_part, image_measure}
 use Rattle.cli_plans.specs.Plans.{boot_judged, boot_plan, image_plan, max_image_bytes, run_plan}
 use Rattle.cli_plans.specs.Reading.{Follows, FoundAs}
@@ -24,11 +23,12 @@ use Rattle.cli_plans.proofs.PlanLemmas.{follows_keeps}
 use Rattle.cli_plans.specs.declared.file_fault.FileFault.{FileFault}
 use Rattle.cli_plans.specs.declared.file_fault.Part.{Part}
 use Rattle.cli_plans.specs.declared.refusal.Refusal.TheVariants.{Measure, Entry}
-use Rattle.secvisor_cli.specs.Ready.{IsFresh, IsReadyWhere, Passes, Prepares}
-use Rattle.secvisor_cli.specs.declared.ready.PreparedRun.{PreparedRun}
+use Rattle.secvisor_cli.specs.Ready.{Passes, Prepares}
 use Rattle.secvisor_cli.specs.declared.ready.Ready.TheVariants.{Run}
 use Rattle.cli_survey.specs.SurveyAnswers.{BeginsSurvey, StartsFrom}
 use Rattle.cli_survey.specs.declared.ready.ReadySurvey.{ReadySurvey}
+use Rattle.secvisor_cli.proofs.ReadyLemmas.{begins as booted_begins}
+use Rattle.std.specs.Option.{option_copied}
 
 -- ---- whatever is found in files
 
@@ -80,10 +80,8 @@ boot_due DiskKind.Virtio rules file disk events save is accepted = absurd (cc is
 module _ (rules : Rules) (file : List ℕ) where
   found_due : (part : Part) (next : List ℕ → Plan) → ((bytes : List ℕ) → AllDue (IsBootDue rules file) (next bytes)) → (found : Found) → AllDue (IsBootDue rules file) (found_plan part next found)
   unfolding found_plan
-  found_due part next each Faulty = tt
-  found_due part next each Missing = tt
-  found_due part next each Longer = tt
   found_due part next each (Held bytes) = each bytes
+  found_due part next each _ = tt
 
   part_due : {F : Type 0} (file_fault : F → FileFault) (next : Plan) (fault : Option F) → AllDue (IsBootDue rules file) next → AllDue (IsBootDue rules file) (part_judged file_fault next fault)
   part_due file_fault next None all = all
@@ -98,11 +96,9 @@ module _ (rules : Rules) (file : List ℕ) where
   script_due : (harts : ℕ) (source : Source) (next : Schedule → Plan) → ((schedule : Schedule) → AllDue (IsBootDue rules file) (next schedule)) →
       AllDue (IsBootDue rules file) (script_part harts source next)
   unfolding script_part text_part
-  script_due harts Rounds next each = each _
-  script_due harts (Auto number) next each = each _
-  script_due harts (Bursts number) next each = each _
   script_due harts (Text name) next each =
       found_due Part.Script _ (λ bytes. part_due FileFault.ScriptLine (next (Schedule.Listed (events_of_text harts bytes))) (first_refused bytes) (each _))
+  script_due harts _ next each = each _
 
   after_due : (words : RunWords) → words.kind ≡ DiskKind.Block → kernel_refusal file rules.ram_pages ≡ None → AllDue (IsBootDue rules file) (boot_plan words rules file)
   unfolding boot_plan
@@ -162,39 +158,18 @@ is_start image files start file s = inr (inl (record { rules = s.rules; file = f
 
 -- ---- what is ready
 
--- the plan's end, where a machine is ready
-record HasBooted (words : RunWords) (plan : Plan) (old new : FilesState) (booted : PreparedRun) : Type 0 where
-  start : State
-  events : List Event
-  save : Option (List ℕ)
-  follows : Follows plan old new (Some (RunFrom start events save))
-  is_new : IsNew booted.machine start
-  events_are : first_events booted.events booted.script ≡ events
-  fresh : IsFresh booted
-
-booted_where : (words : RunWords) (plan : Plan) (old new : FilesState) (reached : Option Due) (booted : PreparedRun) → Follows plan old new reached → IsReadyWhere reached (Ok (Run booted)) →
-    HasBooted words plan old new booted
-booted_where words plan old new None booted follows it = absurd (cc it)
-booted_where words plan old new (Some (Refuse refusal)) booted follows it = absurd it
-booted_where words plan old new (Some (Make name rules line)) booted follows it = absurd it
-booted_where words plan old new (Some (RunFrom start events save)) booted follows it =
-    record { start = start; events = events; save = save; follows = follows; is_new = it.0; events_are = it.1; fresh = it.3 }
-
 pub begins : (words : RunWords) (rules : Rules) (file : List ℕ) (f0 f1 f2 f3 : FilesState) (ready : ReadySurvey) → words.kind ≡ DiskKind.Block → Passes (policy_part words.policy) rules f0 f1 →
     FoundAs f1 f2 words.image max_image_bytes (Held file) → Prepares (kernel_part rules file (boot_plan words rules file)) f2 f3 (Ok (Run ready.booted)) → ready.kernel.bytes.items ≡ file →
     BeginsSurvey words f0 f3 ready
 unfolding run_plan image_plan found_plan
 begins words rules file f0 f1 f2 f3 ready is pass found p items =
-    let b : HasBooted words (kernel_part rules file (boot_plan words rules file)) f2 f3 ready.booted =
-    booted_where words (kernel_part rules file (boot_plan words rules file)) f2 f3 p.reached ready.booted p.follows p.ready in
-    let due : Due = RunFrom b.start b.events b.save in
+    let b = booted_begins (kernel_part rules file (boot_plan words rules file)) f2 f3 ready.booted p in
+    let due : Due = RunFrom b.start (first_events ready.booted.events ready.booted.script) (option_copied ready.booted.save) in
     let boot : IsBoot rules file b.start = due_at_end (IsBootDue rules file) (kernel_part rules file (boot_plan words rules file)) f2 f3 due (kernel_due rules file words is) b.follows in
     record {
       start = b.start;
-      save = b.save;
-      follows =
-          subst (λ (es : List Event). Follows (run_plan words) f0 f3 (Some (RunFrom b.start es b.save))) (sym b.events_are)
-          (pass.follows (image_plan words) f3 (Some due) (inr (Held file, f2, found, b.follows)));
+      save = option_copied ready.booted.save;
+      follows = pass.follows (image_plan words) f3 (Some due) (inr (Held file, f2, found, b.follows));
       is_new = b.is_new;
       fresh = b.fresh;
       starts =

@@ -4,9 +4,9 @@ use Rattle.std.proofs.Common.{append_assoc, append-nil, arith, slice_get, Some, 
 use Rattle.sv_types.specs.Limits.{max_printed}
 use Rattle.sv_types.specs.declared.event.Counts.{Counts}
 use Rattle.sv_types.specs.declared.event.Event.{Event}
-use Rattle.sv_types.specs.declared.event.Rule.TheVariants.{Entry, Write}
+use Rattle.sv_types.specs.declared.event.Rule.TheVariants.{Write}
 use Rattle.sv_types.specs.declared.event.Verdict.{Verdict}
-use Rattle.sv_types.specs.declared.event.Verdict.TheVariants.{Running, Shutdown, Stopped}
+use Rattle.sv_types.specs.declared.event.Verdict.TheVariants.{Running, Stopped}
 use Rattle.std.specs.Prelude.{Option, None}
 use Rattle.spec_reference.specs.Counting.{CountsAtMost}
 use Rattle.spec_reference.specs.Run.{HasEnded, run, step}
@@ -97,10 +97,8 @@ moved_counts m h (Some hw) = refl
 
 under_counts : (v : Verdict) (m : Machine) → (hw_passed_under v m).journal.counts ≡ m.journal.counts
 unfolding hw_passed_under
-under_counts Running m = refl
-under_counts Shutdown m = refl
-under_counts (Stopped (Entry target) h turn) m = refl
 under_counts (Stopped (Write pc gpa) h turn) m = moved_counts m h (slice_get m.harts h)
+under_counts _ m = refl
 
 pass_counts : (m : Machine) → (hw_passed_over m).journal.counts ≡ m.journal.counts
 unfolding hw_passed_over
@@ -118,13 +116,11 @@ keeps_writes w v is = sym (ap (λ (x : Verdict). with_passes w (pass_of x)) is)
 
 pub running_is : (v : Verdict) → is_running v ≡ true → v ≡ Running
 running_is Running is = refl
-running_is Shutdown is = absurd (cc is)
-running_is (Stopped rule h turn) is = absurd (cc is)
+running_is _ is = absurd (cc is)
 
 pub not_running : (v : Verdict) → is_running v ≡ false → v ≢ Running
 not_running Running is = λ at. cc is
-not_running Shutdown is = λ at. cc at
-not_running (Stopped rule h turn) is = λ at. cc at
+not_running _ is = λ at. cc at
 
 -- ---- after a pass no write stops the machine, since the hart that wrote is there
 
@@ -137,12 +133,10 @@ same_calm : (r : State) → IsNoWrite r.journal.verdict → IsNoWrite (passed_ov
 same_calm r none = subst (λ (x : State). IsNoWrite x.journal.verdict) (sym (unpassed r none)) none
 
 calm_under : (v : Verdict) (r : State) → r.journal.verdict ≡ v → IsKeepableVerdict r.rules.harts v → length r.harts ≡ r.rules.harts → IsNoWrite (passed_over r).journal.verdict
-calm_under Running r is k number = same_calm r (subst IsNoWrite (sym is) tt)
-calm_under Shutdown r is k number = same_calm r (subst IsNoWrite (sym is) tt)
-calm_under (Stopped (Entry target) h turn) r is k number = same_calm r (subst IsNoWrite (sym is) tt)
 calm_under (Stopped (Write pc gpa) h turn) r is k number =
     let there = at_place r.harts h (subst (λ (n : ℕ). h < n) (sym number) k.0) in
     none_running (passed_over r).journal.verdict (moves_on_law r pc gpa h turn there.0 is there.1).running
+calm_under _ r is k number = same_calm r (subst IsNoWrite (sym is) tt)
 
 calm_after : (r : State) → IsKeepable r → IsSound r → IsNoWrite (passed_over r).journal.verdict
 calm_after r k s = calm_under r.journal.verdict r refl k.journal.last s.number
@@ -287,15 +281,12 @@ surveys_flush start all left m flushed w old now new on f =
 
 has_ended : (v : Verdict) → v ≢ Running → HasEnded v
 has_ended Running ended = absurd (ended refl)
-has_ended Shutdown ended = tt
-has_ended (Stopped rule hart at) ended = tt
+has_ended _ ended = tt
 
 none_of : (v : Verdict) → IsNoWrite v → pass_of v ≡ []
 unfolding pass_of
-none_of Running none = refl
-none_of Shutdown none = refl
-none_of (Stopped (Entry target) h turn) none = refl
 none_of (Stopped (Write pc gpa) h turn) none = absurd none
+none_of _ none = refl
 
 nothing_after : (r : State) (left : List Event) → HasEnded r.journal.verdict → IsNoWrite r.journal.verdict → passes r left ≡ []
 nothing_after r [] ended none = refl

@@ -26,7 +26,7 @@ use Rattle.host_io.specs.declared.trouble.Trouble.{Trouble}
 use Rattle.host_io.specs.declared.trouble.Trouble.TheVariants.{Memory}
 use Rattle.cli_plans.specs.CommandLine.{RunWords}
 use Rattle.cli_plans.specs.Plans.{Due, Refuse, RunFrom, Make, run_plan, survey_plan}
-use Rattle.cli_plans.specs.Reading.{Follows}
+use Rattle.cli_plans.specs.Reading.{CarriesOut, Follows}
 use Rattle.cli_plans.specs.declared.refusal.Refusal.{Refusal}
 use Rattle.secvisor_cli.specs.Answers.{Outside, outside, Writes, WritesAndSaves}
 use Rattle.secvisor_cli.specs.Ready.{IsFresh, Prepares}
@@ -119,19 +119,14 @@ image_of (Ok words) = words.image
 image_of (Err refusal) = []
 
 -- the files were asked as `run` asks, and what is due was answered
-pub record PerformsSurvey (words : Result RunWords Refusal) (old new : Outside) (result : Result Status Trouble) : Type 0 where
-  pub reached : Option Due
-  -- the files once they were read
-  pub read : FilesState
-  pub follows : Follows (survey_plan words) old.files read reached
-  pub answers : AnswersReached (image_of words) old.files reached (outside read old.sink old.bench) new result
+abbrev pub PerformsSurvey : Result RunWords Refusal → Outside → Outside → Result Status Trouble → Type 0
+PerformsSurvey words old new result =
+    CarriesOut (survey_plan words) old.files (λ read reached. AnswersReached (image_of words) old.files reached (outside read old.sink old.bench) new result)
 
 -- the same from the words on that aren't refused
-pub record PerformsRun (words : RunWords) (old new : Outside) (result : Result Status Trouble) : Type 0 where
-  pub reached : Option Due
-  pub read : FilesState
-  pub follows : Follows (run_plan words) old.files read reached
-  pub answers : AnswersReached words.image old.files reached (outside read old.sink old.bench) new result
+abbrev pub PerformsRun : RunWords → Outside → Outside → Result Status Trouble → Type 0
+PerformsRun words old new result =
+    CarriesOut (run_plan words) old.files (λ read reached. AnswersReached words.image old.files reached (outside read old.sink old.bench) new result)
 
 -- the same by its status
 pub record SurveyHeadline (words : Result RunWords Refusal) (old new : Outside) (answer : Status) : Type 0 where

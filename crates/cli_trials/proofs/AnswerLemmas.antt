@@ -1,6 +1,6 @@
 -- What follows of an answer of `sweep`.
 use Rattle.std.proofs.Common.{◌≡◌, ◌≢◌, ◌≤◌, ◌==◌, ℕ, List, [], ◌∷◌, length, map, Bool, IsTrue, true, false, refl, sym, ◌∙◌, ap, ap₂, subst}
-use Rattle.std.proofs.Common.{arith, inl, inr, Option, Some, None, Result, Ok, Err, IsErrOf, if◌then◌else◌}
+use Rattle.std.proofs.Common.{inl, inr, Option, Some, None, Result, Ok, Err, if◌then◌else◌}
 use Rattle.std.specs.Result.{is_ok}
 use Rattle.std.proofs.lemmas.Option.{same_Some}
 use Rattle.sv_types.specs.ApprovedPages.{numbers_from}
@@ -12,7 +12,7 @@ use Rattle.policy.specs.Text.{rules_of_text}
 use Rattle.host_io.specs.Endings.{status_of_end}
 use Rattle.host_io.specs.Outside.{FilesState, SinkState}
 use Rattle.host_io.specs.declared.trouble.Trouble.{Trouble}
-use Rattle.host_io.specs.declared.trouble.Trouble.TheVariants.{Write, Memory}
+use Rattle.host_io.specs.declared.trouble.Trouble.TheVariants.{Memory}
 use Rattle.cli_plans.specs.declared.refusal.Refusal.{Refusal}
 use Rattle.cli_plans.specs.declared.words.DrawnOrder.{DrawnOrder}
 use Rattle.cli_plans.specs.CommandLine.{SweepWords, first_run, sweep_judged}
@@ -20,9 +20,9 @@ use Rattle.cli_plans.specs.Plans.{Due, Refuse, RunFrom, Make, run_plan}
 use Rattle.cli_plans.specs.Reading.{Follows, MayFollow}
 use Rattle.cli_plans.specs.Refusals.{refusal_line, refusal_status}
 use Rattle.cli_plans.proofs.FoundFaults.{run_found_faults}
-use Rattle.cli_plans.proofs.PlanLemmas.{HasFault, Keeps, follows_keeps, may_follow}
+use Rattle.cli_plans.proofs.PlanLemmas.{HasFault, Keeps, follows_keeps, may_follow, keeps_same}
 use Rattle.cli_plans.proofs.WordLemmas.{NoReadFault, sweep_no_read_fault}
-use Rattle.secvisor_cli.specs.Ready.{IsReadyWhere, Prepares}
+use Rattle.secvisor_cli.specs.Ready.{Prepares}
 use Rattle.secvisor_cli.specs.declared.ready.Stop.TheVariants.{Refused}
 use Rattle.secvisor_cli.specs.declared.ready.Stop.TheVariants as stop
 use Rattle.script_lines.specs.declared.tally.outcome.Outcome.{Outcome}
@@ -38,6 +38,8 @@ use Rattle.cli_trials.specs.Writing.{Refuses}
 use Rattle.cli_trials.proofs.WritingLemmas.{refused_fault, same_rises, written_no_fault, written_rises}
 use Rattle.cli_trials.specs.Sweeps.{IsSwept, end_at, outcome_at, outcome_under}
 use Rattle.cli_trials.specs.SweepAnswers.{AnswersDue, AnswersReached, MayAsk, Sweeps, SweepsFiles, entries_due, sweep_plan}
+use Rattle.secvisor_cli.proofs.TopLemmas.{wants_no_fault}
+use Rattle.secvisor_cli.proofs.ReadyLemmas.{refused_follows, wanting_follows}
 
 -- ---- the runs
 
@@ -60,13 +62,12 @@ pub record Borrows (sweep : Sweep) (text file disk : List ℕ) : Type 0 where
 outcomes_same : (found : ℕ → Option Outcome) (given : ℕ → Outcome) (numbers : List ℕ) (outcomes : List Outcome) → ((number : ℕ) → found number ≡ Some (given number)) →
     map found numbers ≡ map Some outcomes → outcomes ≡ map given numbers
 outcomes_same found given [] [] each is = refl
-outcomes_same found given [] (outcome ∷ outcomes) each is = cc is
-outcomes_same found given (number ∷ numbers) [] each is = cc is
 outcomes_same found given (number ∷ numbers) (outcome ∷ outcomes) each is =
     let head : found number ≡ Some outcome = cc is in
     let tail : map found numbers ≡ map Some outcomes = cc is in
     let first : outcome ≡ given number = same_Some outcome (given number) (sym head ∙ each number) in
     ap₂ (λ (o : Outcome) (os : List Outcome). o ∷ os) first (outcomes_same found given numbers outcomes each tail)
+outcomes_same found given _ _ each is = cc is
 
 pub entries_same : (sweep : Sweep) (words : SweepWords) (rules : Rules) (text file disk : List ℕ) (entries : List (Outcome × Tally)) → words.order ≡ sweep.order → words.events ≡ sweep.events →
     Borrows sweep text file disk → rules_of_text text ≡ Ok rules → IsSwept sweep words.first words.count entries → entries ≡ entries_due words (boot_start rules file disk)
@@ -89,28 +90,15 @@ pub swept_files : (words : SweepWords) (parts : Parts) (files read : FilesState)
     AnswersDue words (due_of words begins.rules parts) old new result → SweepsFiles words files read old new result
 swept_files words parts files read old new result begins ends = record { reached = Some (due_of words begins.rules parts); follows = begins.follows; answers = ends }
 
-refused_where : (words : SweepWords) (reached : Option Due) (given : Refusal) (old new : SinkState) (result : Result Status Trouble) → IsReadyWhere reached (Err (Refused given)) →
-    Refuses given old new result → AnswersReached words reached old new result
-refused_where words None given old new result it refuses = absurd (cc it)
-refused_where words (Some (Refuse refusal)) given old new result it refuses = subst (λ (r : Refusal). Refuses r old new result) it refuses
-refused_where words (Some (RunFrom start events save)) given old new result it refuses = absurd it
-refused_where words (Some (Make name rules line)) given old new result it refuses = absurd it
-
 pub refused_files : (words : SweepWords) (files read : FilesState) (given : Refusal) (old new : SinkState) (result : Result Status Trouble) →
     Prepares (run_plan (first_run words)) files read (Err (Refused given)) →
     Refuses given old new result → SweepsFiles words files read old new result
 refused_files words files read given old new result p refuses =
-    record { reached = p.reached; follows = p.follows; answers = refused_where words p.reached given old new result p.ready refuses }
-
-wants_where : (words : SweepWords) (reached : Option Due) (old : SinkState) → IsReadyWhere reached (Err stop.Memory) → AnswersReached words reached old old (Err Memory)
-wants_where words None old it = (refl, refl)
-wants_where words (Some (Refuse refusal)) old it = absurd it
-wants_where words (Some (RunFrom start events save)) old it = absurd it
-wants_where words (Some (Make name rules line)) old it = absurd it
+    record { reached = Some (Refuse given); follows = refused_follows (run_plan (first_run words)) files read given p; answers = refuses }
 
 pub wants_files : (words : SweepWords) (files read : FilesState) (old : SinkState) → Prepares (run_plan (first_run words)) files read (Err stop.Memory) →
     SweepsFiles words files read old old (Err Memory)
-wants_files words files read old p = record { reached = p.reached; follows = p.follows; answers = wants_where words p.reached old p.ready }
+wants_files words files read old p = record { reached = None; follows = wanting_follows (run_plan (first_run words)) files read p; answers = (refl, refl) }
 
 -- ---- the words
 
@@ -130,16 +118,6 @@ sweeps_want (Ok words) files old good = inl (refl, refl, refl)
 sweeps_want (Err why) files old good = absurd (cc good)
 
 -- ---- what becomes of the files and the sink
-
-keeps_same : (files read : FilesState) → read ≡ files → Keeps files read
-keeps_same files read is =
-    let same : read.read_faults ≡ files.read_faults = ap (λ (f : FilesState). f.read_faults) is in
-    record {
-      tells = ap (λ (f : FilesState). f.tells) is;
-      held = ap (λ (f : FilesState). f.held) is;
-      reads = omega arith;
-      saves = ap (λ (f : FilesState). f.save_faults) is;
-    }
 
 pub keeps_files : (judged : Result SweepWords Refusal) (files read : FilesState) (old new : SinkState) (result : Result Status Trouble) → Sweeps judged files read old new result → Keeps files read
 keeps_files (Err why) files read old new result it = keeps_same files read it.0
@@ -163,11 +141,6 @@ writes (Ok words) files read old new result (inl wants) = same_rises old new wan
 writes (Ok words) files read old new result (inr it) = reached_writes words it.reached old new result it.answers
 
 -- ---- a read fault
-
-wants_no_fault : (result : Result Status Trouble) → IsErrOf result Memory → status_of_end result ≢ Status.ReadFault
-wants_no_fault (Ok status) it = absurd (cc it)
-wants_no_fault (Err Write) it = λ is. cc is
-wants_no_fault (Err Memory) it = λ is. cc is
 
 no_fault_by : (none_stopped none_ended : Bool) → (if none_stopped then (if none_ended then Status.Done else Status.Ended) else Status.Stopped) ≢ Status.ReadFault
 no_fault_by true true = λ is. cc is

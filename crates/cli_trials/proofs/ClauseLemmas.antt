@@ -12,16 +12,16 @@ use Rattle.cli_plans.specs.Plans.{Due, Refuse, RunFrom, Make, Saving, run_plan, 
 use Rattle.cli_plans.specs.Reading.{Follows}
 use Rattle.cli_plans.specs.Refusals.{refusal_line, refusal_status}
 use Rattle.cli_plans.proofs.FoundFaults.{run_found_faults}
-use Rattle.cli_plans.proofs.PlanLemmas.{HasFault, Keeps, follows_keeps}
+use Rattle.cli_plans.proofs.PlanLemmas.{HasFault, follows_keeps, keeps_same}
 use Rattle.cli_plans.proofs.WordLemmas.{NoReadFault, shrink_no_read_fault}
 use Rattle.secvisor_cli.specs.Answers.{SavesAndWrites}
 use Rattle.secvisor_cli.proofs.SaveLemmas.{ChangesOut, changes_none}
-use Rattle.secvisor_cli.proofs.TopLemmas.{EffectOut, effect_out, fault_at, made_changes}
+use Rattle.secvisor_cli.proofs.TopLemmas.{EffectOut, effect_out, fault_at, made_changes, wants_no_fault}
 use Rattle.cli_trials.proofs.WritingLemmas.{same_rises, written_rises, written_no_fault, refused_fault}
 use Rattle.cli_trials.specs.declared.shrink.shrinking.Shrunk.{Shrunk}
 use Rattle.cli_trials.specs.declared.shrink.shrinking.Shrunk.TheVariants.{NothingStopped, Made}
 use Rattle.cli_trials.specs.Lines.{shrunk_line}
-use Rattle.cli_trials.specs.ShrinkAnswers.{AnswersReached, AnswersShrunk, Shrinks, Wants, out_of, script_saving}
+use Rattle.cli_trials.specs.ShrinkAnswers.{AnswersReached, AnswersShrunk, Shrinks, out_of, script_saving}
 
 -- ---- the sink
 
@@ -70,11 +70,8 @@ reached_changes words (Some (RunFrom start events save)) files saved old new res
 reached_changes words (Some (RunFrom start events save)) files saved old new result (inr it) = shrunk_changes words.out it.shrunk files saved old new result it.answers
 reached_changes words (Some (Make name rules line)) files saved old new result it = absurd it
 
-keeps_all : (files : FilesState) → Keeps files files
-keeps_all files = record { tells = refl; held = refl; reads = omega arith; saves = refl }
-
 same_effect : (name : List ℕ) (files saved : FilesState) → saved ≡ files → EffectOut name files saved
-same_effect name files saved is = effect_out name files files saved (keeps_all files) (changes_none name files saved is)
+same_effect name files saved is = effect_out name files files saved (keeps_same files files refl) (changes_none name files saved is)
 
 pub shrink_effect : (judged : Result SnapWords Refusal) (files saved : FilesState) (old new : SinkState) (result : Result Status Trouble) → Shrinks judged files saved old new result →
     EffectOut (out_of judged) files saved
@@ -90,11 +87,6 @@ shrink_unread (Ok words) files saved old new result bad it = cc bad
 
 -- ---- a read fault
 
-wants_no_fault : (files saved : FilesState) (old new : SinkState) (result : Result Status Trouble) → Wants files saved old new result → status_of_end result ≢ Status.ReadFault
-wants_no_fault files saved old new (Ok status) it = absurd (cc it.0)
-wants_no_fault files saved old new (Err Write) it = λ is. cc is
-wants_no_fault files saved old new (Err Memory) it = λ is. cc is
-
 saved_no_fault : (saving : Saving) (line : List ℕ) (files saved : FilesState) (old new : SinkState) (result : Result Status Trouble) → SavesAndWrites saving line files saved old new result →
     status_of_end result ≢ Status.ReadFault
 saved_no_fault saving line files saved old new (Ok status) it = λ is. cc (it.0, is)
@@ -108,20 +100,19 @@ shrunk_no_fault name (Made script) files saved old new result it = saved_no_faul
 
 reached_fault : (words : SnapWords) (reached : Option Due) (files read saved : FilesState) (old new : SinkState) (result : Result Status Trouble) → Follows (run_plan words.run) files read reached →
     AnswersReached words reached read saved old new result → status_of_end result ≡ Status.ReadFault → HasFault (run_plan words.run) files saved
-reached_fault words None files read saved old new result follows it is = absurd (wants_no_fault read saved old new result it is)
+reached_fault words None files read saved old new result follows it is = absurd (wants_no_fault result it.0 is)
 reached_fault words (Some (Refuse refusal)) files read saved old new result follows it is =
     fault_at (run_plan words.run) files read saved (ap (λ (f : FilesState). f.read_faults) it.0)
     (refused_fault (run_plan words.run) refusal files read old new result (run_found_faults words.run) follows it.1.writes is)
-reached_fault words (Some (RunFrom start events save)) files read saved old new result follows (inl it) is = absurd (wants_no_fault read saved old new result it is)
+reached_fault words (Some (RunFrom start events save)) files read saved old new result follows (inl it) is = absurd (wants_no_fault result it.0 is)
 reached_fault words (Some (RunFrom start events save)) files read saved old new result follows (inr it) is =
     absurd (shrunk_no_fault words.out it.shrunk read saved old new result it.answers is)
 reached_fault words (Some (Make name rules line)) files read saved old new result follows it is = absurd it
 
 judged_fault : (judged : Result SnapWords Refusal) (files saved : FilesState) (old new : SinkState) (result : Result Status Trouble) → NoReadFault judged → Shrinks judged files saved old new result →
     status_of_end result ≡ Status.ReadFault → HasFault (snap_plan judged) files saved
-unfolding snap_plan
 judged_fault (Err why) files saved old new result never it is = absurd (written_no_fault (refusal_status why) (refusal_line why) old new result never it.1.writes is)
-judged_fault (Ok words) files saved old new result never (inl it) is = absurd (wants_no_fault files saved old new result it is)
+judged_fault (Ok words) files saved old new result never (inl it) is = absurd (wants_no_fault result it.0 is)
 judged_fault (Ok words) files saved old new result never (inr it) is = reached_fault words it.reached files it.read saved old new result it.follows it.answers is
 
 pub shrink_fault : (words : List (List ℕ)) (files saved : FilesState) (old new : SinkState) (result : Result Status Trouble) → Shrinks (shrink_judged words) files saved old new result →

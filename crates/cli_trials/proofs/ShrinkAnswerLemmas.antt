@@ -15,10 +15,10 @@ use Rattle.host_io.specs.declared.trouble.Trouble.TheVariants.{Memory}
 use Rattle.cli_plans.specs.declared.command_words.command.DiskKind.{DiskKind}
 use Rattle.cli_plans.specs.declared.refusal.Refusal.{Refusal}
 use Rattle.cli_plans.specs.CommandLine.{SnapWords}
-use Rattle.cli_plans.specs.Plans.{Due, Refuse, RunFrom, Make, run_plan, start_with}
+use Rattle.cli_plans.specs.Plans.{Due, Refuse, run_plan, start_with}
 use Rattle.cli_plans.specs.Reading.{MayFollow, Follows}
 use Rattle.cli_plans.proofs.PlanLemmas.{follows_keeps, follows_permits, may_follow}
-use Rattle.secvisor_cli.specs.Ready.{IsReadyWhere, Prepares}
+use Rattle.secvisor_cli.specs.Ready.{Prepares}
 use Rattle.secvisor_cli.specs.declared.ready.Stop.TheVariants.{Refused}
 use Rattle.secvisor_cli.specs.declared.ready.Stop.TheVariants as stop
 use Rattle.script_lines.specs.Tallies.{outcome_of}
@@ -31,7 +31,8 @@ use Rattle.cli_trials.specs.Reading.{BeginsFrom, run_due}
 use Rattle.cli_trials.specs.Writing.{Refuses}
 use Rattle.cli_trials.specs.declared.shrink.shrinking.Shrunk.{Shrunk}
 use Rattle.cli_trials.specs.Shrinking.{IsShrunk, IsShrunkAs, IsShrunkFrom}
-use Rattle.cli_trials.specs.ShrinkAnswers.{AnswersReached, AnswersRun, AnswersShrunk, MayAsk, Shrinks, ShrinksFiles, Wants, end_of_text}
+use Rattle.cli_trials.specs.ShrinkAnswers.{AnswersRun, AnswersShrunk, MayAsk, Shrinks, ShrinksFiles, Wants, end_of_text}
+use Rattle.secvisor_cli.proofs.ReadyLemmas.{refused_follows, wanting_follows}
 
 -- ---- the run
 
@@ -94,26 +95,13 @@ shrunk_files words parts files read saved old new result block begins it =
           (first_events words.run.events schedule) words.run.events words.out read saved old new result) (sym block) it;
     }
 
-refused_where : (words : SnapWords) (reached : Option Due) (given : Refusal) (files : FilesState) (old new : SinkState) (result : Result Status Trouble) →
-    IsReadyWhere reached (Err (Refused given)) → Refuses given old new result → AnswersReached words reached files files old new result
-refused_where words None given files old new result it refuses = absurd (cc it)
-refused_where words (Some (Refuse refusal)) given files old new result it refuses = (refl, subst (λ (r : Refusal). Refuses r old new result) it refuses)
-refused_where words (Some (RunFrom start events save)) given files old new result it refuses = absurd it
-refused_where words (Some (Make name rules line)) given files old new result it refuses = absurd it
-
 pub refused_files : (words : SnapWords) (files read : FilesState) (given : Refusal) (old new : SinkState) (result : Result Status Trouble) →
     Prepares (run_plan words.run) files read (Err (Refused given)) → Refuses given old new result → ShrinksFiles words files read old new result
 refused_files words files read given old new result p refuses =
-    record { reached = p.reached; read = read; follows = p.follows; answers = refused_where words p.reached given read old new result p.ready refuses }
-
-wants_where : (words : SnapWords) (reached : Option Due) (files : FilesState) (old : SinkState) → IsReadyWhere reached (Err stop.Memory) → AnswersReached words reached files files old old (Err Memory)
-wants_where words None files old it = (refl, refl, refl)
-wants_where words (Some (Refuse refusal)) files old it = absurd it
-wants_where words (Some (RunFrom start events save)) files old it = absurd it
-wants_where words (Some (Make name rules line)) files old it = absurd it
+    record { reached = Some (Refuse given); read = read; follows = refused_follows (run_plan words.run) files read given p; answers = (refl, refuses) }
 
 pub wants_files : (words : SnapWords) (files read : FilesState) (old : SinkState) → Prepares (run_plan words.run) files read (Err stop.Memory) → ShrinksFiles words files read old old (Err Memory)
-wants_files words files read old p = record { reached = p.reached; read = read; follows = p.follows; answers = wants_where words p.reached read old p.ready }
+wants_files words files read old p = record { reached = None; read = read; follows = wanting_follows (run_plan words.run) files read p; answers = (refl, refl, refl) }
 
 -- what may be saved is the same once they were read
 pub may_under : (words : SnapWords) (name : List ℕ) (files read : FilesState) (reached : Option Due) → Follows (run_plan words.run) files read reached → MaySaveUnder name files →

@@ -11,7 +11,7 @@ use Rattle.host_io.specs.declared.trouble.Trouble.TheVariants.{Memory}
 use Rattle.cli_plans.specs.declared.refusal.Refusal.{Refusal}
 use Rattle.cli_plans.specs.CommandLine.{SnapWords}
 use Rattle.cli_plans.specs.Plans.{Due, Refuse, RunFrom, Make, Exactly, Saving, run_plan}
-use Rattle.cli_plans.specs.Reading.{Follows, MayFollow}
+use Rattle.cli_plans.specs.Reading.{CarriesOut, MayFollow}
 use Rattle.secvisor_cli.specs.Answers.{SavesAndWrites}
 use Rattle.script_lines.specs.declared.tally.outcome.Outcome.{Outcome}
 use Rattle.script_lines.specs.Tallies.{outcome_of}
@@ -65,12 +65,8 @@ AnswersReached words (Some due) files saved old new result = AnswersDue words du
 -- ---- the answer
 
 -- the files were asked as `run` asks, and what is due was answered
-pub record ShrinksFiles (words : SnapWords) (files saved : FilesState) (old new : SinkState) (result : Result Status Trouble) : Type 0 where
-  pub reached : Option Due
-  -- the files once they were read
-  pub read : FilesState
-  pub follows : Follows (run_plan words.run) files read reached
-  pub answers : AnswersReached words reached read saved old new result
+abbrev pub ShrinksFiles : SnapWords → FilesState → FilesState → SinkState → SinkState → Result Status Trouble → Type 0
+ShrinksFiles words files saved old new result = CarriesOut (run_plan words.run) files (λ read reached. AnswersReached words reached read saved old new result)
 
 -- words that are refused read no file
 abbrev pub Shrinks : Result SnapWords Refusal → FilesState → FilesState → SinkState → SinkState → Result Status Trouble → Type 0

@@ -9,7 +9,7 @@ use Rattle.host_io.specs.declared.trouble.Trouble.{Trouble}
 use Rattle.host_io.specs.declared.trouble.Trouble.TheVariants.{Memory}
 use Rattle.cli_plans.specs.declared.refusal.Refusal.{Refusal}
 use Rattle.cli_plans.specs.CommandLine.{SweepWords, first_run}
-use Rattle.cli_plans.specs.Plans.{Plan, Due, Refuse, RunFrom, Make, End, Judge, run_plan}
+use Rattle.cli_plans.specs.Plans.{Plan, Due, Refuse, RunFrom, Make, run_plan, asked_plan}
 use Rattle.cli_plans.specs.Reading.{Follows, MayFollow}
 use Rattle.script_lines.specs.declared.tally.outcome.Outcome.{Outcome}
 use Rattle.script_lines.specs.declared.tally.tally.Tally.{Tally}
@@ -67,5 +67,4 @@ MayAsk (Ok words) files = MayFollow (run_plan (first_run words)) files
 
 -- the first number's run, or a refusal
 abbrev pub sweep_plan : Result SweepWords Refusal → Plan
-sweep_plan (Err refusal) = End (Refuse refusal)
-sweep_plan (Ok words) = Judge (run_plan (first_run words))
+sweep_plan words = asked_plan (λ w. run_plan (first_run w)) words

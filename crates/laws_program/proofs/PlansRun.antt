@@ -147,7 +147,7 @@ measured_plan : (makes : Type 0) (plan : Plan) (old read : FilesState) (start : 
 measured_plan makes plan old read start events save runs f = followed makes IsMeasuredStart plan old read (RunFrom start events save) runs f
 
 pub starts_law : StartsLaw
-unfolding plan_of command_plan
+unfolding command_plan
 starts_law (Err refusal) old read start events save f = measured_plan ⊥ (End (Refuse refusal)) old read start events save tt f
 starts_law (Ok (Flat file wanted n)) old read start events save f = measured_plan ⊥ (Judge (flat_plan file wanted n)) old read start events save (flat_runs file wanted n) f
 starts_law (Ok (Generated calls)) old read start events save f = measured_plan ⊥ (Judge (gen_plan calls)) old read start events save (gen_runs calls) f
@@ -157,7 +157,7 @@ starts_law (Ok (Convert words)) old read start events save f = measured_plan (Un
 
 -- where a run is asked for, no policy is made
 pub asked_runs : (asked : Result Command Refusal) → AsksRun asked → Runs ⊥ IsMeasuredStart (plan_of asked)
-unfolding plan_of command_plan
+unfolding command_plan
 asked_runs (Ok (Flat file wanted events)) asks = flat_runs file wanted events
 asked_runs (Ok (Generated calls)) asks = gen_runs calls
 asked_runs (Ok (Run words)) asks = run_runs words

@@ -68,12 +68,10 @@ resumed_guarded : (start : State) → IsResumedStart start → (done : List Even
 resumed_guarded start k done = guarded_law start (run start done) (resume_law.reached start done k)
 
 live_runs : (words : Result LiveWords Refusal) → Runs ⊥ IsMeasuredStart (live_plan words)
-unfolding live_plan
 live_runs (Err refusal) = tt
 live_runs (Ok words) = run_runs words.run
 
 snap_runs : (words : Result SnapWords Refusal) → Runs ⊥ IsMeasuredStart (snap_plan words)
-unfolding snap_plan
 snap_runs (Err refusal) = tt
 snap_runs (Ok words) = run_runs words.run
 

@@ -69,7 +69,7 @@ read_runs name limit next old read due holds k (inr f) =
 -- whatever is due, a policy is never made
 pub resume_due : (asked : Result ResumeWords Refusal) (old read : FilesState) (due : Due) → HoldBytes old → Follows (resume_plan asked) old read (Some due)
     → DueRuns ⊥ IsResumedStart due
-unfolding resume_plan words_plan snapshot_part
+unfolding words_plan snapshot_part
 resume_due (Err refusal) old read due holds f = followed ⊥ IsResumedStart (End (Refuse refusal)) old read due tt f
 resume_due (Ok words) old read due holds (inl none) = absurd (cc none.0)
 resume_due (Ok words) old read due holds (inr f) =

@@ -20,7 +20,7 @@ use Rattle.cli_plans.specs.declared.file_fault.FileFault.{FileFault}
 use Rattle.secvisor_cli.specs.Answers.{Headline, Meets, MeetsReached, Outside, outside}
 use Rattle.cli_plans.specs.CommandLine.{Convert}
 use Rattle.secvisor_cli.specs.Converted.{Holds, IsBoundOf, IsConverted}
-use Rattle.cli_plans.specs.Plans.{Due, Refuse, Plan, End, Read, Judge, Found, Faulty, Missing, Longer, Held, binding_plan, binding_refusal}
+use Rattle.cli_plans.specs.Plans.{Due, Refuse, Plan, End, Read, Judge, Found, Held, binding_plan, binding_refusal}
 use Rattle.cli_plans.specs.Plans.{bound_plan, command_plan, convert_plan, due_of_convert, converted_judged, found_plan, kernel_part}
 use Rattle.cli_plans.specs.Plans.{part_judged, plan_of, policy_judged, policy_part, status_due}
 use Rattle.cli_plans.specs.Reading.{Follows, FoundAs}
@@ -103,11 +103,9 @@ module _ (words : ConvertSplit) (files : FilesState) where
   kernel_done : (before : FilesState) (asked : List ℕ) (limit : ℕ) → before ≡ after_asking asked limit files → (text : List ℕ) (given : Rules)
       → HasPolicy text given → DoneAs (IsBoundDue words files) before (binding_plan words given)
   unfolding binding_plan kernel_part found_plan
-  kernel_done before asked limit was text given has Faulty now found = λ e. absurd (cc e)
-  kernel_done before asked limit was text given has Missing now found = λ e. absurd (cc e)
-  kernel_done before asked limit was text given has Longer now found = λ e. absurd (cc e)
   kernel_done before asked limit was text given has (Held file) now found =
       kernel_by now text given file (kernel_refusal file given.ram_pages) has (still_holds files before asked limit words.kernel file was found.1) refl
+  kernel_done before asked limit was text given has _ now found = λ e. absurd (cc e)
 
   policy_by : (before : FilesState) (asked : List ℕ) (limit : ℕ) → before ≡ after_asking asked limit files → (text : List ℕ) (judged : Judged Rules)
       → Holds files words.given text → rules_of_text text ≡ judged → DoneAs (IsBoundDue words files) before (policy_judged (binding_plan words) judged)
@@ -116,13 +114,11 @@ module _ (words : ConvertSplit) (files : FilesState) where
 
   convert_done : DoneAs (IsBoundDue words files) files (convert_plan words)
   unfolding convert_plan policy_part found_plan
-  convert_done Faulty now found = λ e. absurd (cc e)
-  convert_done Missing now found = λ e. absurd (cc e)
-  convert_done Longer now found = λ e. absurd (cc e)
   convert_done (Held text) now found = policy_by now _ _ found.2 text (rules_of_text text) found.1 refl
+  convert_done _ now found = λ e. absurd (cc e)
 
   words_done : DoneAs (IsBoundDue words files) files (plan_of (Ok (Convert words)))
-  unfolding plan_of command_plan
+  unfolding command_plan
   words_done = convert_done
 
 converted_by : (words : ConvertSplit) (due : Due) (old new : Outside) (files : FilesState) → IsBoundDue words old.files due

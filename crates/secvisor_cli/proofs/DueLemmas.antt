@@ -82,14 +82,9 @@ data Kind (answer : Status) : Type 0 where
   Wanting : answer ≡ Status.Memory → Kind answer
 
 kind_of : (answer : Status) → Kind answer
-kind_of Status.Done = Proper refl
-kind_of Status.Stopped = Proper refl
-kind_of Status.Usage = Proper refl
-kind_of Status.Refused = Proper refl
-kind_of Status.ReadFault = Proper refl
 kind_of Status.WriteFault = Faulted refl
 kind_of Status.Memory = Wanting refl
-kind_of Status.Ended = Proper refl
+kind_of _ = Proper refl
 
 -- what is saved counts no read
 pub saved_unread : (s : Saving) (old new : FilesState) → Saved s old new → new.read_faults ≡ old.read_faults

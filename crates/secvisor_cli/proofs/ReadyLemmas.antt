@@ -1,5 +1,5 @@
 -- What is made ready, by the plan's shape.
-use Rattle.std.proofs.Common.{◌≡◌, ◌≢◌, ◌+◌, ◌%◌, ℕ, suc, List, ◌∷◌, ◌++◌, map, length, append_assoc, [], true, false, refl, sym, ◌∙◌, ap}
+use Rattle.std.proofs.Common.{◌≡◌, ◌≢◌, ◌+◌, ◌%◌, ℕ, suc, List, ◌∷◌, ◌++◌, map, length, append_assoc, [], true, false, refl, sym, ◌∙◌, ap, Option}
 use Rattle.std.proofs.Common.{subst, arith, rules, inl, inr, Some, None, Result, Ok, Err, IsErrAnd, if◌then◌else◌}
 use Rattle.std.specs.Option.{option_copied}
 use Rattle.std.specs.Str.{bytes_eq}
@@ -34,10 +34,10 @@ use Rattle.secvisor_cli.specs.declared.ready.Stop.{Stop}
 use Rattle.secvisor_cli.specs.declared.ready.Stop.TheVariants.{Refused, Memory}
 use Rattle.cli_plans.specs.Plans.{Due, Refuse, RunFrom, Plan, End, Judge, Found, Faulty, Missing, Longer, Held, found_plan, read_part}
 use Rattle.cli_plans.specs.Plans.{measure_judged, pages_judged, is_whole_pages, gen_disk, gen_due, start_with}
-use Rattle.cli_plans.specs.Reading.{FoundAs}
+use Rattle.cli_plans.specs.Reading.{FoundAs, Follows}
 use Rattle.machine.proofs.Standing.{printed_few}
 use Rattle.machine.proofs.Repeated.{counts_are, none_counted}
-use Rattle.secvisor_cli.specs.Ready.{read_refusal, PartRead, stop_of, IsReady, IsReadyWhere, Prepares}
+use Rattle.secvisor_cli.specs.Ready.{read_refusal, PartRead, stop_of, IsFresh, IsReady, IsReadyWhere, Prepares}
 
 -- ---- any plan
 
@@ -225,3 +225,42 @@ disk_all items place whole = sym (append-nil items) ∙ whole
 pub disk_sectors : length gen_disk % 512 ≡ 0
 unfolding gen_disk
 disk_sectors = refl
+
+-- ---- where a plan ends
+
+refused_is : (reached : Option Due) (given : Refusal) → IsReadyWhere reached (Err (Refused given)) → reached ≡ Some (Refuse given)
+refused_is None given it = absurd (cc it)
+refused_is (Some (Refuse refusal)) given it = ap (λ (r : Refusal). Some (Refuse r)) (sym it)
+refused_is _ given it = absurd it
+
+pub refused_follows : (plan : Plan) (old new : FilesState) (given : Refusal) → Prepares plan old new (Err (Refused given)) → Follows plan old new (Some (Refuse given))
+refused_follows plan old new given p = subst (λ (r : Option Due). Follows plan old new r) (refused_is p.reached given p.ready) p.follows
+
+wanting_is : (reached : Option Due) → IsReadyWhere reached (Err Memory) → reached ≡ None
+wanting_is None it = refl
+wanting_is (Some due) it = absurd it
+
+pub wanting_follows : (plan : Plan) (old new : FilesState) → Prepares plan old new (Err Memory) → Follows plan old new None
+wanting_follows plan old new p = subst (λ (r : Option Due). Follows plan old new r) (wanting_is p.reached p.ready) p.follows
+
+-- a machine that is ready, and its run, which is due
+pub record Begins (plan : Plan) (old new : FilesState) (booted : PreparedRun) : Type 0 where
+  pub start : State
+  pub follows : Follows plan old new (Some (RunFrom start (first_events booted.events booted.script) (option_copied booted.save)))
+  pub is_new : IsNew booted.machine start
+  pub fresh : IsFresh booted
+
+begins_where : (plan : Plan) (old new : FilesState) (booted : PreparedRun) (reached : Option Due) → Follows plan old new reached → IsReadyWhere reached (Ok (Run booted)) → Begins plan old new booted
+begins_where plan old new booted (Some (RunFrom start events save)) follows it = record {
+  start = start;
+  follows =
+      subst (λ (es : List Event). Follows plan old new (Some (RunFrom start es (option_copied booted.save)))) (sym it.1)
+      (subst (λ (name : Option (List ℕ)). Follows plan old new (Some (RunFrom start events name))) (sym it.2) follows);
+  is_new = it.0;
+  fresh = it.3;
+}
+begins_where plan old new booted None follows it = absurd (cc it)
+begins_where plan old new booted _ follows it = absurd it
+
+pub begins : (plan : Plan) (old new : FilesState) (booted : PreparedRun) → Prepares plan old new (Ok (Run booted)) → Begins plan old new booted
+begins plan old new booted p = begins_where plan old new booted p.reached p.follows p.ready

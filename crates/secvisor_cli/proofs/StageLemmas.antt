@@ -1,6 +1,5 @@
 -- The stages of a run's plan, and its boot.
 use Rattle.std.proofs.Common.{◌≡◌, ◌≢◌, ◌%◌, ◌==◌, ℕ, List, [], ◌∷◌, length, Bool, IsTrue, true, false, refl, sym, ◌∙◌, ap, subst, inr, Option, Some, None, Result, Ok, Err, if◌then◌else◌}
-use Rattle.std.specs.Result.{is_ok}
 use Rattle.std.specs.Str.{bytes_eq}
 use Rattle.sv_types.specs.declared.event.Event.{Event}
 use Rattle.sv_types.specs.declared.policy.Policy.{Policy}
@@ -25,16 +24,17 @@ use Rattle.cli_plans.specs.declared.file_fault.FileFault.{FileFault}
 use Rattle.cli_plans.specs.declared.refusal.Refusal.{Refusal}
 use Rattle.cli_plans.specs.declared.asking.Unread.{Unread}
 use Rattle.cli_plans.specs.declared.asking.Unread.TheVariants as unread
-use Rattle.cli_plans.specs.Words.{IsAsked, command_of}
+use Rattle.cli_plans.specs.Words.{IsAsked}
 use Rattle.cli_plans.specs.declared.refusal.Refusal.TheVariants.{File, Measure, Entry}
 use Rattle.secvisor_cli.specs.declared.ready.Ready.{Ready}
 use Rattle.secvisor_cli.specs.declared.ready.Stop.{Stop}
 use Rattle.secvisor_cli.specs.declared.ready.Stop.TheVariants.{Refused, Memory}
-use Rattle.cli_plans.specs.CommandLine.{Command, RunWords, Rounds, Auto, Bursts, Text}
+use Rattle.cli_plans.specs.CommandLine.{RunWords, Rounds, Auto, Bursts, Text}
 use Rattle.cli_plans.specs.Plans.{Due, Refuse, RunFrom, Plan, End, Judge, Held, found_plan, read_part, max_policy_bytes, max_script_bytes}
 use Rattle.cli_plans.specs.Plans.{policy_judged, policy_part, part_judged, kernel_part, disk_refusal, disk_part, text_part, script_part}
-use Rattle.cli_plans.specs.Plans.{image_measure, boot_judged, boot_plan, command_plan, plan_of, start_with}
+use Rattle.cli_plans.specs.Plans.{image_measure, boot_judged, boot_plan, asked_plan, start_with}
 use Rattle.cli_plans.specs.Reading.{FoundAs, Follows, MayFollow}
+use Rattle.cli_plans.proofs.PlanLemmas.{asked_goes, asked_refuses, asked_wants}
 use Rattle.secvisor_cli.specs.Ready.{PartRead, stop_of, stop_of_unread, IsReady, Prepares, Passes, Staged, MayStage, IsPolicy, IsKernel, IsScript}
 use Rattle.secvisor_cli.proofs.ReadyLemmas.{end_ready, judge_ready, judge_wants, judge_end, read_ready, stopped_ready, bytes_eq-same, bytes_eq-other}
 
@@ -47,31 +47,15 @@ pass_ready stage value next old now new result pass p = record { reached = p.rea
 
 -- ---- the words
 
-pub words_refused : (asked : Result Command Refusal) (refusal : Refusal) (files : FilesState) → asked ≡ Err refusal → Prepares (plan_of asked) files files (Err (Refused refusal))
-unfolding plan_of
-words_refused asked refusal files is =
-    subst (λ (j : Result Command Refusal). Prepares (plan_of j) files files (Err (Refused refusal))) (sym is) (end_ready (Refuse refusal) files _ refl)
-
--- memory ran out for reading them by their names
-pub words_want : (asked : Result Command Refusal) (files : FilesState) → IsTrue (is_ok asked) → Prepares (plan_of asked) files files (Err Memory)
-unfolding plan_of
-words_want (Ok command) files good = judge_wants (command_plan command) files
-words_want (Err refusal) files good = absurd (cc good)
-
 -- words that aren't read
-pub words_unread : (asked : Result Command Refusal) (why : Unread) (files : FilesState) → IsAsked command_of asked (Err why) → Prepares (plan_of asked) files files (Err (stop_of_unread why))
-words_unread asked (unread.Refused refusal) files is = words_refused asked refusal files is
-words_unread asked unread.Memory files good = words_want asked files good
+pub words_unread : {A T : Type 0} (next : A → Plan) (value : T → A) (asked : Result A Refusal) (why : Unread) (files : FilesState) → IsAsked value asked (Err why) →
+    Prepares (asked_plan next asked) files files (Err (stop_of_unread why))
+words_unread next value asked (unread.Refused refusal) files is = record { reached = Some (Refuse refusal); follows = asked_refuses next asked refusal files is; ready = refl }
+words_unread next value asked unread.Memory files good = record { reached = None; follows = asked_wants next asked files good; ready = refl }
 
-pub words_may : (asked : Result Command Refusal) (command : Command) (files : FilesState) → asked ≡ Ok command → MayFollow (plan_of asked) files → MayFollow (command_plan command) files
-unfolding plan_of
-words_may asked command files is may = subst (λ (j : Result Command Refusal). MayFollow (plan_of j) files) is may
-
-pub words_ready : (asked : Result Command Refusal) (command : Command) (old new : FilesState) (result : Result Ready Stop) → asked ≡ Ok command →
-    Prepares (command_plan command) old new result → Prepares (plan_of asked) old new result
-unfolding plan_of
-words_ready asked command old new result is p =
-    subst (λ (j : Result Command Refusal). Prepares (plan_of j) old new result) (sym is) (judge_ready (command_plan command) old new result p)
+pub words_ready : {A : Type 0} (next : A → Plan) (asked : Result A Refusal) (words : A) (old new : FilesState) (result : Result Ready Stop) → asked ≡ Ok words →
+    Prepares (next words) old new result → Prepares (asked_plan next asked) old new result
+words_ready next asked words old new result is p = record { reached = p.reached; follows = asked_goes next asked words old new p.reached is p.follows; ready = p.ready }
 
 -- ---- a part
 

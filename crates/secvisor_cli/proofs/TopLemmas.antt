@@ -21,31 +21,21 @@ use Rattle.secvisor_cli.specs.declared.ready.PreparedRun.{PreparedRun}
 use Rattle.secvisor_cli.specs.declared.ready.Made.{Made}
 use Rattle.secvisor_cli.specs.declared.ready.Ready.{Ready}
 use Rattle.secvisor_cli.specs.declared.ready.Ready.TheVariants.{Run as Boots, Save}
-use Rattle.secvisor_cli.specs.declared.ready.Stop.{Stop}
-use Rattle.secvisor_cli.specs.declared.ready.Stop.TheVariants.{Refused}
-use Rattle.secvisor_cli.specs.declared.ready.Stop.TheVariants as stop
 use Rattle.host_io.specs.declared.trouble.Trouble.{Trouble}
 use Rattle.host_io.specs.declared.trouble.Trouble.TheVariants.{Write, Memory}
 use Rattle.cli_plans.specs.Refusals.{refusal_line, refusal_status, takes_memory}
-use Rattle.cli_plans.specs.CommandLine.{Command, judgement_of_words}
-use Rattle.cli_plans.specs.Plans.{Due, Refuse, RunFrom, Make, Exactly, Saving, policy_saving, saving_of_bytes, saves_due, Plan, bytes_due, status_due, plan_of}
+use Rattle.cli_plans.specs.CommandLine.{judgement_of_words}
+use Rattle.cli_plans.specs.Plans.{Due, Refuse, RunFrom, Make, Exactly, Saving, policy_saving, saving_of_bytes, saves_due, Plan, bytes_due, status_due, asked_plan, plan_of}
 use Rattle.cli_plans.specs.Reading.{Follows, MayFollow, MaySave, Saved, SaveBroke, SavesUnder}
 use Rattle.secvisor_cli.specs.Ready.{IsMade, IsReady, IsReadyWhere, IsFresh, IsRunnable, MayCarryOut, MaySaveRun, Prepares}
-use Rattle.secvisor_cli.specs.Answers.{Outside, outside, tries_due, MayTryWhere, IsFree, AfterTry, TriedInVain, GaveUp, MeetsDue, Writes}
+use Rattle.secvisor_cli.specs.Answers.{Outside, outside, tries_due, MayTryWhere, AfterTry, TriedInVain, GaveUp, MeetsDue, Writes}
 use Rattle.secvisor_cli.specs.Answers.{SavesAndWrites, WritesAndSaves, Answers, AnswersReached, Performs, MeetsSaves, MeetsSavesAfter}
 use Rattle.secvisor_cli.specs.Answers.{Meets, MeetsReached, Headline, BenchAfter}
 use Rattle.host_io.specs.Endings.{status_of_end}
 use Rattle.secvisor_cli.proofs.EndLemmas.{runs_under}
-use Rattle.cli_plans.proofs.PlanLemmas.{HasFoundFaults, HasFault, Keeps, follows_keeps, may_save, read_fault, saves_under, may_follow}
+use Rattle.cli_plans.proofs.PlanLemmas.{asked_unread, HasFoundFaults, HasFault, Keeps, follows_keeps, may_save, read_fault, saves_under, may_follow}
 use Rattle.secvisor_cli.proofs.SaveLemmas.{Changes, Wrote, changes, changes_saved, changes_broke, unchanged, no_memory, wrote, meets_saves, meets_faults, ChangesOut}
 use Rattle.cli_plans.proofs.FoundFaults.{judged_found_faults}
-
--- ---- out of memory
-
-pub wanting_answers : (reached : Option Due) (files : FilesState) (sink : SinkState) (bench : Option Machine) → IsReadyWhere reached (Err stop.Memory) →
-    AnswersReached reached (outside files sink bench) (outside files sink bench) (Err Memory)
-wanting_answers None files sink bench it = (refl, refl)
-wanting_answers (Some due) files sink bench it = absurd it
 
 -- ---- what is ready, and what is refused
 
@@ -59,9 +49,8 @@ runs_fresh ready fresh = record {
 }
 
 pub is_runnable : (due : Due) (ready : PreparedRun) → IsReady due (Ok (Boots ready)) → IsRunnable ready
-is_runnable (Refuse refusal) ready it = absurd it
 is_runnable (RunFrom start events save) ready it = runs_fresh ready it.3
-is_runnable (Make name rules line) ready it = absurd it
+is_runnable _ ready it = absurd it
 
 pub may_save_run : (due : Due) (ready : PreparedRun) (files : FilesState) → IsReady due (Ok (Boots ready)) → MaySave (saves_due due) files →
     MaySaveRun ready.machine (first_events ready.events ready.script) (option_copied ready.save) files
@@ -83,15 +72,13 @@ may_try_run bytes (Some name) files may = (bytes, may)
 -- a try in vain ends the answer
 pub vain_answers : (start : State) (events : List Event) (save : Option (List ℕ)) (f0 f1 : FilesState) (sink : SinkState) (bench : Option Machine) (trouble : Trouble) →
     AfterTry save f0 f1 (Err trouble) → Answers (RunFrom start events save) (outside f0 sink bench) (outside f1 sink bench) (Err trouble)
-vain_answers start events None f0 f1 sink bench trouble it = absurd it
 vain_answers start events (Some name) f0 f1 sink bench Write it = inr (record { files = it; sink = refl; bench = refl }, refl)
-vain_answers start events (Some name) f0 f1 sink bench Memory it = absurd it
+vain_answers start events _ f0 f1 sink bench _ it = absurd it
 
 pub may_save_made : (due : Due) (made : Made) (files : FilesState) → IsReady due (Ok (Save made)) → MaySave (saves_due due) files →
     IsTrue (files.permits_save ((made.name.now, made.text.items) ∷ []))
-may_save_made (Refuse refusal) made files it may = absurd it
-may_save_made (RunFrom start events save) made files it may = absurd it
 may_save_made (Make name rules line) made files it may = subst (λ (n : List ℕ). IsTrue (files.permits_save ((n, made.text.items) ∷ []))) (sym it.name_is) (may made.text.items it.reads)
+may_save_made _ made files it may = absurd it
 
 may_where : (reached : Option Due) (ready : Ready) (files : FilesState) → IsReadyWhere reached (Ok ready) → ((due : Due) → reached ≡ Some due → MaySave (saves_due due) files) →
     MayCarryOut ready files
@@ -111,11 +98,10 @@ ready_answers (Some due) ready old new result it a = a due it
 pub booted_answers : (due : Due) (ready : PreparedRun) (old new : Outside) (result : Result Status Trouble) → IsReady due (Ok (Boots ready)) →
     ((start : State) → IsNew ready.machine start → Answers (RunFrom start (first_events ready.events ready.script) (option_copied ready.save)) old new result) →
     Answers due old new result
-booted_answers (Refuse refusal) ready old new result it a = absurd it
 booted_answers (RunFrom start events save) ready old new result it a =
     subst (λ (name : Option (List ℕ)). Answers (RunFrom start events name) old new result) it.2
     (subst (λ (es : List Event). Answers (RunFrom start es (option_copied ready.save)) old new result) it.1 (a start it.0))
-booted_answers (Make name rules line) ready old new result it a = absurd it
+booted_answers _ ready old new result it a = absurd it
 
 -- the text of a policy that was made, as the policy
 abbrev exact_saving : Made → Saving
@@ -150,9 +136,8 @@ as_policy name rules line made f0 f1 old new (Err Memory) it s = absurd s
 
 pub made_answers : (due : Due) (made : Made) (f0 f1 : FilesState) (old new : SinkState) (bench : Option Machine) (result : Result Status Trouble) → IsReady due (Ok (Save made)) →
     SavesAndWrites (exact_saving made) (string_bytes made.line) f0 f1 old new result → Answers due (outside f0 old bench) (outside f1 new bench) result
-made_answers (Refuse refusal) made f0 f1 old new bench result it s = absurd it
-made_answers (RunFrom start events save) made f0 f1 old new bench result it s = absurd it
 made_answers (Make name rules line) made f0 f1 old new bench result it s = (as_policy name rules line made f0 f1 old new result it s, refl)
+made_answers _ made f0 f1 old new bench result it s = absurd it
 
 -- a refusal's line was written, and nothing else was done
 pub refused_writes : (refusal : Refusal) (files : FilesState) (old new : SinkState) (bench : Option Machine) (result : Result Status Trouble) →
@@ -160,26 +145,11 @@ pub refused_writes : (refusal : Refusal) (files : FilesState) (old new : SinkSta
     (IsErrOf result Memory → IsTrue (takes_memory refusal)) → (IsErrOf result Memory → new ≡ old) → WritesAndSaves (Refuse refusal) (outside files old bench) (outside files new bench) result
 refused_writes refusal files old new bench result w wants quiet = record { written = result; writes = w; saves = (refl, refl); wants = wants; quiet = quiet; bench = refl }
 
-pub refused_answers : (reached : Option Due) (given : Refusal) (files : FilesState) (old new : SinkState) (bench : Option Machine) (result : Result Status Trouble) →
-    IsReadyWhere reached (Err (Refused given)) → Writes (refusal_status given) (refusal_line given) old new result → (IsErrOf result Memory → IsTrue (takes_memory given)) →
-    (IsErrOf result Memory → new ≡ old) → AnswersReached reached (outside files old bench) (outside files new bench) result
-refused_answers None given files old new bench result it w wants quiet = absurd (cc it)
-refused_answers (Some (Refuse refusal)) given files old new bench result it w wants quiet =
-    subst (λ (r : Refusal). Answers (Refuse r) (outside files old bench) (outside files new bench) result) it
-    (refused_writes given files old new bench result w wants quiet)
-refused_answers (Some (RunFrom start events save)) given files old new bench result it w wants quiet = absurd it
-refused_answers (Some (Make name rules line)) given files old new bench result it w wants quiet = absurd it
-
-pub performs : (plan : Plan) (f0 f1 f2 : FilesState) (ready : Result Ready Stop) (old new : SinkState) (b0 b1 : Option Machine) (result : Result Status Trouble) → (p : Prepares plan f0 f1 ready) →
-    AnswersReached p.reached (outside f1 old b0) (outside f2 new b1) result → Performs plan (outside f0 old b0) (outside f2 new b1) result
-performs plan f0 f1 f2 ready old new b0 b1 result p a = record { reached = p.reached; read = f1; follows = p.follows; answers = a }
-
 -- ---- the status
 
 bench_under : (P Q : Type 0) (due : Due) (old new : SinkState) (b0 b1 : Option Machine) → (Q → P) → BenchAfter P due old new b0 b1 → BenchAfter Q due old new b0 b1
-bench_under P Q (Refuse refusal) old new b0 b1 back bench = bench
 bench_under P Q (RunFrom start events save) old new b0 b1 back some = (some.0, some.1, runs_under P Q start events some.0 old new back some.2)
-bench_under P Q (Make name rules line) old new b0 b1 back bench = bench
+bench_under _ _ _ old new b0 b1 back bench = bench
 
 meets_ok : (due : Due) (old new : Outside) (s : Status) → WritesAndSaves due old new (Ok s) → Wrote (status_due due) (bytes_due due) old.sink new.sink (Ok s) →
     MeetsSaves due old new s → Meets due old new s
@@ -280,10 +250,9 @@ meets (RunFrom start events save) old new result (inr a) = inr (a.0, ap status_o
 meets (Make name rules line) old new result a = inl (tt, meets_made name rules line old new result a.0 a.1)
 
 reached_settled : (reached : Option Due) (old new : Outside) (result : Result Status Trouble) → AnswersReached reached old new result → MeetsReached reached old new (status_of_end result)
-reached_settled None old new (Ok s) a = absurd (cc a.0)
-reached_settled None old new (Err Write) a = absurd (cc a.0)
 reached_settled None old new (Err Memory) a = (refl, a.1)
 reached_settled (Some due) old new result a = meets due old new result a
+reached_settled _ old new _ a = absurd (cc a.0)
 
 pub headline : (plan : Plan) (old new : Outside) (result : Result Status Trouble) → Performs plan old new result → Headline plan old new (status_of_end result)
 headline plan old new result p =
@@ -308,13 +277,7 @@ meets_writes due old new s m (inr never) = let same = m.no_write never in omega 
 
 write_fault_or_not : (s : Status) → (s ≡ Status.WriteFault) ⊎ (s ≢ Status.WriteFault)
 write_fault_or_not Status.WriteFault = inl refl
-write_fault_or_not Status.Done = inr (λ e. cc e)
-write_fault_or_not Status.Stopped = inr (λ e. cc e)
-write_fault_or_not Status.Usage = inr (λ e. cc e)
-write_fault_or_not Status.Refused = inr (λ e. cc e)
-write_fault_or_not Status.ReadFault = inr (λ e. cc e)
-write_fault_or_not Status.Memory = inr (λ e. cc e)
-write_fault_or_not Status.Ended = inr (λ e. cc e)
+write_fault_or_not _ = inr (λ e. cc e)
 
 -- a try in vain, where one was made
 pub gave_up : (name : Option (List ℕ)) (old new : Outside) → GaveUp name old new → TriedInVain old new
@@ -431,16 +394,10 @@ read_count (Some due) read sink bench new result a = (answer_changes due (outsid
 
 -- ---- words that are refused
 
-pub refused_same : (refusal : Refusal) (reached : Option Due) (old new : Outside) (result : Result Status Trouble) → reached ≡ Some (Refuse refusal) → AnswersReached reached old new result →
-    new.files ≡ old.files
-refused_same refusal reached old new result is a =
-    (subst (λ (r : Option Due). AnswersReached r old new result) is a).saves.0
-
-pub unread : (words : Result Command Refusal) (old new : Outside) (result : Result Status Trouble) → is_ok words ≡ false → Performs (plan_of words) old new result → new.files ≡ old.files
-unfolding plan_of
-unread (Err refusal) old new result is p =
-    refused_same refusal p.reached (outside p.read old.sink old.bench) new result p.follows.0 p.answers ∙ p.follows.1
-unread (Ok command) old new result is p = absurd (cc is)
+pub unread : {A : Type 0} (next : A → Plan) (asked : Result A Refusal) (old new : Outside) (result : Result Status Trouble) → is_ok asked ≡ false →
+    Performs (asked_plan next asked) old new result → new.files ≡ old.files
+unread next asked old new result bad p =
+    asked_unread next asked old.files new.files (λ read reached. AnswersReached reached (outside read old.sink old.bench) new result) bad (λ refusal a. a.saves.0) p
 
 -- ---- a read fault
 
@@ -458,6 +415,11 @@ fault_at plan old read new same (inr rose) = inr (omega arith)
 pub refused_status : (refusal : Refusal) (old new : Outside) (answer : Status) → WritesAndSaves (Refuse refusal) old new (Ok answer) → answer ≡ refusal_status refusal
 refused_status refusal old new answer a =
     (subst (λ (w : Result Status Trouble). Writes (refusal_status refusal) (refusal_line refusal) old.sink new.sink w) (sym a.saves.1) a.writes).status
+
+-- nor does an answer say so for which memory ran out
+pub wants_no_fault : (result : Result Status Trouble) → IsErrOf result Memory → status_of_end result ≢ Status.ReadFault
+wants_no_fault (Ok status) it = absurd (cc it)
+wants_no_fault _ it = λ is. cc is
 
 pub refused_fault : (plan : Plan) (refusal : Refusal) (old new : Outside) (read : FilesState) (result : Result Status Trouble) → HasFoundFaults plan →
     Follows plan old.files read (Some (Refuse refusal)) →

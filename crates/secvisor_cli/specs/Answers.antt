@@ -17,7 +17,7 @@ use Rattle.host_io.specs.declared.trouble.Trouble.TheVariants.{Write, Memory}
 use Rattle.cli_plans.specs.Refusals.{refusal_line, takes_memory}
 use Rattle.cli_plans.specs.Plans.{Due, Refuse, RunFrom, Make, Saving, saving_of_bytes, policy_saving, Plan, bytes_due, status_due, saves_due}
 use Rattle.machine.specs.Console.{flush_is_due}
-use Rattle.cli_plans.specs.Reading.{Follows, Saved, SaveBroke}
+use Rattle.cli_plans.specs.Reading.{CarriesOut, Follows, Saved, SaveBroke}
 use Rattle.machine.specs.Standing.{Stands, machine_output}
 
 -- what stands outside the program: the files, the sink, and the machine on the bench
@@ -184,12 +184,8 @@ AnswersReached None old new result = IsErrOf result Memory × (new ≡ old)
 AnswersReached (Some due) old new result = Answers due old new result
 
 -- the files were asked as the plan says, and what is due at its end was answered
-pub record Performs (plan : Plan) (old new : Outside) (result : Result Status Trouble) : Type 0 where
-  pub reached : Option Due
-  -- the files once they were read
-  pub read : FilesState
-  pub follows : Follows plan old.files read reached
-  pub answers : AnswersReached reached (outside read old.sink old.bench) new result
+abbrev pub Performs : Plan → Outside → Outside → Result Status Trouble → Type 0
+Performs plan old new result = CarriesOut plan old.files (λ read reached. AnswersReached reached (outside read old.sink old.bench) new result)
 
 -- Saved where the status is that of the end; else a write fault is the sink's or that of the save, which comes when all
 -- bytes are written; nothing is saved where memory ran out.

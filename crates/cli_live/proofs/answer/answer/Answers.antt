@@ -1,14 +1,15 @@
-use Rattle.std.proofs.Common.{arith}
+use Rattle.std.proofs.Common.{arith, refl, None}
 use Rattle.cli_plans.proofs.PlanLemmas.{follows_keeps, follows_permits}
-use Rattle.cli_live.proofs.AnswerLemmas.{begins, may_under, ready_performs, refused_performs, wanting_performs}
+use Rattle.secvisor_cli.proofs.ReadyLemmas.{refused_follows, wanting_follows}
+use Rattle.secvisor_cli.proofs.TopLemmas.{refused_writes}
+use Rattle.cli_live.proofs.AnswerLemmas.{may_under, named_runs}
 use Rattle.cli_live.proofs.answer.answer.Goals as goal
 
 pub carry_out-requires-clause-fresh : goal.carry_out-requires-clause-fresh
-carry_out-requires-clause-fresh g c = λ κs lives. (begins c.in-Ok.ensures.prepares.reached c.in-Ok.ready c.in-Ok.ensures.prepares.ready).fresh
+carry_out-requires-clause-fresh g c = λ κs lives. c.in-Ok.ensures.prepares.fresh
 
 pub carry_out-requires-clause-state : goal.carry_out-requires-clause-state
-carry_out-requires-clause-state g c = λ κs lives.
-    let it = begins c.in-Ok.ensures.prepares.reached c.in-Ok.ready c.in-Ok.ensures.prepares.ready in (it.start, it.new)
+carry_out-requires-clause-state g c = λ κs lives. let it = c.in-Ok.ensures.prepares in (it.start, it.is_new)
 
 pub carry_out-requires-clause-saves : goal.carry_out-requires-clause-saves
 carry_out-requires-clause-saves g c =
@@ -22,14 +23,20 @@ carry_out-requires-clause-permitted g c = λ κs lives.
     c.in-Ok.ensures.name c.requires.script
 
 pub returns-in-Ok : goal.returns-in-Ok
-returns-in-Ok g c = ready_performs _ _ _ _ _ _ _ _ _ _ c.in-Ok.ready _ c.in-Ok.ensures.prepares c.in-Ok.ensures.name c.carry_out.ensures
+returns-in-Ok g c =
+    let it = c.in-Ok.ensures.prepares in
+    record { reached = _; read = _; follows = it.follows; answers = named_runs _ _ _ _ _ _ _ c.in-Ok.ensures.name (c.carry_out.ensures it.start it.is_new) }
 
 pub returns-in-Err-Refused : goal.returns-in-Err-Refused
 returns-in-Err-Refused g c =
-    let p = rw c.in-Err-Refused.field-0-is at c.in-Err-Refused.ensures.prepares in
-    refused_performs _ _ _ _ _ _ _ c.in-Err-Refused.refusal _ p c.refuse.ensures.writes c.refuse.ensures.wants c.refuse.ensures.quiet
+    let p = rw c.in-Err-Refused.field-0-is at c.in-Err-Refused.ensures.prepares in record {
+      reached = _;
+      read = _;
+      follows = refused_follows _ _ _ c.in-Err-Refused.refusal p;
+      answers = (refused_writes _ _ _ _ _ _ c.refuse.ensures.writes c.refuse.ensures.wants c.refuse.ensures.quiet, refl);
+    }
 
 pub returns-in-Err-Memory : goal.returns-in-Err-Memory
 returns-in-Err-Memory g c =
     let p = rw c.in-Err-Memory.field-0-is at c.in-Err-Memory.ensures.prepares in
-    wanting_performs _ _ _ _ _ _ p
+    record { reached = None; read = _; follows = wanting_follows _ _ _ p; answers = (refl, refl) }

@@ -1,5 +1,6 @@
 use Rattle.std.proofs.Common.{◌∙◌, sym, map, string_bytes}
 use Rattle.cli_plans.specs.CommandLine.{judgement_of_words}
+use Rattle.cli_plans.specs.Plans.{command_plan}
 use Rattle.secvisor_cli.proofs.TopLemmas.{effect, headline, headline_writes, performs_fault, unread}
 use Rattle.secvisor_cli.proofs.answer.secvisor.Goals as goal
 
@@ -16,7 +17,7 @@ pub returns-clause-writes : goal.returns-clause-writes
 returns-clause-writes g c = headline_writes _ _ _ _ (headline _ _ _ _ c.answer.ensures)
 
 pub returns-clause-unread : goal.returns-clause-unread
-returns-clause-unread g c = λ refused. unread (judgement_of_words (map string_bytes c.args.words.now)) _ _ _ refused c.answer.ensures
+returns-clause-unread g c = λ refused. unread command_plan (judgement_of_words (map string_bytes c.args.words.now)) _ _ _ refused c.answer.ensures
 
 pub returns-clause-saves : goal.returns-clause-saves
 returns-clause-saves g c = (effect _ _ _ _ c.answer.ensures).saves

@@ -1,6 +1,7 @@
-use Rattle.std.proofs.Common.{arith}
-use Rattle.cli_plans.proofs.PlanLemmas.{follows_keeps}
-use Rattle.cli_snap.proofs.ResumeAnswerLemmas.{is_runnable, may_run, ready_performs, refused_performs, wanting_performs}
+use Rattle.std.proofs.Common.{arith, refl, None}
+use Rattle.cli_plans.proofs.PlanLemmas.{follows_keeps, may_save}
+use Rattle.secvisor_cli.proofs.ReadyLemmas.{refused_follows, wanting_follows}
+use Rattle.secvisor_cli.proofs.TopLemmas.{refused_writes}
 use Rattle.cli_snap.proofs.resume.answer.answer_resume.Goals as goal
 
 pub run_on_bench-requires-clause-saves : goal.run_on_bench-requires-clause-saves
@@ -10,20 +11,26 @@ run_on_bench-requires-clause-saves g c =
     omega arith
 
 pub run_on_bench-requires-clause-runnable : goal.run_on_bench-requires-clause-runnable
-run_on_bench-requires-clause-runnable g c = is_runnable c.in-Ok.ensures.reached c.in-Ok.booted c.in-Ok.ensures.ready
+run_on_bench-requires-clause-runnable g c = c.in-Ok.ensures.runnable
 
 pub run_on_bench-requires-clause-permitted : goal.run_on_bench-requires-clause-permitted
-run_on_bench-requires-clause-permitted g c = may_run _ _ _ c.in-Ok.booted c.requires.permitted c.in-Ok.ensures
+run_on_bench-requires-clause-permitted g c =
+    let on = c.in-Ok.ensures in record { start = on.start; new = on.is_new; may = may_save _ _ _ _ c.requires.permitted on.follows }
 
 pub returns-in-Ok : goal.returns-in-Ok
-returns-in-Ok g c = ready_performs _ _ _ _ _ _ _ _ c.in-Ok.booted _ c.in-Ok.ensures c.run_on_bench.ensures
+returns-in-Ok g c =
+    let on = c.in-Ok.ensures in record { reached = _; read = _; follows = on.follows; answers = c.run_on_bench.ensures on.start on.is_new }
 
 pub returns-in-Err-Refused : goal.returns-in-Err-Refused
 returns-in-Err-Refused g c =
-    let p = rw c.in-Err-Refused.field-0-is at c.in-Err-Refused.ensures in
-    refused_performs _ _ _ _ _ _ c.in-Err-Refused.refusal _ p c.refuse.ensures.writes c.refuse.ensures.wants c.refuse.ensures.quiet
+    let p = rw c.in-Err-Refused.field-0-is at c.in-Err-Refused.ensures in record {
+      reached = _;
+      read = _;
+      follows = refused_follows _ _ _ c.in-Err-Refused.refusal p;
+      answers = refused_writes _ _ _ _ _ _ c.refuse.ensures.writes c.refuse.ensures.wants c.refuse.ensures.quiet;
+    }
 
 pub returns-in-Err-Memory : goal.returns-in-Err-Memory
 returns-in-Err-Memory g c =
     let p = rw c.in-Err-Memory.field-0-is at c.in-Err-Memory.ensures in
-    wanting_performs _ _ _ _ _ p
+    record { reached = None; read = _; follows = wanting_follows _ _ _ p; answers = (refl, refl) }

@@ -1,7 +1,8 @@
 use Rattle.std.proofs.Common.{◌∙◌, sym, map, string_bytes}
-use Rattle.secvisor_cli.proofs.TopLemmas.{effect, headline, headline_writes}
+use Rattle.secvisor_cli.proofs.TopLemmas.{effect, headline, headline_writes, unread}
 use Rattle.cli_plans.specs.CommandLine.{resume_judged}
-use Rattle.cli_snap.proofs.ResumeClauseLemmas.{resume_fault, unread}
+use Rattle.cli_snap.proofs.ResumeClauseLemmas.{resume_fault}
+use Rattle.cli_snap.specs.ResumePlans.{words_plan}
 use Rattle.cli_snap.proofs.resume.answer.secvisor_resume.Goals as goal
 
 pub returns-clause-headline : goal.returns-clause-headline
@@ -17,7 +18,7 @@ pub returns-clause-writes : goal.returns-clause-writes
 returns-clause-writes g c = headline_writes _ _ _ _ (headline _ _ _ _ c.answer.ensures)
 
 pub returns-clause-unread : goal.returns-clause-unread
-returns-clause-unread g c = λ refused. unread (resume_judged (map string_bytes c.args.words.now)) _ _ _ refused c.answer.ensures
+returns-clause-unread g c = λ refused. unread words_plan (resume_judged (map string_bytes c.args.words.now)) _ _ _ refused c.answer.ensures
 
 pub returns-clause-saves : goal.returns-clause-saves
 returns-clause-saves g c = (effect _ _ _ _ c.answer.ensures).saves

@@ -6,7 +6,7 @@ use Rattle.cli_plans.specs.Words.{source_value, resume_value}
 use Rattle.secvisor_cli.proofs.ReadyLemmas.{err_by}
 use Rattle.cli_snap.specs.ResumePlans.{after_policy, behind_script, after_snapshot, snapshot_part, words_plan}
 use Rattle.cli_snap.specs.ResumeReady.{Resumes}
-use Rattle.cli_snap.proofs.StageLemmas.{judge_end, pass, stops}
+use Rattle.cli_snap.proofs.StageLemmas.{judge_end, pass}
 use Rattle.cli_snap.proofs.resume.ready.prepare_resume.Goals as goal
 
 pub read_snapshot-requires-clause-permitted : goal.read_snapshot-requires-clause-permitted
@@ -17,7 +17,7 @@ pub returns-in_err-snapshot : goal.returns-in_err-snapshot
 unfolding words_plan
 returns-in_err-snapshot g c =
     err_by _ c.in_err-snapshot.field-0.0 (λ r. Resumes (words_plan (resume_value c.args.asked.now)) (g.F.Files.state c.args.files.now) (g.F.Files.state c.read_snapshot.new.files) r)
-    c.from_residual.ensures.1 (stops _ _ _ _ (c.in_err-snapshot.ensures.stage (after_snapshot (resume_value c.args.asked.now))))
+    c.from_residual.ensures.1 (c.in_err-snapshot.ensures.stage (after_snapshot (resume_value c.args.asked.now)))
 
 pub read_policy-requires-clause-permitted : goal.read_policy-requires-clause-permitted
 unfolding words_plan after_snapshot
@@ -33,7 +33,7 @@ returns-in_err-policy g c =
     c.from_residual-in_err-policy.ensures.1
     (pass (snapshot_part c.args.asked.now.saved.now) (contents c.in_ok-snapshot.snapshot) (after_snapshot (resume_value c.args.asked.now)) _ _ _ (Err c.in_err-policy.field-0.0)
     c.in_ok-snapshot.ensures.stage
-    (stops _ _ _ _ (c.in_err-policy.ensures.stage (after_policy (resume_value c.args.asked.now) (contents c.in_ok-snapshot.snapshot)))))
+    (c.in_err-policy.ensures.stage (after_policy (resume_value c.args.asked.now) (contents c.in_ok-snapshot.snapshot))))
 
 pub read_script-requires-clause-permitted : goal.read_script-requires-clause-permitted
 unfolding words_plan after_snapshot after_policy
@@ -52,7 +52,7 @@ returns-in_err-script g c =
     c.in_ok-snapshot.ensures.stage
     (pass (policy_part c.args.asked.now.policy.now) (rules_of c.in_ok-policy.policy) (after_policy (resume_value c.args.asked.now) (contents c.in_ok-snapshot.snapshot)) _ _ _
     (Err c.in_err-script.field-0.0) c.in_ok-policy.ensures.stage
-    (stops _ _ _ _ (c.in_err-script.ensures.stage (behind_script (resume_value c.args.asked.now) (contents c.in_ok-snapshot.snapshot) (rules_of c.in_ok-policy.policy))))))
+    (c.in_err-script.ensures.stage (behind_script (resume_value c.args.asked.now) (contents c.in_ok-snapshot.snapshot) (rules_of c.in_ok-policy.policy)))))
 
 pub returns : goal.returns
 unfolding words_plan after_snapshot after_policy behind_script
