@@ -45,18 +45,29 @@ due_of words rules parts = run_due words rules parts.image.items parts.disk.item
 
 -- the run of the project's block device
 of_block : (words : RunWords) (rules : Rules) (parts : Parts) (old new : Wire) (result : Result Status Trouble) (kind : DiskKind) → kind ≡ DiskKind.Block →
-    DebugsRun (run_from (boot_start rules parts.image.items parts.disk.items) (first_events words.events (order_schedule rules.harts parts.order))) old new result →
-    DebugsRun (run_from (start_with kind rules parts.image.items parts.disk.items) (first_events words.events (order_schedule rules.harts parts.order))) old new result
+    DebugsRun (run_from parts.image.items (boot_start rules parts.image.items parts.disk.items) (first_events words.events (order_schedule rules.harts parts.order))) old new result →
+    DebugsRun (run_from parts.image.items (start_with kind rules parts.image.items parts.disk.items) (first_events words.events (order_schedule rules.harts parts.order))) old new result
 of_block words rules parts old new result kind is it =
-    subst (λ (k : DiskKind). DebugsRun (run_from (start_with k rules parts.image.items parts.disk.items) (first_events words.events (order_schedule rules.harts parts.order))) old new result)
+    subst (λ (k : DiskKind).
+    DebugsRun (run_from parts.image.items (start_with k rules parts.image.items parts.disk.items) (first_events words.events (order_schedule rules.harts parts.order))) old new result)
     (sym is) it
 
 pub debugged_files : (words : RunWords) (parts : Parts) (files read : FilesState) (old new : Wire) (result : Result Status Trouble) → words.kind ≡ DiskKind.Block →
     (begins : BeginsFrom words parts files read) →
-    DebugsRun (run_from (boot_start begins.rules parts.image.items parts.disk.items) (first_events words.events (order_schedule begins.rules.harts parts.order))) old new result →
-    DebugsFiles words files read old new result
-debugged_files words parts files read old new result kind begins it =
-    record { reached = Some (due_of words begins.rules parts); follows = begins.follows; answers = of_block words begins.rules parts old new result words.kind kind it }
+    DebugsRun (run_from parts.image.items (boot_start begins.rules parts.image.items parts.disk.items) (first_events words.events (order_schedule begins.rules.harts parts.order))) old new
+    result → DebugsFiles words files read old new result
+debugged_files words parts files read old new result kind begins it = record {
+  reached = Some (due_of words begins.rules parts);
+  follows = begins.follows;
+  answers = record {
+    rules = begins.rules;
+    file = parts.image.items;
+    disk = parts.disk.items;
+    same = ap (λ (k : DiskKind). start_with k begins.rules parts.image.items parts.disk.items) kind;
+    held = begins.held;
+    debugs = of_block words begins.rules parts old new result words.kind kind it;
+  };
+}
 
 pub refused_files : (words : RunWords) (files read : FilesState) (given : Refusal) (keys : KeysState) (old new : SinkState) (result : Result Status Trouble) →
     Prepares (run_plan words) files read (Err (Refused given)) → Refuses given old new result → DebugsFiles words files read (wire keys old) (wire keys new) result
@@ -131,16 +142,16 @@ refused_rises refusal old new result it =
     let same : new.keys.faults ≡ old.keys.faults = ap (λ (k : KeysState). k.faults) it.0 in
     record { writes = written_rises (refusal_status refusal) (refusal_line refusal) old.sink new.sink result it.1.writes; keys = omega (arith, same) }
 
-reached_rises : (reached : Option Due) (old new : Wire) (result : Result Status Trouble) → AnswersReached reached old new result → Rises old new
-reached_rises None old new result it = same_wire old new it.1
-reached_rises (Some (Refuse refusal)) old new result it = refused_rises refusal old new result it
-reached_rises (Some (RunFrom start events save)) old new result it = served_rises (run_from start events) old new it.served it.debugs
-reached_rises (Some (Make name rules line)) old new result it = absurd it
+reached_rises : (image : List ℕ) (files : FilesState) (reached : Option Due) (old new : Wire) (result : Result Status Trouble) → AnswersReached image files reached old new result → Rises old new
+reached_rises image files None old new result it = same_wire old new it.1
+reached_rises image files (Some (Refuse refusal)) old new result it = refused_rises refusal old new result it
+reached_rises image files (Some (RunFrom start events save)) old new result it = served_rises (run_from it.file start events) old new it.debugs.served it.debugs.debugs
+reached_rises image files (Some (Make name rules line)) old new result it = absurd it
 
 pub rises : (judged : Result RunWords Refusal) (files read : FilesState) (old new : Wire) (result : Result Status Trouble) → AnswersDebug judged files read old new result → Rises old new
 rises (Err why) files read old new result it = refused_rises why old new result it.1
 rises (Ok words) files read old new result (inl wants) = same_wire old new wants.2
-rises (Ok words) files read old new result (inr it) = reached_rises it.reached old new result it.answers
+rises (Ok words) files read old new result (inr it) = reached_rises words.image files it.reached old new result it.answers
 
 -- ---- a read fault
 
@@ -156,12 +167,12 @@ served_fault run old new (Err breakdown.Write) it is = absurd (cc is)
 served_fault run old new (Err breakdown.Memory) it is = absurd (cc is)
 
 reached_fault : (words : RunWords) (reached : Option Due) (files read : FilesState) (old new : Wire) (result : Result Status Trouble) → Follows (run_plan words) files read reached →
-    AnswersReached reached old new result → status_of_end result ≡ Status.ReadFault → FaultOf words files read old new
+    AnswersReached words.image files reached old new result → status_of_end result ≡ Status.ReadFault → FaultOf words files read old new
 reached_fault words None files read old new result follows it is = absurd (wants_no_fault result it.0 is)
 reached_fault words (Some (Refuse refusal)) files read old new result follows it is =
     inl (refused_fault (run_plan words) refusal files read old.sink new.sink result (run_found_faults words) follows it.1.writes is)
 reached_fault words (Some (RunFrom start events save)) files read old new result follows it is =
-    inr (served_fault (run_from start events) old new it.served it.debugs (sym (ap status_of_end it.result_is) ∙ is))
+    inr (served_fault (run_from it.file start events) old new it.debugs.served it.debugs.debugs (sym (ap status_of_end it.debugs.result_is) ∙ is))
 reached_fault words (Some (Make name rules line)) files read old new result follows it is = absurd it
 
 judged_fault : (judged : Result RunWords Refusal) (files read : FilesState) (old new : Wire) (result : Result Status Trouble) → NoReadFault judged →

@@ -1,5 +1,6 @@
 pub mod EventRows
 pub mod Drawing
+pub mod Turning
 pub mod Standings
 pub mod OneRun
 pub mod Accepted

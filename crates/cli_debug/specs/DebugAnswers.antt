@@ -1,7 +1,10 @@
 -- What `debug` owes to what is asked of it: the session of the run of its files is served. This project's own.
-use Rattle.std.specs.Prelude.{◌≡◌, ◌⊎◌, ℕ, List, Option, Some, None, Result, Ok, Err, IsErrOf}
+use Rattle.std.specs.Prelude.{◌≡◌, ◌⊎◌, ℕ, List, Option, Some, None, Result, Ok, Err, IsErrOf, IsTrue}
+use Rattle.sv_types.specs.Policies.{Rules}
 use Rattle.sv_types.specs.declared.event.Event.{Event}
 use Rattle.sv_types.specs.declared.status.Status.{Status}
+use Rattle.spec_reference.specs.Start.{boot_start}
+use Rattle.spec_reference.specs.States.{State}
 use Rattle.host_io.specs.Endings.{status_of_end}
 use Rattle.host_io.specs.Outside.{FilesState, SinkState}
 use Rattle.host_io.specs.declared.trouble.Trouble.{Trouble}
@@ -43,21 +46,32 @@ pub record DebugsRun (run : Run) (old new : Wire) (result : Result Status Troubl
 abbrev pub RefusesDebug : Refusal → (old new : Wire) → Result Status Trouble → Type 0
 RefusesDebug refusal old new result = (new.keys ≡ old.keys) × Refuses refusal old.sink new.sink result
 
-abbrev pub AnswersDue : Due → (old new : Wire) → Result Status Trouble → Type 0
-AnswersDue (Refuse refusal) old new result = RefusesDebug refusal old new result
-AnswersDue (RunFrom start events save) old new result = DebugsRun (run_from start events) old new result
-AnswersDue (Make name rules line) old new result = ⊥
+-- the session of the run that begins with the boot of this kernel's file, which the image's name holds, where the files tell
+-- what they hold
+pub record DebugsBoot (image : List ℕ) (files : FilesState) (start : State) (events : List Event) (old new : Wire)
+    (result : Result Status Trouble) : Type 0 where
+  pub rules : Rules
+  pub file : List ℕ
+  pub disk : List ℕ
+  pub same : start ≡ boot_start rules file disk
+  pub held : IsTrue files.tells → files.held image ≡ Some file
+  pub debugs : DebugsRun (run_from file start events) old new result
+
+abbrev pub AnswersDue : (image : List ℕ) → FilesState → Due → (old new : Wire) → Result Status Trouble → Type 0
+AnswersDue image files (Refuse refusal) old new result = RefusesDebug refusal old new result
+AnswersDue image files (RunFrom start events save) old new result = DebugsBoot image files start events old new result
+AnswersDue image files (Make name rules line) old new result = ⊥
 
 -- the same where memory ran out before the end of the plan
-abbrev pub AnswersReached : Option Due → (old new : Wire) → Result Status Trouble → Type 0
-AnswersReached None old new result = IsErrOf result Memory × (new ≡ old)
-AnswersReached (Some due) old new result = AnswersDue due old new result
+abbrev pub AnswersReached : (image : List ℕ) → FilesState → Option Due → (old new : Wire) → Result Status Trouble → Type 0
+AnswersReached image files None old new result = IsErrOf result Memory × (new ≡ old)
+AnswersReached image files (Some due) old new result = AnswersDue image files due old new result
 
 -- the files were asked as `run` asks, and what is due was answered
 pub record DebugsFiles (words : RunWords) (files read : FilesState) (old new : Wire) (result : Result Status Trouble) : Type 0 where
   pub reached : Option Due
   pub follows : Follows (run_plan words) files read reached
-  pub answers : AnswersReached reached old new result
+  pub answers : AnswersReached words.image files reached old new result
 
 -- memory ran out before a file was read
 abbrev pub Wants : (files read : FilesState) (old new : Wire) → Result Status Trouble → Type 0

@@ -1,4 +1,5 @@
 pub mod Upcoming
+pub mod Turns
 pub mod Debugged
 pub mod Debugging
 pub mod Accepting

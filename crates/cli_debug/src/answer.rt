@@ -131,7 +131,8 @@ fn debug_parts<R: Threads + Sync, K: Keys, O: Sink>(
     requires sink { MayWrite (O.state out.old) }
     requires keys { CanCount (K.state keys.old).faults }
     ensures { (rules : Rules) → rules_of_text parts.policy.items ≡ Ok rules →
-        spec.DebugsRun (run_from (boot_start rules parts.image.items parts.disk.items) (first_events events (order_schedule rules.harts parts.order)))
+        spec.DebugsRun (run_from parts.image.items (boot_start rules parts.image.items parts.disk.items)
+        (first_events events (order_schedule rules.harts parts.order)))
         (spec.wire (K.state keys.old) (O.state out.old)) (spec.wire (K.state keys.new) (O.state out.new)) result }
 {
     let beginning = FilesBeginning::new(alloc, parts)?;

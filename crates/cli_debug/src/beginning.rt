@@ -3,12 +3,15 @@ ghost use Rattle.std.specs.Prelude.{◌≡◌, ◌%◌, IfOk, Ok, None, length};
 ghost use Rattle.sv_types.specs.Policies.{rules_of};
 ghost use Rattle.spec_reference.specs.BlockDisk.{sector_size};
 ghost use Rattle.policy.specs.Text.{rules_of_text};
+ghost use Rattle.debug_session.specs.Places.{place_name};
 ghost use Rattle.cli_trials.specs.Orders.{IsAccepted};
 ghost use Rattle.cli_debug.specs.Accepting.{refused_in};
 
 use crate::target::Beginning;
 use cli_trials::Parts;
 use cli_trials::trial::{boot_files, script_of_order};
+use debug_session::{Place, place_name};
+use elf64_load::read_kernel;
 use machine::Machine;
 use script::Script;
 use std::alloc::{AllocError, Global};
@@ -36,6 +39,16 @@ fn read_again(alloc: Global, text: &[u8]) -> Result<Policy, AllocError>
     }
 }
 
+// The name of a place by a kernel's file, which was judged before, so that nothing but memory is left to fail.
+fn name_in(alloc: Global, file: &[u8], ram_pages: u32, place: Place) -> Result<Vec<u8>, AllocError>
+    ensures { IfOk result (λ name. name.items ≡ place_name file.now place) }
+{
+    match read_kernel(alloc, file, ram_pages) {
+        Ok(image) => place_name(alloc, file, &image, place),
+        Err(_) => Err(AllocError),
+    }
+}
+
 impl FilesBeginning {
     ghost use Rattle.sv_types.specs.Policies.{Rules};
     ghost use Rattle.cli_debug.specs.Beginnings.{BeginsAs};
@@ -52,7 +65,9 @@ impl FilesBeginning {
 }
 
 impl Beginning for FilesBeginning {
-    ghost use Rattle.cli_debug.specs.Beginnings.{start_of, schedule_of};
+    ghost use Rattle.cli_debug.specs.Beginnings.{kernel_of, start_of, schedule_of};
+
+    ghost kernel = { kernel_of };
 
     ghost start = { start_of };
 
@@ -70,5 +85,9 @@ impl Beginning for FilesBeginning {
             Ok(script) => Ok(script),
             Err(_) => Err(AllocError),
         }
+    }
+
+    fn place_name(&self, alloc: Global, place: Place) -> Result<Vec<u8>, AllocError> {
+        name_in(alloc, &self.parts.image, self.policy.ram_pages, place)
     }
 }

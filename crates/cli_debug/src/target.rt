@@ -4,6 +4,7 @@ mod beginning;
 mod debugged;
 mod debugging;
 mod stepping;
+mod turns;
 
 pub use beginning::Beginning;
 pub use debugged::DebuggedMachine;

@@ -1,5 +1,5 @@
 -- The files that runs begin from, by the stages of the plan of `run`.
-use Rattle.std.proofs.Common.{◌≡◌, ℕ, List, Bool, true, refl, sym, ◌∙◌, ap, subst, inr, Option, Some, None, Result, Ok, Err, Vec, if◌then◌else◌}
+use Rattle.std.proofs.Common.{◌≡◌, ℕ, List, Bool, IsTrue, true, refl, sym, ◌∙◌, ap, subst, inr, Option, Some, None, Result, Ok, Err, Vec, if◌then◌else◌}
 use Rattle.std.specs.Str.{bytes_eq}
 use Rattle.std.specs.declared.alloc.Global.{Global}
 use Rattle.sv_types.specs.Kernel.{LoadedSegment, header_entry, kernel_refusal, text_of}
@@ -17,9 +17,10 @@ use Rattle.cli_plans.specs.declared.command_words.command.DiskKind.{DiskKind}
 use Rattle.cli_plans.specs.declared.file_fault.FileFault.{FileFault}
 use Rattle.cli_plans.specs.declared.refusal.Refusal.TheVariants.{Measure, Entry}
 use Rattle.cli_plans.specs.CommandLine.{RunWords, Text}
-use Rattle.cli_plans.specs.Plans.{Due, Refuse, RunFrom, Plan, End, Judge, Held, max_script_bytes, part_judged, kernel_part, disk_part}
+use Rattle.cli_plans.specs.Plans.{Due, Refuse, RunFrom, Plan, End, Judge, Held, max_image_bytes, max_script_bytes, policy_part, part_judged, kernel_part, disk_part}
 use Rattle.cli_plans.specs.Plans.{text_part, script_part, image_measure, boot_judged, boot_plan, start_with}
 use Rattle.cli_plans.specs.Reading.{FoundAs, Follows}
+use Rattle.cli_plans.proofs.PlanLemmas.{follows_keeps}
 use Rattle.secvisor_cli.specs.declared.ready.Stop.{Stop}
 use Rattle.secvisor_cli.specs.Ready.{Passes, Staged, IsScript}
 use Rattle.secvisor_cli.proofs.ReadyLemmas.{bytes_eq-same}
@@ -28,6 +29,15 @@ use Rattle.cli_trials.specs.declared.order.OwnOrder.{OwnOrder}
 use Rattle.cli_trials.specs.declared.order.OwnOrder.TheVariants as own
 use Rattle.cli_trials.specs.Orders.{order_schedule}
 use Rattle.cli_trials.specs.Reading.{run_due}
+
+-- ---- the image
+
+-- a policy that was read before changes nothing that the files hold
+pub held_image : (policy image file : List ℕ) (rules : Rules) (old now next : FilesState) (due : Due) → Passes (policy_part policy) rules old now →
+    FoundAs now next image max_image_bytes (Held file) → IsTrue old.tells → old.held image ≡ Some file
+held_image policy image file rules old now next due pass found tells =
+    let kept = follows_keeps (policy_part policy (λ _. End due)) old now (Some due) (pass.follows (λ _. End due) now (Some due) (refl, refl)) in
+    ap (λ (held : List ℕ → Option (List ℕ)). held image) (sym kept.held) ∙ found.1 (subst (λ (b : Bool). IsTrue b) (sym kept.tells) tells)
 
 -- ---- the script
 

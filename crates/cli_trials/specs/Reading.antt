@@ -1,5 +1,5 @@
 -- The files that runs begin from, as `run` reads them. This project's own.
-use Rattle.std.specs.Prelude.{◌≡◌, ◌%◌, ℕ, List, length, Some, Result, Ok, Err}
+use Rattle.std.specs.Prelude.{◌≡◌, ◌%◌, ℕ, List, length, IsTrue, Some, Result, Ok, Err}
 use Rattle.sv_types.specs.Policies.{Rules}
 use Rattle.sv_types.specs.Schedule.{Schedule, first_events}
 use Rattle.spec_reference.specs.BlockDisk.{sector_size}
@@ -31,6 +31,8 @@ pub record BeginsFrom (words : RunWords) (parts : Parts) (old new : FilesState) 
   pub reads : rules_of_text parts.policy.items ≡ Ok rules
   pub sectors : length parts.disk.items % sector_size ≡ 0
   pub accepted : IsAccepted parts.order
+  -- the image is what its name holds, where the files tell what they hold
+  pub held : IsTrue old.tells → old.held words.image ≡ Some parts.image.items
   pub follows : Follows (run_plan words) old new (Some (run_due words rules parts.image.items parts.disk.items (order_schedule rules.harts parts.order)))
 
 abbrev pub PartsRead : RunWords → FilesState → FilesState → Result Parts Stop → Type 0

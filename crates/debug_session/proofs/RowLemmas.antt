@@ -1,8 +1,8 @@
 -- Events that are made in rows, one row after the other.
-use Rattle.std.proofs.Common.{◌≡◌, ℕ, zero, suc, ◌+◌, ◌-◌, ◌<◌, ◌≤◌, Bool, true, false, not, ◌||◌, if◌then◌else◌, List, [], length, refl, sym, ◌∙◌, ap, ap₂, subst, Option, Some, None, arith}
-use Rattle.std.specs.Prelude.{is_some, nat_lt, option_and_then}
-use Rattle.std.proofs.lemmas.Bool.{le-ltb}
-use Rattle.debug_session.specs.Rows.{IsRow, IsFree}
+use Rattle.std.proofs.Common.{◌≡◌, ℕ, zero, suc, ◌+◌, ◌-◌, ◌<◌, ◌≤◌, Bool, true, false, not, ◌||◌, ◌&&◌, ◌==◌, if◌then◌else◌, List, [], ◌∷◌, length, refl, sym, ◌∙◌, ap, ap₂, subst, Option, Some, None, arith}
+use Rattle.std.specs.Prelude.{is_none, is_some, nat_lt, option_and_then}
+use Rattle.std.proofs.lemmas.Bool.{eqb-true, and_parts}
+use Rattle.debug_session.specs.Rows.{IsRow, is_free}
 use Rattle.debug_session.specs.Runs.{Run, after, ahead, change_at, events_left, first_halt, halts_after, is_break, is_running, last_change, meets_break, next_turn, place_of, state}
 use Rattle.debug_session.specs.Watches.{first_changed}
 use Rattle.debug_session.specs.declared.motion.Change.{Change}
@@ -149,15 +149,36 @@ rows_over stands run rows now h over =
 
 -- ---- what a free motion is
 
-pub free_ahead : {T : Type 0} (stands : T → Run → Type 0) (now : T) (run : Run) (breaks : List ℕ) (watches : List Watch) (steps : Option ℕ) → IsFree breaks watches steps →
+none_in : {A : Type 0} (xs : List A) → (length xs == 0) ≡ true → xs ≡ []
+none_in [] is = refl
+none_in (x ∷ xs) is = absurd (omega (arith, eqb-true (length (x ∷ xs)) 0 is))
+
+is_no_step : (steps : Option ℕ) → is_none steps ≡ true → steps ≡ None
+is_no_step None is = refl
+is_no_step (Some hart) is = absurd (cc is)
+
+record HasNone (breaks : List ℕ) (watches : List Watch) (steps : Option ℕ) : Type 0 where
+  breaks_none : breaks ≡ []
+  watches_none : watches ≡ []
+  no_step : steps ≡ None
+
+has_none : (breaks : List ℕ) (watches : List Watch) (steps : Option ℕ) → is_free breaks watches steps ≡ true → HasNone breaks watches steps
+has_none breaks watches steps free =
+    let all = and_parts (length breaks == 0 && length watches == 0) (is_none steps) free in
+    let both = and_parts (length breaks == 0) (length watches == 0) all.0 in
+    record { breaks_none = none_in breaks both.0; watches_none = none_in watches both.1; no_step = is_no_step steps all.1 }
+
+pub free_ahead : {T : Type 0} (stands : T → Run → Type 0) (now : T) (run : Run) (breaks : List ℕ) (watches : List Watch) (steps : Option ℕ) → is_free breaks watches steps ≡ true →
     stands now (ahead [] [] None run) → stands now (ahead breaks watches steps run)
 free_ahead stands now run breaks watches steps free at =
-    subst (λ s. stands now (ahead breaks watches s run)) (sym free.no_steps)
-    (subst (λ ws. stands now (ahead breaks ws None run)) (sym free.no_watches)
-    (subst (λ bs. stands now (ahead bs [] None run)) (sym free.no_breaks) at))
+    let none = has_none breaks watches steps free in
+    subst (λ s. stands now (ahead breaks watches s run)) (sym none.no_step)
+    (subst (λ ws. stands now (ahead breaks ws None run)) (sym none.watches_none)
+    (subst (λ bs. stands now (ahead bs [] None run)) (sym none.breaks_none) at))
 
-pub free_change : (run : Run) (there : ℕ) (breaks : List ℕ) (watches : List Watch) (steps : Option ℕ) → IsFree breaks watches steps → None ≡ last_change watches run there
-free_change run there breaks watches steps free = subst (λ ws. None ≡ last_change ws run there) (sym free.no_watches) (none_changed run there)
+pub free_change : (run : Run) (there : ℕ) (breaks : List ℕ) (watches : List Watch) (steps : Option ℕ) → is_free breaks watches steps ≡ true → None ≡ last_change watches run there
+free_change run there breaks watches steps free =
+    subst (λ ws. None ≡ last_change ws run there) (sym (has_none breaks watches steps free).watches_none) (none_changed run there)
 
 -- ---- so many events, in rows
 

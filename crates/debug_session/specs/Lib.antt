@@ -5,6 +5,7 @@ pub mod Runs
 pub mod Rows
 pub mod Description
 pub mod Pages
+pub mod Places
 pub mod Reasons
 pub mod Walks
 pub mod Questions

@@ -1,5 +1,5 @@
 -- Events that are made in a row. This project's own.
-use Rattle.std.specs.Prelude.{◌≡◌, ◌<◌, ◌≤◌, ◌+◌, ℕ, List, [], true, length, Option, None}
+use Rattle.std.specs.Prelude.{◌≡◌, ◌<◌, ◌≤◌, ◌+◌, ◌==◌, ◌&&◌, ℕ, Bool, true, List, length, Option, is_none}
 use Rattle.debug_session.specs.Runs.{Run, after, is_running, state}
 use Rattle.debug_session.specs.declared.watches.Watch.{Watch}
 
@@ -11,7 +11,5 @@ pub record IsRow {T : Type 0} (stands : T → Run → Type 0) (run : Run) (count
   pub running : (n : ℕ) → run.made < n → n < run.made + count → is_running (state (after run n)).journal.verdict ≡ true
 
 -- nothing is looked at on the way
-pub record IsFree (breaks : List ℕ) (watches : List Watch) (steps : Option ℕ) : Type 0 where
-  pub no_breaks : breaks ≡ []
-  pub no_watches : watches ≡ []
-  pub no_steps : steps ≡ None
+abbrev pub is_free : (breaks : List ℕ) → (watches : List Watch) → (steps : Option ℕ) → Bool
+is_free breaks watches steps = length breaks == 0 && length watches == 0 && is_none steps

@@ -12,8 +12,9 @@ use Rattle.debug_session.specs.declared.motion.Change.{Change}
 use Rattle.debug_session.specs.declared.motion.Found.{Found}
 use Rattle.debug_session.specs.declared.watches.Watch.{Watch}
 
--- where it begins, the events that it may make, and how many of them are made
+-- where it begins, the events that it may make, and how many of them are made; and its kernel's file, which names addresses
 pub record Run : Type 0 where
+  pub kernel : List ℕ
   pub start : State
   pub events : List Event
   pub made : ℕ
@@ -121,6 +122,10 @@ unfoldable pub last_below : (passes : ℕ → Bool) → ℕ → Option ℕ
 last_below passes zero = None
 last_below passes (suc n) = if passes n then Some n else last_below passes n
 
+-- the number of events before a hart's last turn among those that are made, none where it had none
+unfoldable pub last_turn : (hart : ℕ) → Run → Option ℕ
+last_turn hart run = last_below (λ n. is_step (Some hart) (next_turn (after run n))) run.made
+
 -- a break is met; where a hart steps, its turn is next
 unfoldable pub is_met : (breaks : List ℕ) → (steps : Option ℕ) → Run → Bool
 is_met breaks None run = meets_break breaks run
@@ -145,6 +150,10 @@ behind breaks watches steps run = after run (unwrap_or (back_number breaks watch
 -- what is found there
 abbrev pub found_at : List Watch → Run → ℕ → Found
 found_at watches run n = record { made = n; change = change_at watches run n }
+
+-- a hart's turn is found; nothing is watched there
+abbrev pub found_turn : ℕ → Found
+found_turn n = record { made = n; change = None }
 
 abbrev pub number_in : Option Found → ℕ
 number_in None = 0

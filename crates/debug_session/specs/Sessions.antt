@@ -30,7 +30,7 @@ use Rattle.debug_session.specs.Looks.{error_text, hart_words, register_text, reg
 use Rattle.debug_session.specs.Memory.{seen_bytes}
 use Rattle.debug_session.specs.Runs.{Run, state, ahead, behind, at_event, found_behind, last_change, meets_break, next_turn}
 use Rattle.debug_session.specs.Pages.{pages_text}
-use Rattle.debug_session.specs.Reasons.{reason_text}
+use Rattle.debug_session.specs.Reasons.{reason_names, reason_text}
 use Rattle.debug_session.specs.Walks.{translation_text}
 use Rattle.debug_session.specs.Questions.{events_text, question_of, text_of, usage_text}
 use Rattle.debug_session.specs.declared.questions.Question.{Question}
@@ -298,15 +298,27 @@ asked_run question.Why run = run
 asked_run (question.Translate address) run = run
 asked_run question.Unknown run = run
 
--- the text that answers it, about a run and its hart
-abbrev pub asked_text : Question → Run → (hart : ℕ) → List ℕ
-asked_text question.Events run hart = events_text run.made
-asked_text (question.At number) run hart = events_text run.made
-asked_text question.Pages run hart = pages_text (protections_of (state run))
-asked_text question.Why run hart = reason_text (state run).journal
-asked_text (question.Translate address) run hart =
+-- the text that answers it but for names, about a run and its hart
+abbrev pub plain_text : Question → Run → (hart : ℕ) → List ℕ
+plain_text question.Events run hart = events_text run.made
+plain_text (question.At number) run hart = events_text run.made
+plain_text question.Pages run hart = pages_text (protections_of (state run))
+plain_text question.Why run hart = reason_text (state run).journal
+plain_text (question.Translate address) run hart =
     of_hart (λ h. translation_text (state run).ram (protections_of (state run)) h address) (hart_at run hart)
-asked_text question.Unknown run hart = usage_text
+plain_text question.Unknown run hart = usage_text
+
+-- the names of the addresses in a reason
+abbrev pub text_names : Question → Run → List ℕ
+text_names question.Events run = []
+text_names (question.At number) run = []
+text_names question.Pages run = []
+text_names question.Why run = reason_names run.kernel (state run).journal
+text_names (question.Translate address) run = []
+text_names question.Unknown run = []
+
+abbrev pub asked_text : Question → Run → (hart : ℕ) → List ℕ
+asked_text q run hart = plain_text q run hart ++ text_names q run
 
 -- the most bytes of text in an answer
 abbrev pub max_text : ℕ

@@ -1,7 +1,7 @@
 // How a run goes on.
-ghost use Rattle.std.specs.Prelude.{◌≡◌, ◌<◌, ◌≤◌, ◌+◌, ◌||◌, [], None, true, OnOk, IfOk, is_some, length, option_map};
+ghost use Rattle.std.specs.Prelude.{◌≡◌, ◌<◌, ◌≤◌, ◌+◌, ◌||◌, [], None, OnOk, IfOk, is_some, length, option_map, unwrap_or};
 ghost use Rattle.spec_reference.specs.States.{has_number};
-ghost use Rattle.debug_session.specs.Rows.{IsFree};
+ghost use Rattle.debug_session.specs.Rows.{is_free};
 ghost use Rattle.debug_session.specs.Runs as spec;
 
 use crate::host::Host;
@@ -164,7 +164,7 @@ fn finish<T: Target>(target: &mut T) -> Result<(), AllocError>
 
 // Nothing is looked at on the way.
 fn is_free(breaks: &[u64], watches: &[Watch], steps: Option<u8>) -> bool
-    ensures { result ≡ true → IsFree breaks.now watches.now steps }
+    ensures { result ≡ is_free breaks.now watches.now steps }
 {
     breaks.is_empty() && watches.is_empty() && steps.is_none()
 }
@@ -213,17 +213,6 @@ pub(crate) fn go_to<T: Target, R: Threads + Sync>(
     advance_at_most(target, number)
 }
 
-// A break is met, or a hart that steps has the next turn.
-#[tactic(auto, unfolding(crate::specs::Runs::is_met))]
-fn is_met<T: Target>(target: &T, breaks: &[u64], steps: Option<u8>) -> bool
-    ensures { (run : spec.Run) → T.stands target.now run → result ≡ spec.is_met breaks.now steps run }
-{
-    match steps {
-        None => meets_break(target, breaks),
-        Some(hart) => is_step(Some(hart), target.next_turn()),
-    }
-}
-
 fn is_hit(is_met: bool, change: Option<Change>) -> bool
     ensures { result ≡ (is_met || is_some change) }
 {
@@ -246,38 +235,29 @@ fn advance_by<T: Target>(target: &mut T, count: u64) -> Result<(), AllocError>
     Ok(())
 }
 
-// The last place to go back to before so many events, from the first event on. These events are made.
-fn last_target<T: Target>(
+// The last place before so many events at which a break is met or the next event changes what is watched, from the first event on.
+// These events are made.
+fn last_hit<T: Target>(
     target: &mut T,
     alloc: Global,
     breaks: &[u64],
     watches: &[Watch],
-    steps: Option<u8>,
     count: u64,
 ) -> Result<Option<Found>, AllocError>
     ensures found { IfOk result (λ found. (run : spec.Run) → T.stands target.old (spec.after run 0) → count ≤ length run.events →
-        found ≡ option_map (spec.found_at watches.now run) (spec.last_below (spec.is_target breaks.now watches.now steps run) count)) }
+        found ≡ option_map (spec.found_at watches.now run) (spec.last_below (spec.is_target breaks.now watches.now None run) count)) }
     ensures moved { OnOk result ((run : spec.Run) → T.stands target.old (spec.after run 0) → count ≤ length run.events →
         T.stands target.new (spec.after run count)) }
 {
     let mut last = None;
     'events: for n in 0..count {
-        let is_met = is_met(target, breaks, steps);
+        let is_met = meets_break(target, breaks);
         let change = advance_watching(target, alloc, watches)?;
         if is_hit(is_met, change) {
             last = Some(Found { made: n, change });
         }
     }
     Ok(last)
-}
-
-fn watches_back(steps: Option<u8>, watches: &[Watch]) -> &[Watch]
-    ensures { result.now ≡ spec.watches_back steps watches.now }
-{
-    match steps {
-        None => watches,
-        Some(_) => &[],
-    }
 }
 
 fn number_of(found: Option<Found>) -> u64
@@ -289,9 +269,62 @@ fn number_of(found: Option<Found>) -> u64
     }
 }
 
-/// A run goes back to the last place before, and says what is found there; else it begins anew. It is made once up to where it was,
-/// and once more up to that place.
+// A run is made anew, up to so many events.
+fn begin_again<T: Target, R: Threads + Sync>(
+    target: &mut T,
+    host: &Host<'_, R>,
+    count: u64,
+) -> Result<(), AllocError>
+    ensures { OnOk result ((run : spec.Run) → T.stands target.old run → count ≤ length run.events → T.stands target.new (spec.after run count)) }
+{
+    target.restart(host.rt, host.alloc)?;
+    advance_by(target, count)
+}
+
+// Back to the last place at which a break is met or a watched word is about to change. The run is made once up to where it was, to
+// find that place, and once more up to it.
 #[tactic(auto, unfolding(crate::specs::Runs::behind, crate::specs::Runs::back_number, crate::specs::Runs::found_behind))]
+fn go_to_hit<T: Target, R: Threads + Sync>(
+    target: &mut T,
+    host: &Host<'_, R>,
+    breaks: &[u64],
+    watches: &[Watch],
+) -> Result<Option<Found>, AllocError>
+    ensures moved { OnOk result ((run : spec.Run) → T.stands target.old run → T.stands target.new (spec.behind breaks.now watches.now None run)) }
+    ensures found { IfOk result (λ found. (run : spec.Run) → T.stands target.old run → found ≡ spec.found_behind breaks.now watches.now None run) }
+{
+    let made = target.events_made();
+    target.restart(host.rt, host.alloc)?;
+    let found = last_hit(target, host.alloc, breaks, watches, made)?;
+    begin_again(target, host, number_of(found))?;
+    Ok(found)
+}
+
+fn found_turn(number: Option<u64>) -> Option<Found>
+    ensures { result ≡ option_map spec.found_turn number }
+{
+    match number {
+        Some(made) => Some(Found { made, change: None }),
+        None => None,
+    }
+}
+
+// One turn of a hart back. The order of events tells where that was, so the run is made once, up to there.
+fn step_back<T: Target, R: Threads + Sync>(
+    target: &mut T,
+    host: &Host<'_, R>,
+    hart: u8,
+) -> Result<Option<Found>, AllocError>
+    ensures moved { OnOk result ((run : spec.Run) → T.stands target.old run →
+        T.stands target.new (spec.after run (unwrap_or (spec.last_turn hart run) 0))) }
+    ensures found { IfOk result (λ found. (run : spec.Run) → T.stands target.old run → found ≡ option_map spec.found_turn (spec.last_turn hart run)) }
+{
+    let number = target.last_turn(host.alloc, hart)?;
+    begin_again(target, host, number.unwrap_or(0))?;
+    Ok(found_turn(number))
+}
+
+/// A run goes back to the last place before, and says what is found there; else it begins anew.
 pub(crate) fn go_back<T: Target, R: Threads + Sync>(
     target: &mut T,
     host: &Host<'_, R>,
@@ -302,11 +335,8 @@ pub(crate) fn go_back<T: Target, R: Threads + Sync>(
     ensures moved { OnOk result ((run : spec.Run) → T.stands target.old run → T.stands target.new (spec.behind breaks.now watches.now steps run)) }
     ensures found { IfOk result (λ found. (run : spec.Run) → T.stands target.old run → found ≡ spec.found_behind breaks.now watches.now steps run) }
 {
-    let made = target.events_made();
-    let watches = watches_back(steps, watches);
-    target.restart(host.rt, host.alloc)?;
-    let found = last_target(target, host.alloc, breaks, watches, steps, made)?;
-    target.restart(host.rt, host.alloc)?;
-    advance_by(target, number_of(found))?;
-    Ok(found)
+    match steps {
+        Some(hart) => step_back(target, host, hart),
+        None => go_to_hit(target, host, breaks, watches),
+    }
 }

@@ -350,7 +350,7 @@ fn answer_question<T: Target, R: Threads + Sync>(
 {
     move_to(host, target, question)?;
     let text = asked_text(host.alloc, target, question, desk.looks)?;
-    give_text(host.alloc, desk, text.as_str().as_bytes(), out)
+    give_text(host.alloc, desk, &text, out)
 }
 
 fn comma_in(payload: &[u8]) -> Option<usize>

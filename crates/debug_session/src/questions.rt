@@ -7,7 +7,7 @@ ghost use Rattle.debug_session.specs.Sessions as session;
 ghost use Rattle.debug_session.specs.Walks.{translation_text};
 
 use crate::pages::pages_text;
-use crate::reasons::reason_of;
+use crate::reasons::{push_names, reason_of};
 use crate::target::Target;
 use crate::walks::translation_text;
 use gdb_protocol::number_of;
@@ -135,14 +135,14 @@ fn translated<T: Target>(
     }
 }
 
-/// The text that answers a question about a run and its hart.
-pub(crate) fn asked_text<T: Target>(
+// The text that answers a question about a run and its hart, but for names.
+fn plain_text<T: Target>(
     alloc: Global,
     target: &T,
     question: Question,
     hart: u8,
 ) -> Result<String, AllocError>
-    ensures { IfOk result (λ text. (run : Run) → T.stands target.now run → string_bytes text ≡ session.asked_text question run hart) }
+    ensures { IfOk result (λ text. (run : Run) → T.stands target.now run → string_bytes text ≡ session.plain_text question run hart) }
 {
     match question {
         Question::Events | Question::At(_) => events_text(alloc, target.events_made()),
@@ -156,4 +156,33 @@ pub(crate) fn asked_text<T: Target>(
         Question::Translate(address) => translated(alloc, target, target.hart(hart), address),
         Question::Unknown => usage_text(alloc),
     }
+}
+
+// The names of the addresses in a reason are put at the end.
+fn push_text_names<T: Target>(
+    alloc: Global,
+    out: &mut Vec<u8>,
+    target: &T,
+    question: Question,
+) -> Result<(), AllocError>
+    ensures { OnOk result ((run : Run) → T.stands target.now run → out.new.items ≡ out.old.items ++ session.text_names question run) }
+{
+    match question {
+        Question::Why => push_names(alloc, out, target),
+        _ => Ok(()),
+    }
+}
+
+/// The text that answers a question about a run and its hart.
+pub(crate) fn asked_text<T: Target>(
+    alloc: Global,
+    target: &T,
+    question: Question,
+    hart: u8,
+) -> Result<Vec<u8>, AllocError>
+    ensures { IfOk result (λ text. (run : Run) → T.stands target.now run → text.items ≡ session.asked_text question run hart) }
+{
+    let mut text = plain_text(alloc, target, question, hart)?.into_bytes();
+    push_text_names(alloc, &mut text, target, question)?;
+    Ok(text)
 }

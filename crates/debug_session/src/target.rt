@@ -4,10 +4,12 @@ ghost use Rattle.std.specs.Prelude.{◌≡◌, ◌<◌, ◌≤◌, ℕ, IfOk, On
 ghost use Rattle.spec_processor.specs.Regions.{max_ram_pages};
 ghost use Rattle.spec_reference.specs.SavedStates.{saved_hart};
 ghost use Rattle.spec_reference.specs.States.{protections_of};
+ghost use Rattle.debug_session.specs.Places.{place_name};
 ghost use Rattle.debug_session.specs.Rows.{IsRow};
-ghost use Rattle.debug_session.specs.Runs.{Run, after, events_left, next_turn, place_of, state};
+ghost use Rattle.debug_session.specs.Runs.{Run, after, events_left, last_turn, next_turn, place_of, state};
 ghost use Rattle.debug_session.specs.Sessions.{lines_of};
 
+use crate::places::Place;
 use spec_processor::Lines;
 use spec_reference::saved_machine::SavedHart;
 use std::alloc::{AllocError, Global};
@@ -36,6 +38,10 @@ pub trait Target {
     fn next_turn(&self) -> Option<u8>
         ensures { (run : Run) → stands self.now run → result ≡ next_turn run };
 
+    /// The number of events before a hart's last turn among those that are made. None where it had none.
+    fn last_turn(&self, alloc: Global, hart: u8) -> Result<Option<u64>, AllocError>
+        ensures { IfOk result (λ number. (run : Run) → stands self.now run → number ≡ last_turn hart run) };
+
     /// Where a hart is about to fetch. None where it is stopped or there is none.
     fn fetch_place(&self, hart: u8) -> Option<u64>
         ensures { (run : Run) → stands self.now run → result ≡ place_of run hart };
@@ -63,6 +69,10 @@ pub trait Target {
     /// What happened so far, counted.
     fn counts(&self) -> Counts
         ensures { (run : Run) → stands self.now run → result ≡ (state run).journal.counts };
+
+    /// The name of a place by the symbols of the run's kernel. Nothing where it has none.
+    fn place_name(&self, alloc: Global, place: Place) -> Result<Vec<u8>, AllocError>
+        ensures { IfOk result (λ name. (run : Run) → stands self.now run → name.items ≡ place_name run.kernel place) };
 
     /// How each page of RAM is guarded.
     fn protections(&self) -> &[Protection]

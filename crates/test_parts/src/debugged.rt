@@ -1,6 +1,6 @@
 // A session with a target of two harts and a page of RAM, over bytes that gdb sends and bytes that it never sends.
 
-use debug_session::{Target, serve};
+use debug_session::{Place, Target, serve};
 use host_io::MemSink;
 use live_keys::MemKeys;
 use spec_processor::{Lines, Mode, REGISTERS};
@@ -34,6 +34,18 @@ impl Target for Toy {
 
     fn next_turn(&self) -> Option<u8> {
         Some((self.made % 2) as u8)
+    }
+
+    fn last_turn(&self, _alloc: Global, hart: u8) -> Result<Option<u64>, AllocError> {
+        let made = self.made.min(100);
+        if made == 0 {
+            return Ok(None);
+        }
+        let last = made - 1;
+        if last % 2 == u64::from(hart) {
+            return Ok(Some(last));
+        }
+        Ok(last.checked_sub(1))
     }
 
     fn fetch_place(&self, hart: u8) -> Option<u64> {
@@ -82,6 +94,10 @@ impl Target for Toy {
 
     fn counts(&self) -> Counts {
         Counts::default()
+    }
+
+    fn place_name(&self, alloc: Global, _place: Place) -> Result<Vec<u8>, AllocError> {
+        Ok(Vec::new(alloc))
     }
 
     fn protections(&self) -> &[Protection] {
@@ -146,6 +162,14 @@ fn motions(rt: HostRuntime) -> Result<(), Fail> {
         )?
     );
     assert!(rt; is_answered(&rt, alloc, b"$bc#c5", b"+$T05thread:01;replaylog:begin;#50")?);
+    assert!(rt;
+        is_answered(
+            &rt,
+            alloc,
+            b"$vCont;s:1#23$bs#d5$bs#d5",
+            b"+$T05thread:01;#07+$T05thread:01;#07+$T05thread:01;replaylog:begin;#50"
+        )?
+    );
     Ok(())
 }
 

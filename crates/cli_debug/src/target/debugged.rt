@@ -7,7 +7,8 @@ ghost use Rattle.cli_debug.specs.Upcoming.{most_upcoming};
 
 use crate::target::beginning::Beginning;
 use crate::target::stepping::{after_row, draw, make_row, row_asked, turning};
-use debug_session::Target;
+use crate::target::turns::last_turn_in;
+use debug_session::{Place, Target};
 use machine::Machine;
 use script::{EventRun, Script};
 use spec_processor::Lines;
@@ -53,7 +54,8 @@ impl<B: Beginning + Drop> DebuggedMachine<B> {
         events: u64,
     ) -> Result<DebuggedMachine<B>, AllocError>
         requires { events ≤ max_events }
-        ensures { IfOk result (λ t. StandsAt B.start B.schedule t (run_from (B.start beginning) (first_events events (B.schedule beginning)))) }
+        ensures { IfOk result (λ t. StandsAt B.kernel B.start B.schedule t
+            (run_from (B.kernel beginning) (B.start beginning) (first_events events (B.schedule beginning)))) }
     {
         let machine = beginning.machine(rt, alloc)?;
         let mut script = beginning.script(alloc)?;
@@ -74,7 +76,7 @@ impl<B: Beginning + Drop> DebuggedMachine<B> {
 impl<B: Beginning + Drop> Target for DebuggedMachine<B> {
     ghost use Rattle.cli_debug.specs.Debugged.{StandsAt};
 
-    ghost stands = { StandsAt B.start B.schedule };
+    ghost stands = { StandsAt B.kernel B.start B.schedule };
 
     fn most_left(&self) -> u64 {
         match self.next {
@@ -93,6 +95,11 @@ impl<B: Beginning + Drop> Target for DebuggedMachine<B> {
 
     fn next_turn(&self) -> Option<u8> {
         turning(self.next)
+    }
+
+    fn last_turn(&self, alloc: Global, hart: u8) -> Result<Option<u64>, AllocError> {
+        let mut script = self.beginning.script(alloc)?;
+        Ok(last_turn_in(&mut script, self.events, hart, self.made))
     }
 
     fn fetch_place(&self, hart: u8) -> Option<u64> {
@@ -121,6 +128,11 @@ impl<B: Beginning + Drop> Target for DebuggedMachine<B> {
 
     fn counts(&self) -> Counts {
         self.machine.counts()
+    }
+
+    fn place_name(&self, alloc: Global, place: Place) -> Result<Vec<u8>, AllocError> {
+        let name = self.beginning.place_name(alloc, place)?;
+        Ok(name)
     }
 
     fn protections(&self) -> &[Protection] {

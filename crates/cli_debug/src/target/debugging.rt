@@ -29,7 +29,7 @@ pub fn debug<R: Threads + Sync, B: Beginning + Drop, K: Keys, O: Sink>(
     requires count { CanCount (K.state keys.old).faults }
     // For all bytes that come in, those that are written are the frames of the answers of a session over the reference machine's
     // run, each from its state after the events that the packets have made.
-    ensures headline { Debugs (run_from (B.start beginning) (first_events events (B.schedule beginning)))
+    ensures headline { Debugs (run_from (B.kernel beginning) (B.start beginning) (first_events events (B.schedule beginning)))
         (K.state keys.old) (K.state keys.new) (O.state out.old) (O.state out.new) result }
 {
     let mut target = DebuggedMachine::new(rt, alloc, beginning, events)?;

@@ -9,6 +9,7 @@ use Rattle.secvisor_cli.proofs.ReadyLemmas.{err_by, stopped_ready, read_ready}
 use Rattle.secvisor_cli.proofs.StageLemmas.{pass_ready, read_may, read_follows}
 use Rattle.cli_trials.specs.Orders.{order_schedule}
 use Rattle.cli_trials.specs.Reading.{BootsFrom, PartsRead, run_due}
+use Rattle.cli_trials.proofs.PartLemmas.{held_image}
 use Rattle.cli_trials.proofs.parts.read_parts.Goals as goal
 
 pub read_policy_text-requires-clause-permitted : goal.read_policy_text-requires-clause-permitted
@@ -67,6 +68,7 @@ returns g c =
       reads = c.in_ok-read.ensures.text;
       sectors = c.in_ok-rest.ensures.sectors;
       accepted = c.in_ok-rest.ensures.accepted;
+      held = held_image words.policy words.image c.in_ok-image.image.items rules _ _ _ due c.in_ok-read.ensures.stage c.in_ok-image.ensures;
       follows = c.in_ok-read.ensures.stage.follows (image_plan words) (g.F.Files.state c.boot_parts.new.files) (Some due)
           (read_follows Part.Image c.args.asked.now.image.now max_image_bytes (λ (b : List ℕ). kernel_part rules b (boot_plan words rules b)) (g.F.Files.state c.read_policy_text.new.files)
           (g.F.Files.state c.read_part.new.files) (g.F.Files.state c.boot_parts.new.files) c.in_ok-image.image.items (Some due) c.in_ok-image.ensures

@@ -1,25 +1,22 @@
-use Rattle.std.proofs.Common.{◌≡◌, ◌+◌, ◌≤◌, List, length, ◌∙◌, ap, subst, arith}
-use Rattle.std.specs.Prelude.{unwrap_or, option_map}
-use Rattle.debug_session.specs.Runs.{after, behind, back_number, found_at, is_target, last_below, number_in}
-use Rattle.debug_session.specs.declared.watches.Watch.{Watch}
-use Rattle.debug_session.proofs.Motions.{last_small, number_found}
+use Rattle.std.proofs.Common.{◌≡◌, ℕ, ◌∙◌, sym, subst, Option}
+use Rattle.std.specs.Prelude.{OnOk, IfOk}
+use Rattle.debug_session.specs.Runs.{Run, behind, found_behind}
+use Rattle.debug_session.specs.declared.motion.Found.{Found}
+use Rattle.debug_session.proofs.Motions.{if_ok, on_ok, turn_behind, turn_found}
 use Rattle.debug_session.proofs.motion.go_back.Goals as goal
 
-pub returns-clause-moved : goal.returns-clause-moved
-unfolding behind back_number
-returns-clause-moved g c = λ run stands.
-    let watches = c.watches_back-watches.result.now in
-    let p = is_target c.args.breaks.now watches c.args.steps run in
-    let made : c.events_made-made.result ≡ run.made = c.events_made-made.ensures.made run stands in
-    let within : run.made ≤ length run.events = c.events_made-made.ensures.within run stands in
-    let few : c.events_made-made.result ≤ length run.events = omega (arith, made, within) in
-    let anew = c.in_ok-restart.ensures run stands in
-    let found = c.in_ok-found.ensures.found run anew few in
-    let number : c.number_of.result ≡ unwrap_or (last_below p run.made) 0 =
-    c.number_of.ensures ∙ ap number_in (found ∙ ap (λ n. option_map (found_at watches run) (last_below p n)) made) ∙ number_found watches run (last_below p run.made) in
-    let small : unwrap_or (last_below p run.made) 0 ≤ run.made = last_small p run.made in
-    let again = c.in_ok-restart-2.ensures (after run c.events_made-made.result) (c.in_ok-found.ensures.moved run anew few) in
-    let there = c.in_ok-advance_by.ensures (after run 0) again (omega (arith, number, small, within)) in
-    let place : 0 + c.number_of.result ≡ unwrap_or (last_below p run.made) 0 = omega (arith, number) in
-    subst (λ (ws : List Watch). g.T.Target.stands c.advance_by.new.target (after run (unwrap_or (last_below (is_target c.args.breaks.now ws c.args.steps run) run.made) 0)))
-    c.watches_back-watches.ensures (subst (λ m. g.T.Target.stands c.advance_by.new.target (after run m)) place there)
+pub returns-in-Some-clause-moved : goal.returns-in-Some-clause-moved
+returns-in-Some-clause-moved g c =
+    let stands = g.T.Target.stands in
+    subst (λ (steps : Option ℕ).
+    OnOk c.step_back.result ((run : Run) → stands c.args.target.now run → stands c.step_back.new.target (behind c.args.breaks.now c.args.watches.now steps run))) (sym c.in-Some.is)
+    (on_ok c.step_back.result c.step_back.ensures.moved (λ moved run at.
+    subst (λ (r : Run). stands c.step_back.new.target r) (turn_behind c.args.breaks.now c.args.watches.now c.in-Some.hart run) (moved run at)))
+
+pub returns-in-Some-clause-found : goal.returns-in-Some-clause-found
+returns-in-Some-clause-found g c =
+    let stands = g.T.Target.stands in
+    subst (λ (steps : Option ℕ). IfOk c.step_back.result (λ (found : Option Found).
+    (run : Run) → stands c.args.target.now run → found ≡ found_behind c.args.breaks.now c.args.watches.now steps run)) (sym c.in-Some.is)
+    (if_ok c.step_back.result c.step_back.ensures.found (λ found known run at.
+    known run at ∙ turn_found c.args.breaks.now c.args.watches.now c.in-Some.hart run))

@@ -36,6 +36,7 @@ returns-clause-row g c = λ run at within.
       some = c.make_row-count.ensures.some;
       within = within_after row c.args.self.now.left c.args.self.now.script run count is few at.within;
       stands_there = record {
+        kernel_is = at.kernel_is;
         starts = at.starts;
         events_are = at.events_are;
         made_are = ap (λ n. n + count) at.made_are;

@@ -8,6 +8,7 @@ use Rattle.cli_debug.proofs.target.debugged.DebuggedMachineTarget.restart.Goals 
 
 pub returns : goal.returns
 returns g c = λ run at. record {
+  kernel_is = at.kernel_is;
   starts = at.starts;
   events_are = at.events_are;
   made_are = refl;
