@@ -69,26 +69,26 @@ debugged_files words parts files read old new result kind begins it = record {
   };
 }
 
-refused_where : (reached : Option Due) (given : Refusal) (old new : Wire) (result : Result Status Trouble) → IsReadyWhere reached (Err (Refused given)) →
-    RefusesDebug given old new result → AnswersReached reached old new result
-refused_where None given old new result it refuses = absurd (cc it)
-refused_where (Some (Refuse refusal)) given old new result it refuses = subst (λ (r : Refusal). RefusesDebug r old new result) it refuses
-refused_where (Some (RunFrom start events save)) given old new result it refuses = absurd it
-refused_where (Some (Make name rules line)) given old new result it refuses = absurd it
+refused_where : (image : List ℕ) (files : FilesState) (reached : Option Due) (given : Refusal) (old new : Wire) (result : Result Status Trouble) → IsReadyWhere reached (Err (Refused given)) →
+    RefusesDebug given old new result → AnswersReached image files reached old new result
+refused_where image files None given old new result it refuses = absurd (cc it)
+refused_where image files (Some (Refuse refusal)) given old new result it refuses = subst (λ (r : Refusal). RefusesDebug r old new result) it refuses
+refused_where image files (Some (RunFrom start events save)) given old new result it refuses = absurd it
+refused_where image files (Some (Make name rules line)) given old new result it refuses = absurd it
 
 pub refused_files : (words : RunWords) (files read : FilesState) (given : Refusal) (keys : KeysState) (old new : SinkState) (result : Result Status Trouble) →
     Prepares (run_plan words) files read (Err (Refused given)) → Refuses given old new result → DebugsFiles words files read (wire keys old) (wire keys new) result
 refused_files words files read given keys old new result p refuses =
-    record { reached = p.reached; follows = p.follows; answers = refused_where p.reached given (wire keys old) (wire keys new) result p.ready (refl, refuses) }
+    record { reached = p.reached; follows = p.follows; answers = refused_where words.image files p.reached given (wire keys old) (wire keys new) result p.ready (refl, refuses) }
 
-wants_where : (reached : Option Due) (old : Wire) → IsReadyWhere reached (Err stop.Memory) → AnswersReached reached old old (Err Memory)
-wants_where None old it = (refl, refl)
-wants_where (Some (Refuse refusal)) old it = absurd it
-wants_where (Some (RunFrom start events save)) old it = absurd it
-wants_where (Some (Make name rules line)) old it = absurd it
+wants_where : (image : List ℕ) (files : FilesState) (reached : Option Due) (old : Wire) → IsReadyWhere reached (Err stop.Memory) → AnswersReached image files reached old old (Err Memory)
+wants_where image files None old it = (refl, refl)
+wants_where image files (Some (Refuse refusal)) old it = absurd it
+wants_where image files (Some (RunFrom start events save)) old it = absurd it
+wants_where image files (Some (Make name rules line)) old it = absurd it
 
 pub wants_files : (words : RunWords) (files read : FilesState) (old : Wire) → Prepares (run_plan words) files read (Err stop.Memory) → DebugsFiles words files read old old (Err Memory)
-wants_files words files read old p = record { reached = p.reached; follows = p.follows; answers = wants_where p.reached old p.ready }
+wants_files words files read old p = record { reached = p.reached; follows = p.follows; answers = wants_where words.image files p.reached old p.ready }
 
 -- ---- the words
 
