@@ -1,6 +1,6 @@
-pub mod DrawnEvents
 pub mod LookLemmas
 pub mod SurveyLemmas
+pub mod AdvanceLemmas
 pub mod ReadyLemmas
 pub mod EndLemmas
 pub mod AnswerLemmas

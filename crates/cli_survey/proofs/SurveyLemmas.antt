@@ -1,14 +1,11 @@
 -- A survey, its console and the sink.
-use Rattle.std.proofs.Common.{◌≡◌, ◌≢◌, ℕ, zero, suc, ◌<◌, ◌≤◌, List, [], ◌∷◌, ◌++◌, length, take, replicate, refl, sym, ◌∙◌, ap, subst}
+use Rattle.std.proofs.Common.{◌≡◌, ◌≢◌, ◌⊎◌, ℕ, zero, suc, ◌<◌, List, [], ◌∷◌, ◌++◌, length, take, replicate, refl, sym, ◌∙◌, ap, subst}
 use Rattle.std.proofs.Common.{append_assoc, append-nil, arith, slice_get, Some, inl, inr, true, false}
-use Rattle.sv_types.specs.Limits.{max_printed}
-use Rattle.sv_types.specs.declared.event.Counts.{Counts}
 use Rattle.sv_types.specs.declared.event.Event.{Event}
 use Rattle.sv_types.specs.declared.event.Rule.TheVariants.{Write}
 use Rattle.sv_types.specs.declared.event.Verdict.{Verdict}
 use Rattle.sv_types.specs.declared.event.Verdict.TheVariants.{Running, Stopped}
 use Rattle.std.specs.Prelude.{Option, None}
-use Rattle.spec_reference.specs.Counting.{CountsAtMost}
 use Rattle.spec_reference.specs.Run.{HasEnded, run, step}
 use Rattle.spec_reference.specs.Soundness.{IsSound}
 use Rattle.spec_reference.specs.Start.{IsStart, flat_start, boot_start, virtio_start, start as begin}
@@ -18,7 +15,6 @@ use Rattle.spec_hardware.specs.Machine.{Machine, HwHart}
 use Rattle.spec_hardware.specs.Reaches.{IsNew}
 use Rattle.spec_hardware.specs.StandsFor.{StandsFor}
 use Rattle.laws_simulation.proofs.StateLawsHold.{reached_sound}
-use Rattle.laws_simulation.proofs.RunsReach.{clear_law}
 use Rattle.laws_resume.specs.Keepable.{IsKeepable, IsKeepableVerdict}
 use Rattle.laws_resume.proofs.KeepableStarts.{keepable_law}
 use Rattle.laws_resume.proofs.KeepableSteps.{keeps_law}
@@ -35,18 +31,18 @@ use Rattle.host_io.specs.Outside.{SinkState, after_taking, BreaksOff}
 use Rattle.host_io.proofs.SinkLemmas.{after_taking-append, after_taking-nil}
 use Rattle.machine.specs.Repeats.{Repeats}
 use Rattle.machine.specs.Console.{Flushed}
-use Rattle.machine.specs.Standing.{HasState, Stands}
-use Rattle.machine.proofs.ConsoleLemmas.{flushed_counts, room_again}
+use Rattle.machine.specs.Standing.{Stands}
 use Rattle.machine.proofs.Passes.{pass_rest}
-use Rattle.machine.proofs.Repeated.{counts_within, one_more, repeats_stand}
+use Rattle.machine.proofs.Repeated.{one_more, repeats_stand}
 use Rattle.machine.proofs.Standing.{stands_new, stands_step, stands_away, stands_verdict, verdict_is}
 use Rattle.report.specs.Findings.{PassedWrites, RefusedLoads, no_loads, no_writes, with_write}
 use Rattle.report.specs.Views.{loads_view, writes_view}
 use Rattle.report.specs.declared.findings.found.Found.{Found}
 use Rattle.report.specs.declared.findings.loads.RefusedLoad.{RefusedLoad}
+use Rattle.cli_survey.specs.Advances.{Advances, Ends}
 use Rattle.cli_survey.specs.Refusals.{loads_in, refusals, refused, with_loads}
 use Rattle.cli_survey.proofs.LookLemmas.{loads_on, none_after, survey_on}
-use Rattle.cli_survey.specs.Surveys.{HasSurveyed, StandsAmong, SurveyBroke, SurveyWants, is_running, occurrence_of, with_passes, writes_in}
+use Rattle.cli_survey.specs.Surveys.{HasSurveyed, StandsAmong, SurveyBroke, SurveyWants, SurveysUp, is_running, occurrence_of, with_passes, writes_in}
 
 -- ---- events after others
 
@@ -100,7 +96,7 @@ unfolding hw_passed_under
 under_counts (Stopped (Write pc gpa) h turn) m = moved_counts m h (slice_get m.harts h)
 under_counts _ m = refl
 
-pass_counts : (m : Machine) → (hw_passed_over m).journal.counts ≡ m.journal.counts
+pub pass_counts : (m : Machine) → (hw_passed_over m).journal.counts ≡ m.journal.counts
 unfolding hw_passed_over
 pass_counts m = under_counts m.journal.verdict m
 
@@ -144,7 +140,7 @@ calm_after r k s = calm_under r.journal.verdict r refl k.journal.last s.number
 -- ---- the survey so far
 
 -- the survey goes on: so far the machine has been surveyed over some of the events, and the others are left
-pub record SurveysOn (start : State) (all left : List Event) (m : Machine) (found : Found) (old new : SinkState) : Type 0 where
+record SurveysOn (start : State) (all left : List Event) (m : Machine) (found : Found) (old new : SinkState) : Type 0 where
   pub done : List Event
   pub split : done ++ left ≡ all
   pub surveyed : HasSurveyed start done m found old new
@@ -159,134 +155,171 @@ start_runs s (inr (inr k)) = ap (λ (x : State). x.journal.verdict) k.same
 pub new_runs : (m : Machine) (s : State) → IsNew m s → IsStart s → m.journal.verdict ≡ Running
 new_runs m s new is_start = verdict_is m s new.stands ∙ start_runs s is_start
 
+-- nothing of it is kept where no write stopped the machine
+none_of : (v : Verdict) → IsNoWrite v → pass_of v ≡ []
+unfolding pass_of
+none_of Running none = refl
+none_of Shutdown none = refl
+none_of (Stopped (Entry target) h turn) none = refl
+none_of (Stopped (Write pc gpa) h turn) none = absurd none
+
 pub surveys_none : (start : State) (all left : List Event) (m : Machine) (w : Found) (sink : SinkState) → left ≡ all → IsNew m start → IsStart start → writes_view w.writes ≡
     no_writes → loads_view w.loads ≡ no_loads →
-    SurveysOn start all left m w sink sink
-surveys_none start all left m w sink same new is_start none unrefused = record {
-  done = [];
-  split = same;
-  surveyed = record { cleared = []; stands = stands_new m start new; writes_are = none; loads_are = unrefused; taken = sym (after_taking-nil sink) };
-  calm = none_running start.journal.verdict (start_runs start is_start);
-}
+    SurveysUp start all left m w sink sink
+surveys_none start all left m w sink same new is_start none unrefused =
+    let calm : IsNoWrite start.journal.verdict = none_running start.journal.verdict (start_runs start is_start) in
+    record {
+      done = [];
+      split = same;
+      before = start;
+      passed = sym (unpassed start calm);
+      cleared = [];
+      stands = stands_new m start new;
+      writes_are = ap (λ (ps : List Pass). with_passes (writes_view w.writes) ps) (none_of start.journal.verdict calm) ∙ none;
+      loads_are = unrefused;
+      taken = sym (after_taking-nil sink);
+      calm = calm;
+    }
+
+-- the sink is told how far the survey has come
+pub surveys_told : (start : State) (all left : List Event) (m : Machine) (w : Found) (old now new : SinkState) → SurveysUp start all left m w old now → new ≡ now →
+    SurveysUp start all left m w old new
+surveys_told start all left m w old now new up same = subst (λ (k : SinkState). SurveysUp start all left m w old k) (sym same) up
+
+-- and more events are drawn
+pub surveys_drawn : (start : State) (all left drawn : List Event) (m : Machine) (w : Found) (old now new : SinkState) → SurveysUp start all left m w old now → drawn ≡ left →
+    new ≡ now → SurveysUp start all drawn m w old new
+surveys_drawn start all left drawn m w old now new up events same =
+    subst (λ (es : List Event). SurveysUp start all es m w old new) (sym events) (surveys_told start all left m w old now new up same)
 
 split_by : (all done left rest row : List Event) → left ≡ row ++ rest → done ++ left ≡ all → (done ++ row) ++ rest ≡ all
 split_by all done left rest row parts split = append_assoc done row rest ∙ ap (λ (events : List Event). done ++ events) (sym parts) ∙ split
 
--- what a row of events, and a pass at its end, come to
-record HasMoved (start : State) (all rest : List Event) (m next passed : Machine) (done : List Event) (cleared : List ℕ) (n : ℕ) (e : Event) : Type 0 where
+-- ---- a pass is made
+
+stands_passing : (start : State) (all left : List Event) (m passed : Machine) (w : Found) (old new : SinkState) → (up : SurveysUp start all left m w old new) → passed ≡ hw_passed_over m →
+    Stands passed up.cleared (survey start up.done)
+stands_passing start all left m passed w old new up is =
+    subst (λ (x : Machine). Stands x up.cleared (survey start up.done)) (sym is)
+    (subst (λ (x : State). Stands (hw_passed_over m) up.cleared x) (sym up.passed) (stands_passed m up.cleared up.before up.stands))
+
+surveys_passed : (start : State) (all left : List Event) (m passed : Machine) (w after : Found) (old new : SinkState) → SurveysUp start all left m w old new →
+    passed ≡ hw_passed_over m → writes_view after.writes ≡ with_passes (writes_view w.writes) (pass_of m.journal.verdict) → loads_view after.loads ≡ loads_view w.loads →
+    SurveysOn start all left passed after old new
+surveys_passed start all left m passed w after old new up is kept same = record {
+  done = up.done;
+  split = up.split;
+  surveyed = record {
+    cleared = up.cleared;
+    stands = stands_passing start all left m passed w old new up is;
+    writes_are = kept ∙ ap (λ (v : Verdict). with_passes (writes_view w.writes) (pass_of v)) (verdict_is m up.before up.stands.stands) ∙ up.writes_are;
+    loads_are = same ∙ up.loads_are;
+    taken = up.taken;
+  };
+  calm = up.calm;
+}
+
+-- memory may run out while it is kept
+pub surveys_want : (start : State) (all left : List Event) (m passed : Machine) (w : Found) (old new : SinkState) → SurveysUp start all left m w old new → passed ≡ hw_passed_over m →
+    SurveyWants start all passed old new
+surveys_want start all left m passed w old new up is = record {
+  among = record {
+    done = up.done;
+    left = left;
+    split = up.split;
+    cleared = up.cleared;
+    stands = stands_passing start all left m passed w old new up is;
+  };
+  taken = up.taken;
+}
+
+-- ---- a row of events is made
+
+-- what a row of events comes to
+record HasMoved (start : State) (all rest : List Event) (next : Machine) (done : List Event) (cleared : List ℕ) (n : ℕ) (e : Event) : Type 0 where
   split : (done ++ replicate n e) ++ rest ≡ all
   before : Stands next cleared (run (survey start done) (replicate n e))
   row : passes (survey start done) (replicate n e) ≡ pass_of (run (survey start done) (replicate n e)).journal.verdict
   reached : survey start (done ++ replicate n e) ≡ passed_over (run (survey start done) (replicate n e))
-  stands : Stands passed cleared (survey start (done ++ replicate n e))
 
-moved : (n : ℕ) (start : State) (all left rest : List Event) (m next passed : Machine) (w : Found) (e : Event) (old now : SinkState) → 0 < n → m.journal.verdict ≡ Running →
-    (on : SurveysOn start all left m w old now) → left ≡ replicate n e ++ rest → Repeats n m e next → passed ≡ hw_passed_over next →
-    HasMoved start all rest m next passed on.done on.surveyed.cleared n e
-moved zero start all left rest m next passed w e old now some running on parts repeats is = absurd (omega arith)
-moved (suc k) start all left rest m next passed w e old now some running on parts repeats is =
+moved : (n : ℕ) (start : State) (all left rest : List Event) (m next : Machine) (w : Found) (e : Event) (old now : SinkState) → 0 < n → m.journal.verdict ≡ Running →
+    (on : SurveysOn start all left m w old now) → left ≡ replicate n e ++ rest → Repeats n m e next → HasMoved start all rest next on.done on.surveyed.cleared n e
+moved zero start all left rest m next w e old now some running on parts repeats = absurd (omega arith)
+moved (suc k) start all left rest m next w e old now some running on parts repeats =
     let r : State = survey start on.done in
     let row : List Event = replicate (suc k) e in
     let it : IsRow r k e = row_of k m next e r on.surveyed.stands.stands running repeats in
-    let before : Stands next on.surveyed.cleared (run r row) = stands_row (suc k) m next e r on.surveyed.cleared on.surveyed.stands repeats in
-    let reached : survey start (on.done ++ row) ≡ passed_over (run r row) = survey_on start on.done row ∙ it.state in
     record {
       split = split_by all on.done left rest row parts on.split;
-      before = before;
+      before = stands_row (suc k) m next e r on.surveyed.cleared on.surveyed.stands repeats;
       row = it.passed;
-      reached = reached;
-      stands =
-          subst (λ (x : Machine). Stands x on.surveyed.cleared (survey start (on.done ++ row))) (sym is)
-          (subst (λ (x : State). Stands (hw_passed_over next) on.surveyed.cleared x) (sym reached) (stands_passed next on.surveyed.cleared (run r row) before));
+      reached = survey_on start on.done row ∙ it.state;
     }
 
-pub surveys_more : (n : ℕ) (start : State) (all left rest : List Event) (m next passed : Machine) (w after : Found) (e : Event) (old now : SinkState) → IsStart start → 0 < n →
-    m.journal.verdict ≡ Running → SurveysOn start all left m w old now → left ≡ replicate n e ++ rest → Repeats n m e next → passed ≡ hw_passed_over next →
-    writes_view after.writes ≡ with_passes (writes_view w.writes) (pass_of next.journal.verdict) →
-    ((r : State) → StandsFor m r → r.journal.verdict ≡ Running → loads_view after.loads ≡ with_loads (loads_view w.loads) (refusals r e)) →
-    ((r : State) → StandsFor m r → refused r (replicate n e) ≡ refusals r e) → SurveysOn start all rest passed after old now
-surveys_more n start all left rest m next passed w after e old now is_start some running on parts repeats is kept added row_refuses =
+surveys_more : (n : ℕ) (start : State) (all left rest : List Event) (m next : Machine) (w after : Found) (e : Event) (old now : SinkState) → IsStart start → 0 < n →
+    m.journal.verdict ≡ Running → SurveysOn start all left m w old now → left ≡ replicate n e ++ rest → Repeats n m e next →
+    writes_view after.writes ≡ writes_view w.writes → ((r : State) → StandsFor m r → loads_view after.loads ≡ with_loads (loads_view w.loads) (refusals r e)) →
+    ((r : State) → StandsFor m r → refused r (replicate n e) ≡ refusals r e) → SurveysUp start all rest next after old now
+surveys_more n start all left rest m next w after e old now is_start some running on parts repeats kept added row_refuses =
     let r : State = survey start on.done in
     let row : List Event = replicate n e in
-    let it : HasMoved start all rest m next passed on.done on.surveyed.cleared n e = moved n start all left rest m next passed w e old now some running on parts repeats is in
+    let it : HasMoved start all rest next on.done on.surveyed.cleared n e = moved n start all left rest m next w e old now some running on parts repeats in
     let first : IsSound start = reached_sound start [] is_start in
     let keeps : IsKeepable r = survey_keeps start on.done (keepable_law start [] is_start) first in
     record {
       done = on.done ++ row;
       split = it.split;
-      surveyed = record {
-        cleared = on.surveyed.cleared;
-        stands = it.stands;
-        writes_are =
-            kept ∙ ap (λ (x : PassedWrites). with_passes x (pass_of next.journal.verdict)) on.surveyed.writes_are
-            ∙ ap (λ (v : Verdict). with_passes (writes_in start on.done) (pass_of v)) (verdict_is next (run r row) it.before.stands)
-            ∙ ap (λ (ps : List Pass). with_passes (writes_in start on.done) ps) (sym it.row)
-            ∙ sym (writes_on start on.done row);
-        loads_are =
-            added r on.surveyed.stands.stands (sym (verdict_is m r on.surveyed.stands.stands) ∙ running)
-            ∙ ap (λ (l : RefusedLoads). with_loads l (refusals r e)) on.surveyed.loads_are
-            ∙ ap (λ (xs : List RefusedLoad). with_loads (loads_in start on.done) xs) (sym (row_refuses r on.surveyed.stands.stands))
-            ∙ sym (loads_on start on.done row);
-        taken = on.surveyed.taken;
-      };
+      before = run r row;
+      passed = it.reached;
+      cleared = on.surveyed.cleared;
+      stands = it.before;
+      writes_are =
+          ap (λ (x : PassedWrites). with_passes x (pass_of (run r row).journal.verdict)) (kept ∙ on.surveyed.writes_are)
+          ∙ ap (λ (ps : List Pass). with_passes (writes_in start on.done) ps) (sym it.row)
+          ∙ sym (writes_on start on.done row);
+      loads_are =
+          added r on.surveyed.stands.stands
+          ∙ ap (λ (l : RefusedLoads). with_loads l (refusals r e)) on.surveyed.loads_are
+          ∙ ap (λ (xs : List RefusedLoad). with_loads (loads_in start on.done) xs) (sym (row_refuses r on.surveyed.stands.stands))
+          ∙ sym (loads_on start on.done row);
+      taken = on.surveyed.taken;
       calm =
           subst (λ (x : State). IsNoWrite x.journal.verdict) (sym it.reached)
           (calm_after (run r row) (keeps_law r row on.surveyed.stands.stands.sound keeps) it.before.stands.sound);
     }
 
-pub surveys_want : (n : ℕ) (start : State) (all left rest : List Event) (m next passed : Machine) (w : Found) (e : Event) (old now : SinkState) → 0 < n →
-    m.journal.verdict ≡ Running → SurveysOn start all left m w old now → left ≡ replicate n e ++ rest → Repeats n m e next → passed ≡ hw_passed_over next →
-    SurveyWants start all passed old now
-surveys_want n start all left rest m next passed w e old now some running on parts repeats is =
-    let it : HasMoved start all rest m next passed on.done on.surveyed.cleared n e = moved n start all left rest m next passed w e old now some running on parts repeats is in
+-- ---- the console is written
+
+pub surveys_break : (start : State) (all left : List Event) (m passed : Machine) (w : Found) (old now new : SinkState) → SurveysUp start all left m w old now → passed ≡ hw_passed_over m →
+    BreaksOff now new m.journal.printed → SurveyBroke start all passed old new
+surveys_break start all left m passed w old now new up is broke =
+    let want : SurveyWants start all passed old now = surveys_want start all left m passed w old now up is in
+    let printed : m.journal.printed ≡ passed.journal.printed = sym (ap (λ (x : Machine). x.journal.printed) is ∙ (pass_rest m).printed) in
     record {
-      among = record { done = on.done ++ replicate n e; left = rest; split = it.split; cleared = on.surveyed.cleared; stands = it.stands };
-      taken = on.surveyed.taken;
+      among = want.among;
+      broke = subst (λ (k : SinkState). BreaksOff k new passed.journal.printed) want.taken (subst (λ (p : List ℕ). BreaksOff now new p) printed broke);
     }
 
--- memory may run out before the next event
-pub surveys_want_now : (start : State) (all left : List Event) (m : Machine) (w : Found) (old new : SinkState) → SurveysOn start all left m w old new → SurveyWants start all m old new
-surveys_want_now start all left m w old new on = record {
-  among = record { done = on.done; left = left; split = on.split; cleared = on.surveyed.cleared; stands = on.surveyed.stands };
-  taken = on.surveyed.taken;
+pub surveys_flush : (start : State) (all left : List Event) (m flushed : Machine) (w : Found) (old now new : SinkState) → SurveysUp start all left m w old now → Flushed m flushed now new →
+    SurveysUp start all left flushed w old new
+surveys_flush start all left m flushed w old now new up f = record {
+  done = up.done;
+  split = up.split;
+  before = up.before;
+  passed = up.passed;
+  cleared = up.cleared ++ f.cleared;
+  stands = stands_away m flushed up.before up.cleared f.cleared up.stands f.away;
+  writes_are = up.writes_are;
+  loads_are = up.loads_are;
+  taken = f.taken ∙ ap (λ (s : SinkState). after_taking s f.cleared) up.taken ∙ after_taking-append old up.cleared f.cleared;
+  calm = up.calm;
 }
-
-abbrev among_on : (start : State) (all left : List Event) (m : Machine) (w : Found) (old new : SinkState) → SurveysOn start all left m w old new → StandsAmong start all m
-among_on start all left m w old new on = record { done = on.done; left = left; split = on.split; cleared = on.surveyed.cleared; stands = on.surveyed.stands }
-
-pub surveys_break : (start : State) (all left : List Event) (m stays : Machine) (w : Found) (old now new : SinkState) → SurveysOn start all left m w old now → stays ≡ m →
-    BreaksOff now new m.journal.printed → SurveyBroke start all stays old new
-surveys_break start all left m stays w old now new on same broke =
-    subst (λ (x : Machine). SurveyBroke start all x old new) (sym same)
-    (record { among = among_on start all left m w old now on; broke = subst (λ (k : SinkState). BreaksOff k new m.journal.printed) on.surveyed.taken broke })
-
-pub surveys_flush : (start : State) (all left : List Event) (m flushed : Machine) (w : Found) (old now new : SinkState) → SurveysOn start all left m w old now → Flushed m flushed now new →
-    SurveysOn start all left flushed w old new
-surveys_flush start all left m flushed w old now new on f =
-    let c : List ℕ = on.surveyed.cleared in
-    record {
-      done = on.done;
-      split = on.split;
-      surveyed = record {
-        cleared = c ++ f.cleared;
-        stands = stands_away m flushed (survey start on.done) c f.cleared on.surveyed.stands f.away;
-        writes_are = on.surveyed.writes_are;
-        loads_are = on.surveyed.loads_are;
-        taken = f.taken ∙ ap (λ (s : SinkState). after_taking s f.cleared) on.surveyed.taken ∙ after_taking-append old c f.cleared;
-      };
-      calm = on.calm;
-    }
 
 -- ---- the end
 
 has_ended : (v : Verdict) → v ≢ Running → HasEnded v
 has_ended Running ended = absurd (ended refl)
 has_ended _ ended = tt
-
-none_of : (v : Verdict) → IsNoWrite v → pass_of v ≡ []
-unfolding pass_of
-none_of (Stopped (Write pc gpa) h turn) none = absurd none
-none_of _ none = refl
 
 nothing_after : (r : State) (left : List Event) → HasEnded r.journal.verdict → IsNoWrite r.journal.verdict → passes r left ≡ []
 nothing_after r [] ended none = refl
@@ -303,7 +336,7 @@ same_after r left ended none =
     same_run_law r left (subst (λ (x : State). IsNoWrite x.journal.verdict) (sym same) none) ∙ same
 
 -- the machine has ended: a survey of what is left changes nothing
-pub surveys_ended : (start : State) (all left : List Event) (m : Machine) (w : Found) (old new : SinkState) → SurveysOn start all left m w old new → m.journal.verdict ≢ Running →
+surveys_ended : (start : State) (all left : List Event) (m : Machine) (w : Found) (old new : SinkState) → SurveysOn start all left m w old new → m.journal.verdict ≢ Running →
     HasSurveyed start all m w old new
 surveys_ended start all left m w old new on ended =
     let r : State = survey start on.done in
@@ -322,31 +355,31 @@ surveys_ended start all left m w old new on ended =
     })
 
 -- none is left
-pub surveys_all : (start : State) (all left : List Event) (m : Machine) (w : Found) (old new : SinkState) → SurveysOn start all left m w old new → left ≡ [] →
+surveys_all : (start : State) (all left : List Event) (m : Machine) (w : Found) (old new : SinkState) → SurveysOn start all left m w old new → left ≡ [] →
     HasSurveyed start all m w old new
 surveys_all start all left m w old new on none =
     subst (λ (es : List Event). HasSurveyed start es m w old new) (sym (append-nil on.done) ∙ ap (λ (es : List Event). on.done ++ es) (sym none) ∙ on.split) on.surveyed
 
--- ---- counts and room, where the machine stands for some state
+-- ---- the events of a loop
 
-pub state_passed : (n : ℕ) (m next passed : Machine) (e : Event) → HasState m → Repeats n m e next → passed ≡ hw_passed_over next → HasState passed
-state_passed n m next passed e has repeats is =
-    let r : State = run has.state (replicate n e) in
-    let there : StandsFor next r = repeats_stand n m next e repeats has.state has.stands in
-    subst HasState (sym is) (record { state = passed_over r; stands = hw_pass_law next r there })
+-- what was kept before an event
+abbrev kept_before : Found → Found → Found
+kept_before w after = record { writes = after.writes; loads = w.loads }
 
-pub state_flushed : (m flushed : Machine) (now new : SinkState) → HasState m → Flushed m flushed now new → HasState flushed
-state_flushed m flushed now new has f = record { state = has.state; stands = clear_law m flushed has.state has.stands f.away.cleared }
+-- a row of events is made
+pub surveys_on : (n : ℕ) (start : State) (all left rest : List Event) (m next : Machine) (w after : Found) (e : Event) (old now : SinkState) → IsStart start →
+    SurveysUp start all left m w old now → left ≡ replicate n e ++ rest → Advances m w e n next after → SurveysUp start all rest next after old now
+surveys_on n start all left rest m next w after e old now is_start up parts a =
+    surveys_more n start all left rest a.ready next (kept_before w after) after e old now is_start a.made.some (running_is a.ready.journal.verdict a.running)
+    (surveys_passed start all left m a.ready w (kept_before w after) old now up a.passed.passed a.passed.kept refl) parts a.made.chain refl a.looked a.made.refuses
 
-pub room_passed : (n : ℕ) (m next passed : Machine) (e : Event) → HasState m → Repeats n m e next → passed ≡ hw_passed_over next → length m.journal.printed < max_printed →
-    length passed.journal.printed ≤ max_printed
-room_passed n m next passed e has repeats is room =
-    let there = room_again n m next e has repeats room in
-    let same : passed.journal.printed ≡ next.journal.printed = ap (λ (x : Machine). x.journal.printed) is ∙ (pass_rest next).printed in
-    subst (λ (p : List ℕ). length p ≤ max_printed) (sym same) there
+over_by : (none : Type 0) (start : State) (all left : List Event) (m : Machine) (w : Found) (old now : SinkState) → SurveysOn start all left m w old now →
+    (is_running m.journal.verdict ≡ false) ⊎ none → (none → left ≡ []) → HasSurveyed start all m w old now
+over_by none start all left m w old now on (inl stopped) last = surveys_ended start all left m w old now on (not_running m.journal.verdict stopped)
+over_by none start all left m w old now on (inr end) last = surveys_all start all left m w old now on (last end)
 
-pub counts_passed : (n most : ℕ) (next passed flushed : Machine) (now new : SinkState) → n ≤ most → CountsAtMost n next.journal.counts → passed ≡ hw_passed_over next →
-    Flushed passed flushed now new → CountsAtMost most flushed.journal.counts
-counts_passed n most next passed flushed now new within counts is f =
-    let same : passed.journal.counts ≡ next.journal.counts = ap (λ (x : Machine). x.journal.counts) is ∙ pass_counts next in
-    flushed_counts most passed flushed now new (counts_within n most passed.journal.counts within (subst (λ (c : Counts). CountsAtMost n c) (sym same) counts)) f
+-- the machine has ended, or none is left
+pub surveys_over : (none : Type 0) (start : State) (all left : List Event) (m ready : Machine) (w after : Found) (old now : SinkState) → SurveysUp start all left m w old now →
+    Ends none m w ready after → (none → left ≡ []) → HasSurveyed start all ready after old now
+surveys_over none start all left m ready w after old now up e last =
+    over_by none start all left ready after old now (surveys_passed start all left m ready w after old now up e.passed.passed e.passed.kept e.same) e.over last

@@ -1,5 +1,5 @@
 -- A machine's survey with its console, while it goes on. This project's own.
-use Rattle.std.specs.Prelude.{◌≡◌, ℕ, List, [], ◌∷◌, ◌++◌, Bool, true, false, Result, Ok, Err}
+use Rattle.std.specs.Prelude.{◌≡◌, ℕ, List, [], ◌∷◌, ◌++◌, Bool, true, false, ◌&&◌, not, is_some, Result, Ok, Err}
 use Rattle.sv_types.specs.declared.event.Event.{Event}
 use Rattle.sv_types.specs.declared.event.Verdict.{Verdict}
 use Rattle.sv_types.specs.declared.event.Verdict.TheVariants.{Running, Shutdown, Stopped}
@@ -7,8 +7,9 @@ use Rattle.spec_reference.specs.States.{State}
 use Rattle.spec_reference.specs.Start.{IsStart}
 use Rattle.spec_hardware.specs.Machine.{Machine}
 use Rattle.spec_hardware.specs.Reaches.{IsNew}
-use Rattle.laws_simulation.specs.Passing.{survey}
-use Rattle.laws_simulation.specs.Passes.{Pass, passes}
+use Rattle.laws_simulation.specs.Passing.{passed_over, survey}
+use Rattle.laws_simulation.specs.Passes.{Pass, pass_of, passes}
+use Rattle.laws_simulation.specs.SurveyLaws.{IsNoWrite}
 use Rattle.host_io.specs.Outside.{SinkState, after_taking, BreaksOff}
 use Rattle.host_io.specs.declared.trouble.Trouble.{Trouble}
 use Rattle.host_io.specs.declared.trouble.Trouble.TheVariants.{Write, Memory}
@@ -38,6 +39,10 @@ is_running Running = true
 is_running Shutdown = false
 is_running (Stopped rule h turn) = false
 
+-- nothing is to be seen to before an event: the machine runs, and no load is under way
+abbrev pub is_plain : Machine → Bool
+is_plain m = is_running m.journal.verdict && not (is_some m.loading)
+
 -- ---- a survey so far
 
 -- The machine stands where the survey is after these events, but for console bytes that the sink took, the writes are those that
@@ -48,6 +53,22 @@ pub record HasSurveyed (start : State) (done : List Event) (machine : Machine) (
   pub writes_are : writes_view found.writes ≡ writes_in start done
   pub loads_are : loads_view found.loads ≡ loads_in start done
   pub taken : new ≡ after_taking old cleared
+
+-- The same in front of a pass, with the events that are left: a write that stopped the machine in the last of the events that were
+-- made is still to be passed over, and to be kept.
+pub record SurveysUp (start : State) (all left : List Event) (machine : Machine) (found : Found) (old new : SinkState) : Type 0 where
+  pub done : List Event
+  pub split : done ++ left ≡ all
+  -- the state before the pass
+  pub before : State
+  pub passed : survey start done ≡ passed_over before
+  pub cleared : List ℕ
+  pub stands : Stands machine cleared before
+  pub writes_are : with_passes (writes_view found.writes) (pass_of before.journal.verdict) ≡ writes_in start done
+  pub loads_are : loads_view found.loads ≡ loads_in start done
+  pub taken : new ≡ after_taking old cleared
+  -- no write stopped the machine that isn't passed over
+  pub calm : IsNoWrite (survey start done).journal.verdict
 
 -- the machine stands where the survey is after some of these events, and console bytes were taken before
 pub record StandsAmong (start : State) (events : List Event) (machine : Machine) : Type 0 where

@@ -23,4 +23,4 @@ pub use hw_devices::SECTOR_BYTES;
 pub use machine::Machine;
 pub use machine_start::Booted;
 pub use resume::ResumeFailure;
-pub use running::{flush_due, run};
+pub use running::{Left, draw_on, flush_due, run};

@@ -61,17 +61,17 @@ fn tell<O: Sink>(machine: &Machine, out: &mut O)
     out.note_progress(counts.turns.saturating_add(others), counts.turns);
 }
 
-// The events that are left of a run: those that are made before the sink is told the next time, and those after them.
+/// The events that are left of a run: those that are made before the sink is told the next time, and those after them.
 #[derive(Clone, Copy, Drop)]
-struct Left {
-    now: u64,
-    later: u64,
+pub struct Left {
+    pub now: u64,
+    pub later: u64,
 }
 
 impl Left {
-    // So many.
+    /// So many.
     #[inline(always)]
-    fn of(events: u64) -> Left
+    pub fn of(events: u64) -> Left
         ensures all { result.now + result.later ≡ events }
         ensures some { 0 < events → 0 < result.now }
         ensures none { result.now ≡ 0 → result.later ≡ 0 }
@@ -83,9 +83,9 @@ impl Left {
         }
     }
 
-    // Whether some are left. The sink is told where its time has come.
+    /// Whether some are left. The sink is told where its time has come.
     #[inline(always)]
-    fn goes_on<O: Sink>(&mut self, machine: &Machine, out: &mut O) -> bool
+    pub fn goes_on<O: Sink>(&mut self, machine: &Machine, out: &mut O) -> bool
         requires { self.old.now + self.old.later < 2 ^ 64 }
         ensures all { self.new.now + self.new.later ≡ self.old.now + self.old.later }
         ensures some { result ≡ true → 0 < self.new.now }
@@ -104,10 +104,10 @@ impl Left {
     }
 }
 
-// Goes on to the events after those that were to be drawn first, once these are made; then the sink is told. Answers how many
-// are left after those that are to be drawn now.
+/// Goes on to the events after those that were to be drawn first, once these are made; then the sink is told. Answers how many
+/// are left after those that are to be drawn now.
 #[inline(always)]
-fn draw_on<S: EventSource, O: Sink>(
+pub fn draw_on<S: EventSource, O: Sink>(
     machine: &Machine,
     drawing: &mut Drawing<S>,
     later: u64,

@@ -1,155 +1,181 @@
-use Rattle.std.proofs.Common.{◌≡◌, ◌≤◌, ◌-◌, ◌+◌, ◌++◌, replicate, ap, sym, ◌∙◌, length, arith}
+use Rattle.std.proofs.Common.{◌≡◌, ◌+◌, ◌++◌, replicate, ap, subst, sym, ◌∙◌, length, arith, true, false}
 use Rattle.sv_types.specs.Limits.{max_events}
 use Rattle.sv_types.specs.Schedule.{first_events}
 use Rattle.host_io.specs.declared.trouble.Trouble.TheVariants.{Write, Memory}
-use Rattle.script.specs.declared.event_run.EventRun.{EventRun}
-use Rattle.machine.proofs.ConsoleLemmas.{taken_none, taken_more}
-use Rattle.machine.proofs.Repeated.{counts_within, rows_repeat}
-use Rattle.cli_survey.proofs.LookLemmas.{row_refuses}
-use Rattle.machine.specs.Drawing.{count_left, events_left, IsAtHand}
+use Rattle.machine.specs.Drawing.{count_left, events_with}
+use Rattle.machine.specs.Limits.{max_counts}
+use Rattle.machine.proofs.DrawnBatches.{used_none}
+use Rattle.machine.proofs.Repeated.{counts_within}
 use Rattle.secvisor_cli.proofs.ReadyLemmas.{err_by}
-use Rattle.cli_survey.specs.Surveys.{Surveyed}
-use Rattle.cli_survey.proofs.SurveyLemmas.{counts_passed, not_running, room_passed, running_is, state_flushed, state_passed, surveys_all}
-use Rattle.cli_survey.proofs.SurveyLemmas.{surveys_break, surveys_ended, surveys_flush, surveys_more, surveys_none, surveys_want, surveys_want_now}
+use Rattle.cli_survey.specs.Advances.{GoesByRow, GoesByRows, GoesToEnd, LeavesLater, MakesRow, MayGoOn}
+use Rattle.cli_survey.specs.Surveys.{Surveyed, SurveysUp}
+use Rattle.cli_survey.proofs.AdvanceLemmas.{go_advanced, go_one, go_told, room_advanced}
+use Rattle.cli_survey.proofs.SurveyLemmas.{surveys_break, surveys_drawn, surveys_flush, surveys_none, surveys_on, surveys_over, surveys_told, surveys_want}
 use Rattle.cli_survey.proofs.surveying.survey_in_batches.Goals as goal
 
-pub events-init : goal.events-init
-events-init g c =
+pub parts-init : goal.parts-init
+parts-init g c =
     let asked = c.new-drawing.ensures.count in
+    let all = c.of-left.ensures.all in
+    let later = c.of-left.result.later in
+    let few = c.requires.run.few in
     record {
-      on = λ start new is_start. surveys_none start _ _ c.args.machine.now c.args.found.now _ c.new-drawing.ensures.left new is_start c.requires.none c.requires.none_refused;
-      running = c.requires.running;
-      has = c.requires.run.state;
-      taken = taken_none _;
-      few = omega (arith, asked);
-      counts = counts_within max_events _ c.args.machine.now.journal.counts (omega arith) c.requires.run.counts;
-      room = omega (arith, ap length c.requires.run.console);
+      on = λ start new is_start. surveys_none start _ _ c.args.machine.now c.args.found.now _
+          (c.new-drawing.ensures.further later ∙ ap (λ n. first_events n (g.S.EventSource.schedule c.args.source)) all) new is_start c.requires.none c.requires.none_refused;
+      may = record {
+        sink = c.requires.run.sink;
+        few = omega (arith, asked, all, few);
+        state = c.requires.run.state;
+        counts = counts_within max_events _ c.args.machine.now.journal.counts (omega (arith, asked, all, few)) c.requires.run.counts;
+        room = omega (arith, ap length c.requires.run.console);
+      };
+      some = λ used.
+          let none = used_none c.new-drawing.result.batch.count c.new-drawing.result.undrawn used in
+          c.of-left.ensures.none (omega (arith, none, asked));
     }
 
-pub at_once-requires-clause-has : goal.at_once-requires-clause-has
-at_once-requires-clause-has g c = c.events.invariant.has
+-- ---- an event with what is to be seen to
 
-pub at_once-requires-clause-turns : goal.at_once-requires-clause-turns
-at_once-requires-clause-turns g c = let turns = c.events.invariant.counts.turns in let few = c.requires.run.few in omega (arith, turns, few)
+pub tend_row-requires-clause-may : goal.tend_row-requires-clause-may
+tend_row-requires-clause-may g c = go_one (count_left c.parts.drawing + c.parts.later) c.parts.machine _ c.parts.invariant.may
 
-pub returns-in_err-most : goal.returns-in_err-most
-returns-in_err-most g c = λ start new is_start.
-    let hand : IsAtHand g.S.EventSource.schedule c.events.drawing c.draw.new.self c.in-Some.batch = c.in-Some.ensures.batch in
-    err_by _ Memory
-    (λ r. Surveyed start (first_events c.args.events (g.S.EventSource.schedule c.args.source)) c.events.machine (record { writes = c.events.found.writes; loads = c.at_once.new.loads })
-    (g.O.Sink.state c.args.out.now) (g.O.Sink.state c.events.out) r)
-    c.from_residual.ensures.1
-    (surveys_want_now start _ _ c.events.machine c.events.found _ _ (c.events.invariant.on start new is_start))
-
-pub repeat_to_load-made-requires-clause-few : goal.repeat_to_load-made-requires-clause-few
-repeat_to_load-made-requires-clause-few g c =
-    let hand : IsAtHand g.S.EventSource.schedule c.events.drawing c.draw.new.self c.in-Some.batch = c.in-Some.ensures.batch in
-    let most = c.in_ok-most.ensures.most in
-    let row : c.in-Some.batch.count ≡ c.draw.new.self.batch.count = ap (λ (r : EventRun). r.count) hand.row_is in
-    let count = hand.count in
-    let few = c.events.invariant.few in
-    let events = c.requires.run.few in
-    omega (arith, most, row, count, few, events)
+pub tend_row-requires-clause-has : goal.tend_row-requires-clause-has
+tend_row-requires-clause-has g c = c.parts.invariant.may.state
 
 pub returns-in_err-on : goal.returns-in_err-on
 returns-in_err-on g c = λ start new is_start.
-    let hand : IsAtHand g.S.EventSource.schedule c.events.drawing c.draw.new.self c.in-Some.batch = c.in-Some.ensures.batch in
-    let parts : events_left g.S.EventSource.schedule c.events.drawing ≡ replicate c.repeat_to_load-made.result c.in-Some.batch.event ++ events_left g.S.EventSource.schedule c.count_down.new.self =
-    sym hand.left ∙ c.count_down.ensures.left ∙ ap (λ (r : EventRun). replicate c.repeat_to_load-made.result r.event ++ events_left g.S.EventSource.schedule c.count_down.new.self) (sym hand.row_is) in
     err_by _ Memory
-    (λ r. Surveyed start (first_events c.args.events (g.S.EventSource.schedule c.args.source)) c.goes_on.new.machine (record {
-      writes = c.goes_on.new.writes;
-      loads = c.at_once.new.loads;
-    }) (g.O.Sink.state c.args.out.now)
-    (g.O.Sink.state c.events.out) r)
-    c.from_residual-in_err-on.ensures.1
-    (surveys_want c.repeat_to_load-made.result start _ (events_left g.S.EventSource.schedule c.events.drawing) (events_left g.S.EventSource.schedule c.count_down.new.self)
-    c.events.machine c.repeat_to_load-made.new.self c.goes_on.new.machine
-    c.events.found c.in-Some.batch.event _ _ c.repeat_to_load-made.ensures.some c.events.invariant.running (c.events.invariant.on start new is_start) parts
-    (rows_repeat c.repeat_to_load-made.result c.events.machine c.repeat_to_load-made.new.self c.in-Some.batch.event c.repeat_to_load-made.ensures.chain)
-    c.in_err-on.ensures.passed)
-
-pub flush_due-requires-clause-room : goal.flush_due-requires-clause-room
-flush_due-requires-clause-room g c =
-    room_passed c.repeat_to_load-made.result c.events.machine c.repeat_to_load-made.new.self c.goes_on.new.machine c.in-Some.batch.event c.events.invariant.has
-    (rows_repeat c.repeat_to_load-made.result c.events.machine c.repeat_to_load-made.new.self c.in-Some.batch.event c.repeat_to_load-made.ensures.chain)
-    c.in_ok-on.ensures.passed c.events.invariant.room
-
-pub returns-in_err-flush_due : goal.returns-in_err-flush_due
-returns-in_err-flush_due g c = λ start new is_start.
-    let hand : IsAtHand g.S.EventSource.schedule c.events.drawing c.draw.new.self c.in-Some.batch = c.in-Some.ensures.batch in
-    let parts : events_left g.S.EventSource.schedule c.events.drawing ≡ replicate c.repeat_to_load-made.result c.in-Some.batch.event ++ events_left g.S.EventSource.schedule c.count_down.new.self =
-    sym hand.left ∙ c.count_down.ensures.left ∙ ap (λ (r : EventRun). replicate c.repeat_to_load-made.result r.event ++ events_left g.S.EventSource.schedule c.count_down.new.self) (sym hand.row_is) in
-    let on = surveys_more c.repeat_to_load-made.result start _ (events_left g.S.EventSource.schedule c.events.drawing) (events_left g.S.EventSource.schedule c.count_down.new.self)
-    c.events.machine c.repeat_to_load-made.new.self c.goes_on.new.machine
-    c.events.found (record { writes = c.goes_on.new.writes; loads = c.at_once.new.loads }) c.in-Some.batch.event _ _ is_start c.repeat_to_load-made.ensures.some
-    c.events.invariant.running (c.events.invariant.on start new is_start) parts
-    (rows_repeat c.repeat_to_load-made.result c.events.machine c.repeat_to_load-made.new.self c.in-Some.batch.event c.repeat_to_load-made.ensures.chain)
-    c.in_ok-on.ensures.passed c.in_ok-on.ensures.kept c.in_ok-most.ensures.kept (λ r s. row_refuses c.repeat_to_load-made.result c.in_ok-most.most c.events.machine
-    c.repeat_to_load-made.new.self c.in-Some.batch.event r s c.events.invariant.running
-    c.repeat_to_load-made.ensures.some c.repeat_to_load-made.ensures.most c.in_ok-most.ensures.alone c.repeat_to_load-made.ensures.chain) in
-    err_by _ Write
-    (λ r. Surveyed start (first_events c.args.events (g.S.EventSource.schedule c.args.source)) c.flush_due.new.machine (record {
-      writes = c.goes_on.new.writes;
-      loads = c.at_once.new.loads;
-    }) (g.O.Sink.state c.args.out.now)
-    (g.O.Sink.state c.flush_due.new.out) r)
-    c.from_residual-in_err-flush_due.ensures.1
-    (surveys_break start _ _ c.goes_on.new.machine c.flush_due.new.machine (record { writes = c.goes_on.new.writes; loads = c.at_once.new.loads }) _ _ _ on
-    c.in_err-flush_due.ensures.machine c.in_err-flush_due.ensures.failed)
+    (λ r. Surveyed start (first_events c.args.events (g.S.EventSource.schedule c.args.source)) c.tend_row.new.machine c.tend_row.new.found
+    (g.O.Sink.state c.args.out.now) (g.O.Sink.state c.parts.out) r)
+    c.from_residual.ensures.1
+    (surveys_want start _ _ c.parts.machine c.tend_row.new.machine c.parts.found _ _ (c.parts.invariant.on start new is_start) c.in_err-on.ensures.want)
 
 pub returns-then-not-on : goal.returns-then-not-on
 returns-then-not-on g c = λ start new is_start.
-    let hand : IsAtHand g.S.EventSource.schedule c.events.drawing c.draw.new.self c.in-Some.batch = c.in-Some.ensures.batch in
-    let parts : events_left g.S.EventSource.schedule c.events.drawing ≡ replicate c.repeat_to_load-made.result c.in-Some.batch.event ++ events_left g.S.EventSource.schedule c.count_down.new.self =
-    sym hand.left ∙ c.count_down.ensures.left ∙ ap (λ (r : EventRun). replicate c.repeat_to_load-made.result r.event ++ events_left g.S.EventSource.schedule c.count_down.new.self) (sym hand.row_is) in
-    let on = surveys_more c.repeat_to_load-made.result start _ (events_left g.S.EventSource.schedule c.events.drawing) (events_left g.S.EventSource.schedule c.count_down.new.self)
-    c.events.machine c.repeat_to_load-made.new.self c.goes_on.new.machine
-    c.events.found (record { writes = c.goes_on.new.writes; loads = c.at_once.new.loads }) c.in-Some.batch.event _ _ is_start c.repeat_to_load-made.ensures.some
-    c.events.invariant.running (c.events.invariant.on start new is_start) parts
-    (rows_repeat c.repeat_to_load-made.result c.events.machine c.repeat_to_load-made.new.self c.in-Some.batch.event c.repeat_to_load-made.ensures.chain)
-    c.in_ok-on.ensures.passed c.in_ok-on.ensures.kept c.in_ok-most.ensures.kept (λ r s. row_refuses c.repeat_to_load-made.result c.in_ok-most.most c.events.machine
-    c.repeat_to_load-made.new.self c.in-Some.batch.event r s c.events.invariant.running
-    c.repeat_to_load-made.ensures.some c.repeat_to_load-made.ensures.most c.in_ok-most.ensures.alone c.repeat_to_load-made.ensures.chain) in
-    let flushed = c.in_ok-flush_due.ensures.flushed in
-    let same = ap (λ x. x.journal.verdict) flushed.away.cleared.same in
-    surveys_ended start _ _ c.flush_due.new.machine (record { writes = c.goes_on.new.writes; loads = c.at_once.new.loads }) _ _
-    (surveys_flush start _ _ c.goes_on.new.machine c.flush_due.new.machine (record { writes = c.goes_on.new.writes; loads = c.at_once.new.loads }) _ _ _ on flushed)
-    (λ at. not_running c.goes_on.new.machine.journal.verdict (sym c.in_ok-on.ensures.running ∙ c.if-not-on.true) (sym same ∙ at))
+    let ends = subst (λ b. GoesByRow g.S.EventSource.schedule c.parts.drawing c.tend_row.new.drawing c.parts.machine c.parts.found c.tend_row.new.machine c.tend_row.new.found b)
+    c.if-not-on.true c.in_ok-on.ensures.went in
+    surveys_over _ start _ _ c.parts.machine c.tend_row.new.machine c.parts.found c.tend_row.new.found _ _ (c.parts.invariant.on start new is_start) ends
+    (λ none. none c.parts.later c.parts.invariant.some)
 
-pub events-preserved : goal.events-preserved
-events-preserved g c =
-    let hand : IsAtHand g.S.EventSource.schedule c.events.drawing c.draw.new.self c.in-Some.batch = c.in-Some.ensures.batch in
-    let parts : events_left g.S.EventSource.schedule c.events.drawing ≡ replicate c.repeat_to_load-made.result c.in-Some.batch.event ++ events_left g.S.EventSource.schedule c.count_down.new.self =
-    sym hand.left ∙ c.count_down.ensures.left ∙ ap (λ (r : EventRun). replicate c.repeat_to_load-made.result r.event ++ events_left g.S.EventSource.schedule c.count_down.new.self) (sym hand.row_is) in
-    let fewer : c.count_down.new.self.batch.count + c.count_down.new.self.undrawn + c.repeat_to_load-made.result ≡
-    c.events.drawing.batch.count + c.events.drawing.undrawn = c.count_down.ensures.count ∙ hand.count in
-    let before : c.events.drawing.batch.count + c.events.drawing.undrawn ≤ c.args.events = c.events.invariant.few in
-    let flushed = c.in_ok-flush_due.ensures.flushed in
-    let same = ap (λ x. x.journal.verdict) flushed.away.cleared.same in
-    let passed = c.in_ok-on.ensures.passed in
+pub flush_or_pass-requires-clause-sink : goal.flush_or_pass-requires-clause-sink
+flush_or_pass-requires-clause-sink g c = c.parts.invariant.may.sink
+
+pub flush_or_pass-requires-clause-room : goal.flush_or_pass-requires-clause-room
+flush_or_pass-requires-clause-room g c =
+    let row : MakesRow g.S.EventSource.schedule c.parts.drawing c.tend_row.new.drawing c.parts.machine c.parts.found c.tend_row.new.machine c.tend_row.new.found =
+    subst (λ b. GoesByRow g.S.EventSource.schedule c.parts.drawing c.tend_row.new.drawing c.parts.machine c.parts.found c.tend_row.new.machine c.tend_row.new.found b)
+    c.if-not-on.false c.in_ok-on.ensures.went in
+    room_advanced row.count (count_left c.parts.drawing + c.parts.later) c.parts.machine c.tend_row.new.machine c.parts.found c.tend_row.new.found row.event _ row.advances
+    c.parts.invariant.may
+
+pub returns-in_err-flush_or_pass : goal.returns-in_err-flush_or_pass
+returns-in_err-flush_or_pass g c = λ start new is_start.
+    let row : MakesRow g.S.EventSource.schedule c.parts.drawing c.tend_row.new.drawing c.parts.machine c.parts.found c.tend_row.new.machine c.tend_row.new.found =
+    subst (λ b. GoesByRow g.S.EventSource.schedule c.parts.drawing c.tend_row.new.drawing c.parts.machine c.parts.found c.tend_row.new.machine c.tend_row.new.found b)
+    c.if-not-on.false c.in_ok-on.ensures.went in
+    err_by _ Write
+    (λ r. Surveyed start (first_events c.args.events (g.S.EventSource.schedule c.args.source)) c.flush_or_pass.new.machine c.tend_row.new.found
+    (g.O.Sink.state c.args.out.now) (g.O.Sink.state c.flush_or_pass.new.out) r)
+    c.from_residual-in_err-flush_or_pass.ensures.1
+    (surveys_break start _ (events_with c.parts.later g.S.EventSource.schedule c.tend_row.new.drawing) c.tend_row.new.machine c.flush_or_pass.new.machine c.tend_row.new.found _ _ _
+    (surveys_on row.count start _ _ (events_with c.parts.later g.S.EventSource.schedule c.tend_row.new.drawing) c.parts.machine c.tend_row.new.machine c.parts.found
+    c.tend_row.new.found row.event _ _ is_start (c.parts.invariant.on start new is_start) (row.left c.parts.later) row.advances)
+    c.in_err-flush_or_pass.ensures.passed c.in_err-flush_or_pass.ensures.failed)
+
+pub draw_on-later-requires : goal.draw_on-later-requires
+draw_on-later-requires g c =
+    let row : MakesRow g.S.EventSource.schedule c.parts.drawing c.tend_row.new.drawing c.parts.machine c.parts.found c.tend_row.new.machine c.tend_row.new.found =
+    subst (λ b. GoesByRow g.S.EventSource.schedule c.parts.drawing c.tend_row.new.drawing c.parts.machine c.parts.found c.tend_row.new.machine c.tend_row.new.found b)
+    c.if-not-on.false c.in_ok-on.ensures.went in
+    let fewer = row.fewer in
+    let few = c.parts.invariant.may.few in
+    omega (arith, fewer, few)
+
+-- ---- the rows behind it
+
+pub make_rows-requires-clause-may : goal.make_rows-requires-clause-may
+make_rows-requires-clause-may g c =
+    let row : MakesRow g.S.EventSource.schedule c.parts.drawing c.tend_row.new.drawing c.parts.machine c.parts.found c.tend_row.new.machine c.tend_row.new.found =
+    subst (λ b. GoesByRow g.S.EventSource.schedule c.parts.drawing c.tend_row.new.drawing c.parts.machine c.parts.found c.tend_row.new.machine c.tend_row.new.found b)
+    c.if-not-on.false c.in_ok-on.ensures.went in
+    let fewer = row.fewer in
+    let on = c.draw_on-later.ensures.count in
+    go_told _ _ c.flush_or_pass.new.machine _ _ on c.draw_on-later.ensures.sink
+    (go_advanced row.count (count_left c.parts.drawing + c.parts.later) (count_left c.tend_row.new.drawing + c.parts.later) c.parts.machine c.tend_row.new.machine
+    c.flush_or_pass.new.machine c.parts.found c.tend_row.new.found row.event _ _ (omega (arith, fewer)) row.advances c.parts.invariant.may
+    c.in_ok-flush_or_pass.ensures.flushed c.in_ok-flush_or_pass.ensures.room)
+
+pub make_rows-requires-clause-some : goal.make_rows-requires-clause-some
+make_rows-requires-clause-some g c = c.draw_on-later.ensures.some
+
+pub returns-in_err-rest : goal.returns-in_err-rest
+returns-in_err-rest g c = λ start new is_start.
+    let row : MakesRow g.S.EventSource.schedule c.parts.drawing c.tend_row.new.drawing c.parts.machine c.parts.found c.tend_row.new.machine c.tend_row.new.found =
+    subst (λ b. GoesByRow g.S.EventSource.schedule c.parts.drawing c.tend_row.new.drawing c.parts.machine c.parts.found c.tend_row.new.machine c.tend_row.new.found b)
+    c.if-not-on.false c.in_ok-on.ensures.went in
+    err_by _ Write
+    (λ r. Surveyed start (first_events c.args.events (g.S.EventSource.schedule c.args.source)) c.make_rows.new.machine c.tend_row.new.found
+    (g.O.Sink.state c.args.out.now) (g.O.Sink.state c.make_rows.new.out) r)
+    c.from_residual-in_err-rest.ensures.1
+    (c.in_err-rest.ensures.broke start _ c.tend_row.new.found _ is_start
+    (surveys_drawn start _ (events_with c.parts.later g.S.EventSource.schedule c.tend_row.new.drawing) _ c.flush_or_pass.new.machine c.tend_row.new.found _ _ _
+    (surveys_flush start _ (events_with c.parts.later g.S.EventSource.schedule c.tend_row.new.drawing) c.tend_row.new.machine c.flush_or_pass.new.machine c.tend_row.new.found _ _ _
+    (surveys_on row.count start _ _ (events_with c.parts.later g.S.EventSource.schedule c.tend_row.new.drawing) c.parts.machine c.tend_row.new.machine c.parts.found
+    c.tend_row.new.found row.event _ _ is_start (c.parts.invariant.on start new is_start) (row.left c.parts.later) row.advances)
+    c.in_ok-flush_or_pass.ensures.flushed)
+    c.draw_on-later.ensures.left c.draw_on-later.ensures.sink))
+
+pub returns-in_default : goal.returns-in_default
+returns-in_default g c = λ start new is_start.
+    let row : MakesRow g.S.EventSource.schedule c.parts.drawing c.tend_row.new.drawing c.parts.machine c.parts.found c.tend_row.new.machine c.tend_row.new.found =
+    subst (λ b. GoesByRow g.S.EventSource.schedule c.parts.drawing c.tend_row.new.drawing c.parts.machine c.parts.found c.tend_row.new.machine c.tend_row.new.found b)
+    c.if-not-on.false c.in_ok-on.ensures.went in
+    let ends : GoesToEnd (events_with c.draw_on-later.result g.S.EventSource.schedule c.draw_on-later.new.drawing) c.flush_or_pass.new.machine c.make_rows.new.machine
+    (g.O.Sink.state c.draw_on-later.new.out) (g.O.Sink.state c.make_rows.new.out) =
+    subst (λ o. GoesByRows g.S.EventSource.schedule c.draw_on-later.new.drawing c.make_rows.new.drawing c.draw_on-later.result c.flush_or_pass.new.machine
+    c.make_rows.new.machine (g.O.Sink.state c.draw_on-later.new.out) (g.O.Sink.state c.make_rows.new.out) o) c.in_default.is c.in_ok-rest.ensures.went in
+    ends start _ c.tend_row.new.found _ is_start
+    (surveys_drawn start _ (events_with c.parts.later g.S.EventSource.schedule c.tend_row.new.drawing) _ c.flush_or_pass.new.machine c.tend_row.new.found _ _ _
+    (surveys_flush start _ (events_with c.parts.later g.S.EventSource.schedule c.tend_row.new.drawing) c.tend_row.new.machine c.flush_or_pass.new.machine c.tend_row.new.found _ _ _
+    (surveys_on row.count start _ _ (events_with c.parts.later g.S.EventSource.schedule c.tend_row.new.drawing) c.parts.machine c.tend_row.new.machine c.parts.found
+    c.tend_row.new.found row.event _ _ is_start (c.parts.invariant.on start new is_start) (row.left c.parts.later) row.advances)
+    c.in_ok-flush_or_pass.ensures.flushed)
+    c.draw_on-later.ensures.left c.draw_on-later.ensures.sink)
+
+pub parts-preserved : goal.parts-preserved
+parts-preserved g c =
+    let row : MakesRow g.S.EventSource.schedule c.parts.drawing c.tend_row.new.drawing c.parts.machine c.parts.found c.tend_row.new.machine c.tend_row.new.found =
+    subst (λ b. GoesByRow g.S.EventSource.schedule c.parts.drawing c.tend_row.new.drawing c.parts.machine c.parts.found c.tend_row.new.machine c.tend_row.new.found b)
+    c.if-not-on.false c.in_ok-on.ensures.went in
+    let behind : LeavesLater g.S.EventSource.schedule c.draw_on-later.new.drawing c.make_rows.new.drawing c.draw_on-later.result c.in-Some.rest c.flush_or_pass.new.machine
+    c.make_rows.new.machine (g.O.Sink.state c.draw_on-later.new.out) (g.O.Sink.state c.make_rows.new.out) =
+    subst (λ o. GoesByRows g.S.EventSource.schedule c.draw_on-later.new.drawing c.make_rows.new.drawing c.draw_on-later.result c.flush_or_pass.new.machine
+    c.make_rows.new.machine (g.O.Sink.state c.draw_on-later.new.out) (g.O.Sink.state c.make_rows.new.out) o) c.in-Some.is c.in_ok-rest.ensures.went in
     record {
       on = λ start new is_start.
-          surveys_flush start _ _ c.goes_on.new.machine c.flush_due.new.machine (record { writes = c.goes_on.new.writes; loads = c.at_once.new.loads }) _ _ _
-          (surveys_more c.repeat_to_load-made.result start _ (events_left g.S.EventSource.schedule c.events.drawing) (events_left g.S.EventSource.schedule c.count_down.new.self)
-          c.events.machine c.repeat_to_load-made.new.self c.goes_on.new.machine
-          c.events.found (record { writes = c.goes_on.new.writes; loads = c.at_once.new.loads }) c.in-Some.batch.event _ _ is_start c.repeat_to_load-made.ensures.some
-          c.events.invariant.running (c.events.invariant.on start new is_start)
-          parts (rows_repeat c.repeat_to_load-made.result c.events.machine c.repeat_to_load-made.new.self c.in-Some.batch.event c.repeat_to_load-made.ensures.chain)
-          passed c.in_ok-on.ensures.kept c.in_ok-most.ensures.kept (λ r s. row_refuses c.repeat_to_load-made.result c.in_ok-most.most c.events.machine
-          c.repeat_to_load-made.new.self c.in-Some.batch.event r s c.events.invariant.running
-          c.repeat_to_load-made.ensures.some c.repeat_to_load-made.ensures.most c.in_ok-most.ensures.alone c.repeat_to_load-made.ensures.chain)) flushed;
-      running = same ∙ running_is c.goes_on.new.machine.journal.verdict (sym c.in_ok-on.ensures.running ∙ c.if-not-on.false);
-      has = state_flushed c.goes_on.new.machine c.flush_due.new.machine _ _ (state_passed c.repeat_to_load-made.result c.events.machine c.repeat_to_load-made.new.self c.goes_on.new.machine
-          c.in-Some.batch.event c.events.invariant.has (rows_repeat c.repeat_to_load-made.result c.events.machine c.repeat_to_load-made.new.self c.in-Some.batch.event
-          c.repeat_to_load-made.ensures.chain) passed) flushed;
-      taken = taken_more _ c.goes_on.new.machine c.flush_due.new.machine _ _ c.events.invariant.taken flushed;
-      few = omega (arith, fewer, before);
-      counts = counts_passed (max_events + (c.args.events - count_left c.events.drawing) + c.repeat_to_load-made.result) (max_events + (c.args.events - count_left c.count_down.new.self))
-          c.repeat_to_load-made.new.self c.goes_on.new.machine c.flush_due.new.machine _ _ (omega (arith, fewer, before))
-          (c.repeat_to_load-made.ensures.counts (max_events + (c.args.events - count_left c.events.drawing)) c.events.invariant.counts) passed flushed;
-      room = c.in_ok-flush_due.ensures.room;
+          behind.over.on start _ c.tend_row.new.found _ is_start
+          (surveys_drawn start _ (events_with c.parts.later g.S.EventSource.schedule c.tend_row.new.drawing) _ c.flush_or_pass.new.machine c.tend_row.new.found _ _ _
+          (surveys_flush start _ (events_with c.parts.later g.S.EventSource.schedule c.tend_row.new.drawing) c.tend_row.new.machine c.flush_or_pass.new.machine
+          c.tend_row.new.found _ _ _
+          (surveys_on row.count start _ _ (events_with c.parts.later g.S.EventSource.schedule c.tend_row.new.drawing) c.parts.machine c.tend_row.new.machine c.parts.found
+          c.tend_row.new.found row.event _ _ is_start (c.parts.invariant.on start new is_start) (row.left c.parts.later) row.advances)
+          c.in_ok-flush_or_pass.ensures.flushed)
+          c.draw_on-later.ensures.left c.draw_on-later.ensures.sink);
+      may = behind.over.may;
+      some = behind.some;
     }
 
-pub returns : goal.returns
-returns g c = λ start new is_start. surveys_all start _ _ _ _ _ _ (c.events.invariant.on start new is_start) (c.draw.ensures.none c.in_default.is)
+pub parts-smaller : goal.parts-smaller
+parts-smaller g c =
+    let row : MakesRow g.S.EventSource.schedule c.parts.drawing c.tend_row.new.drawing c.parts.machine c.parts.found c.tend_row.new.machine c.tend_row.new.found =
+    subst (λ b. GoesByRow g.S.EventSource.schedule c.parts.drawing c.tend_row.new.drawing c.parts.machine c.parts.found c.tend_row.new.machine c.tend_row.new.found b)
+    c.if-not-on.false c.in_ok-on.ensures.went in
+    let behind : LeavesLater g.S.EventSource.schedule c.draw_on-later.new.drawing c.make_rows.new.drawing c.draw_on-later.result c.in-Some.rest c.flush_or_pass.new.machine
+    c.make_rows.new.machine (g.O.Sink.state c.draw_on-later.new.out) (g.O.Sink.state c.make_rows.new.out) =
+    subst (λ o. GoesByRows g.S.EventSource.schedule c.draw_on-later.new.drawing c.make_rows.new.drawing c.draw_on-later.result c.flush_or_pass.new.machine
+    c.make_rows.new.machine (g.O.Sink.state c.draw_on-later.new.out) (g.O.Sink.state c.make_rows.new.out) o) c.in-Some.is c.in_ok-rest.ensures.went in
+    let some = row.advances.made.some in
+    let fewer = row.fewer in
+    let on = c.draw_on-later.ensures.count in
+    let less = behind.over.fewer in
+    omega (arith, some, fewer, on, less)

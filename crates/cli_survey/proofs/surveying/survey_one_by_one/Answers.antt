@@ -1,146 +1,214 @@
-use Rattle.std.proofs.Common.{◌≡◌, ◌<◌, ◌-◌, ◌+◌, ◌++◌, replicate, ap, refl, sym, ◌∙◌, length, arith}
+use Rattle.std.proofs.Common.{◌≡◌, ◌-◌, ◌+◌, ap, inr, refl, subst, sym, ◌∙◌, length, arith, true, false}
 use Rattle.sv_types.specs.Limits.{max_events}
 use Rattle.sv_types.specs.Schedule.{first_events}
 use Rattle.host_io.specs.declared.trouble.Trouble.TheVariants.{Write, Memory}
 use Rattle.script.proofs.FirstEvents.{begun_none}
-use Rattle.machine.proofs.ConsoleLemmas.{taken_none, taken_more}
+use Rattle.machine.specs.Limits.{max_counts}
 use Rattle.machine.proofs.DrawnBatches.{none_left}
-use Rattle.cli_survey.proofs.DrawnEvents.{one_drawn}
 use Rattle.machine.proofs.Repeated.{counts_within}
-use Rattle.cli_survey.proofs.LookLemmas.{one_refuses}
 use Rattle.secvisor_cli.proofs.ReadyLemmas.{err_by}
+use Rattle.cli_survey.specs.Advances.{Ends, GoesByOne, GoesOver, GoesToEnd, GoesWhile, MakesNext}
 use Rattle.cli_survey.specs.Surveys.{Surveyed}
-use Rattle.cli_survey.proofs.SurveyLemmas.{counts_passed, not_running, room_passed, running_is, state_flushed, state_passed, surveys_all}
-use Rattle.cli_survey.proofs.SurveyLemmas.{surveys_break, surveys_ended, surveys_flush, surveys_more, surveys_none, surveys_want, surveys_want_now}
+use Rattle.cli_survey.proofs.AdvanceLemmas.{go_advanced, go_one, go_told, room_advanced}
+use Rattle.cli_survey.proofs.SurveyLemmas.{surveys_break, surveys_flush, surveys_none, surveys_on, surveys_over, surveys_told, surveys_want}
 use Rattle.cli_survey.proofs.surveying.survey_one_by_one.Goals as goal
 
-pub events-init : goal.events-init
-events-init g c = record {
-  on = λ start new is_start. surveys_none start _ _ c.args.machine.now c.args.found.now _ refl new is_start c.requires.none c.requires.none_refused;
-  running = c.requires.running;
-  has = c.requires.run.state;
-  taken = taken_none _;
-  few = omega arith;
-  counts = counts_within max_events _ c.args.machine.now.journal.counts (omega arith) c.requires.run.counts;
-  room = omega (arith, ap length c.requires.run.console);
-}
+pub parts-init : goal.parts-init
+parts-init g c =
+    let all = c.of-left.ensures.all in
+    let few = c.requires.run.few in
+    record {
+      on = λ start new is_start. surveys_none start _ _ c.args.machine.now c.args.found.now _
+          (ap (λ n. first_events n (g.S.EventSource.schedule c.args.source)) all) new is_start c.requires.none c.requires.none_refused;
+      may = record {
+        sink = c.requires.run.sink;
+        few = omega (arith, all, few);
+        state = c.requires.run.state;
+        counts = counts_within max_events _ c.args.machine.now.journal.counts (omega (arith, all, few)) c.requires.run.counts;
+        room = omega (arith, ap length c.requires.run.console);
+      };
+    }
 
-pub returns-in_default : goal.returns-in_default
-returns-in_default g c = λ start new is_start.
-    surveys_all start _ _ _ _ _ _ (c.events.invariant.on start new is_start) (begun_none c.events.left (g.S.EventSource.schedule c.events.source) (sym c.in_default.ensures.event))
+-- ---- an event with what is to be seen to
 
-pub at_once-requires-clause-has : goal.at_once-requires-clause-has
-at_once-requires-clause-has g c = c.events.invariant.has
+pub tend_one-requires-clause-may : goal.tend_one-requires-clause-may
+tend_one-requires-clause-may g c = go_one (c.parts.left.now + c.parts.left.later) c.parts.machine _ c.parts.invariant.may
 
-pub at_once-requires-clause-turns : goal.at_once-requires-clause-turns
-at_once-requires-clause-turns g c = let turns = c.events.invariant.counts.turns in let few = c.requires.run.few in omega (arith, turns, few)
-
-pub returns-in_err-at_once : goal.returns-in_err-at_once
-returns-in_err-at_once g c = λ start new is_start.
-    err_by _ Memory
-    (λ r. Surveyed start (first_events c.args.events (g.S.EventSource.schedule c.args.source)) c.events.machine (record { writes = c.events.found.writes; loads = c.at_once.new.loads })
-    (g.O.Sink.state c.args.out.now) (g.O.Sink.state c.events.out) r)
-    c.from_residual.ensures.1
-    (surveys_want_now start _ _ c.events.machine c.events.found _ _ (c.events.invariant.on start new is_start))
+pub tend_one-requires-clause-has : goal.tend_one-requires-clause-has
+tend_one-requires-clause-has g c = c.parts.invariant.may.state
 
 pub returns-in_err-on : goal.returns-in_err-on
 returns-in_err-on g c = λ start new is_start.
-    let some : 0 < c.events.left = omega (arith, c.events-test.true) in
-    let one : c.in-Some.one.count ≡ 1 = omega (arith, c.in-Some.ensures.some, c.in-Some.ensures.most) in
-    let once : c.repeat.result ≡ 1 = omega (arith, c.repeat.ensures.some, c.repeat.ensures.most) in
-    let before = g.S.EventSource.schedule c.events.source in
-    let behind = g.S.EventSource.schedule c.draw.new.self in
-    let parts : first_events c.events.left before ≡ replicate c.repeat.result c.in-Some.one.event ++ first_events (c.events.left - 1) behind =
-    one_drawn c.events.left c.repeat.result c.in-Some.one before behind some one once c.in-Some.ensures.first in
     err_by _ Memory
-    (λ r. Surveyed start (first_events c.args.events (g.S.EventSource.schedule c.args.source)) c.goes_on.new.machine (record {
-      writes = c.goes_on.new.writes;
-      loads = c.at_once.new.loads;
-    }) (g.O.Sink.state c.args.out.now)
-    (g.O.Sink.state c.events.out) r)
-    c.from_residual-in_err-on.ensures.1
-    (surveys_want c.repeat.result start _ (first_events c.events.left before) (first_events (c.events.left - 1) behind) c.events.machine c.repeat.new.self c.goes_on.new.machine
-    c.events.found c.in-Some.one.event _ _ c.repeat.ensures.some c.events.invariant.running (c.events.invariant.on start new is_start) parts c.repeat.ensures.chain c.in_err-on.ensures.passed)
-
-pub flush_due-requires-clause-room : goal.flush_due-requires-clause-room
-flush_due-requires-clause-room g c =
-    room_passed c.repeat.result c.events.machine c.repeat.new.self c.goes_on.new.machine c.in-Some.one.event c.events.invariant.has c.repeat.ensures.chain
-    c.in_ok-on.ensures.passed c.events.invariant.room
-
-pub returns-in_err-flush_due : goal.returns-in_err-flush_due
-returns-in_err-flush_due g c = λ start new is_start.
-    let some : 0 < c.events.left = omega (arith, c.events-test.true) in
-    let one : c.in-Some.one.count ≡ 1 = omega (arith, c.in-Some.ensures.some, c.in-Some.ensures.most) in
-    let once : c.repeat.result ≡ 1 = omega (arith, c.repeat.ensures.some, c.repeat.ensures.most) in
-    let before = g.S.EventSource.schedule c.events.source in
-    let behind = g.S.EventSource.schedule c.draw.new.self in
-    let parts : first_events c.events.left before ≡ replicate c.repeat.result c.in-Some.one.event ++ first_events (c.events.left - 1) behind =
-    one_drawn c.events.left c.repeat.result c.in-Some.one before behind some one once c.in-Some.ensures.first in
-    let on = surveys_more c.repeat.result start _ (first_events c.events.left before) (first_events (c.events.left - 1) behind) c.events.machine c.repeat.new.self c.goes_on.new.machine
-    c.events.found (record { writes = c.goes_on.new.writes; loads = c.at_once.new.loads }) c.in-Some.one.event _ _ is_start c.repeat.ensures.some c.events.invariant.running
-    (c.events.invariant.on start new is_start) parts c.repeat.ensures.chain
-    c.in_ok-on.ensures.passed c.in_ok-on.ensures.kept c.in_ok-at_once.ensures.kept (λ r s. one_refuses c.repeat.result c.in-Some.one.event r once) in
-    err_by _ Write
-    (λ r. Surveyed start (first_events c.args.events (g.S.EventSource.schedule c.args.source)) c.flush_due.new.machine (record {
-      writes = c.goes_on.new.writes;
-      loads = c.at_once.new.loads;
-    }) (g.O.Sink.state c.args.out.now)
-    (g.O.Sink.state c.flush_due.new.out) r)
-    c.from_residual-in_err-flush_due.ensures.1
-    (surveys_break start _ _ c.goes_on.new.machine c.flush_due.new.machine (record { writes = c.goes_on.new.writes; loads = c.at_once.new.loads }) _ _ _ on
-    c.in_err-flush_due.ensures.machine c.in_err-flush_due.ensures.failed)
+    (λ r. Surveyed start (first_events c.args.events (g.S.EventSource.schedule c.args.source)) c.tend_one.new.machine c.tend_one.new.found
+    (g.O.Sink.state c.args.out.now) (g.O.Sink.state c.goes_on.new.out) r)
+    c.from_residual.ensures.1
+    (surveys_want start _ _ c.parts.machine c.tend_one.new.machine c.parts.found _ _
+    (surveys_told start _ _ c.parts.machine c.parts.found _ _ _ (c.parts.invariant.on start new is_start) c.goes_on.ensures.sink) c.in_err-on.ensures.want)
 
 pub returns-then-not-on : goal.returns-then-not-on
 returns-then-not-on g c = λ start new is_start.
-    let some : 0 < c.events.left = omega (arith, c.events-test.true) in
-    let one : c.in-Some.one.count ≡ 1 = omega (arith, c.in-Some.ensures.some, c.in-Some.ensures.most) in
-    let once : c.repeat.result ≡ 1 = omega (arith, c.repeat.ensures.some, c.repeat.ensures.most) in
-    let before = g.S.EventSource.schedule c.events.source in
-    let behind = g.S.EventSource.schedule c.draw.new.self in
-    let parts : first_events c.events.left before ≡ replicate c.repeat.result c.in-Some.one.event ++ first_events (c.events.left - 1) behind =
-    one_drawn c.events.left c.repeat.result c.in-Some.one before behind some one once c.in-Some.ensures.first in
-    let on = surveys_more c.repeat.result start _ (first_events c.events.left before) (first_events (c.events.left - 1) behind) c.events.machine c.repeat.new.self c.goes_on.new.machine
-    c.events.found (record { writes = c.goes_on.new.writes; loads = c.at_once.new.loads }) c.in-Some.one.event _ _ is_start c.repeat.ensures.some c.events.invariant.running
-    (c.events.invariant.on start new is_start) parts c.repeat.ensures.chain
-    c.in_ok-on.ensures.passed c.in_ok-on.ensures.kept c.in_ok-at_once.ensures.kept (λ r s. one_refuses c.repeat.result c.in-Some.one.event r once) in
-    let flushed = c.in_ok-flush_due.ensures.flushed in
-    let same = ap (λ x. x.journal.verdict) flushed.away.cleared.same in
-    surveys_ended start _ _ c.flush_due.new.machine (record { writes = c.goes_on.new.writes; loads = c.at_once.new.loads }) _ _
-    (surveys_flush start _ _ c.goes_on.new.machine c.flush_due.new.machine (record { writes = c.goes_on.new.writes; loads = c.at_once.new.loads }) _ _ _ on flushed)
-    (λ at. not_running c.goes_on.new.machine.journal.verdict (sym c.in_ok-on.ensures.running ∙ c.if-not-on.true) (sym same ∙ at))
+    let ends = subst (λ b. GoesByOne (g.S.EventSource.schedule c.parts.source) (g.S.EventSource.schedule c.tend_one.new.source) c.parts.machine c.parts.found
+    c.tend_one.new.machine c.tend_one.new.found b) c.if-not-on.true c.in_ok-on.ensures.went in
+    surveys_over _ start _ _ c.parts.machine c.tend_one.new.machine c.parts.found c.tend_one.new.found _ _
+    (surveys_told start _ _ c.parts.machine c.parts.found _ _ _ (c.parts.invariant.on start new is_start) c.goes_on.ensures.sink) ends
+    (begun_none (c.parts.left.now + c.parts.left.later) (g.S.EventSource.schedule c.parts.source))
 
-pub events-preserved : goal.events-preserved
-events-preserved g c =
-    let some : 0 < c.events.left = omega (arith, c.events-test.true) in
-    let one : c.in-Some.one.count ≡ 1 = omega (arith, c.in-Some.ensures.some, c.in-Some.ensures.most) in
-    let once : c.repeat.result ≡ 1 = omega (arith, c.repeat.ensures.some, c.repeat.ensures.most) in
-    let before = g.S.EventSource.schedule c.events.source in
-    let behind = g.S.EventSource.schedule c.draw.new.self in
-    let parts : first_events c.events.left before ≡ replicate c.repeat.result c.in-Some.one.event ++ first_events (c.events.left - 1) behind =
-    one_drawn c.events.left c.repeat.result c.in-Some.one before behind some one once c.in-Some.ensures.first in
-    let few = c.events.invariant.few in
-    let flushed = c.in_ok-flush_due.ensures.flushed in
-    let same = ap (λ x. x.journal.verdict) flushed.away.cleared.same in
-    let passed = c.in_ok-on.ensures.passed in
+pub flush_or_pass-requires-clause-sink : goal.flush_or_pass-requires-clause-sink
+flush_or_pass-requires-clause-sink g c =
+    let may = go_told _ _ c.parts.machine _ _ c.goes_on.ensures.all c.goes_on.ensures.sink c.parts.invariant.may in
+    may.sink
+
+pub flush_or_pass-requires-clause-room : goal.flush_or_pass-requires-clause-room
+flush_or_pass-requires-clause-room g c =
+    let next : MakesNext (g.S.EventSource.schedule c.parts.source) (g.S.EventSource.schedule c.tend_one.new.source) c.parts.machine c.parts.found
+    c.tend_one.new.machine c.tend_one.new.found =
+    subst (λ b. GoesByOne (g.S.EventSource.schedule c.parts.source) (g.S.EventSource.schedule c.tend_one.new.source) c.parts.machine c.parts.found
+    c.tend_one.new.machine c.tend_one.new.found b) c.if-not-on.false c.in_ok-on.ensures.went in
+    room_advanced 1 (c.parts.left.now + c.parts.left.later) c.parts.machine c.tend_one.new.machine c.parts.found c.tend_one.new.found next.event _ next.advances c.parts.invariant.may
+
+pub returns-in_err-flush_or_pass : goal.returns-in_err-flush_or_pass
+returns-in_err-flush_or_pass g c = λ start new is_start.
+    let next : MakesNext (g.S.EventSource.schedule c.parts.source) (g.S.EventSource.schedule c.tend_one.new.source) c.parts.machine c.parts.found
+    c.tend_one.new.machine c.tend_one.new.found =
+    subst (λ b. GoesByOne (g.S.EventSource.schedule c.parts.source) (g.S.EventSource.schedule c.tend_one.new.source) c.parts.machine c.parts.found
+    c.tend_one.new.machine c.tend_one.new.found b) c.if-not-on.false c.in_ok-on.ensures.went in
+    let some = c.goes_on.ensures.some c.parts-test.true in
+    let all = c.goes_on.ensures.all in
+    let rest = c.goes_on.new.self.now - 1 + c.goes_on.new.self.later in
+    let count : c.parts.left.now + c.parts.left.later ≡ 1 + rest = omega (arith, some, all) in
+    err_by _ Write
+    (λ r. Surveyed start (first_events c.args.events (g.S.EventSource.schedule c.args.source)) c.flush_or_pass.new.machine c.tend_one.new.found
+    (g.O.Sink.state c.args.out.now) (g.O.Sink.state c.flush_or_pass.new.out) r)
+    c.from_residual-in_err-flush_or_pass.ensures.1
+    (surveys_break start _ (first_events rest (g.S.EventSource.schedule c.tend_one.new.source)) c.tend_one.new.machine c.flush_or_pass.new.machine c.tend_one.new.found _ _ _
+    (surveys_on 1 start _ _ (first_events rest (g.S.EventSource.schedule c.tend_one.new.source)) c.parts.machine c.tend_one.new.machine c.parts.found c.tend_one.new.found
+    next.event _ _ is_start
+    (surveys_told start _ _ c.parts.machine c.parts.found _ _ _ (c.parts.invariant.on start new is_start) c.goes_on.ensures.sink)
+    (ap (λ n. first_events n (g.S.EventSource.schedule c.parts.source)) count ∙ next.begins rest) next.advances)
+    c.in_err-flush_or_pass.ensures.passed c.in_err-flush_or_pass.ensures.failed)
+
+-- ---- the events behind it
+
+pub make_events-requires : goal.make_events-requires
+make_events-requires g c =
+    let next : MakesNext (g.S.EventSource.schedule c.parts.source) (g.S.EventSource.schedule c.tend_one.new.source) c.parts.machine c.parts.found
+    c.tend_one.new.machine c.tend_one.new.found =
+    subst (λ b. GoesByOne (g.S.EventSource.schedule c.parts.source) (g.S.EventSource.schedule c.tend_one.new.source) c.parts.machine c.parts.found
+    c.tend_one.new.machine c.tend_one.new.found b) c.if-not-on.false c.in_ok-on.ensures.went in
+    let some = c.goes_on.ensures.some c.parts-test.true in
+    go_advanced 1 (c.goes_on.new.self.now + c.goes_on.new.self.later) (c.goes_on.new.self.now - 1 + c.goes_on.new.self.later) c.parts.machine c.tend_one.new.machine
+    c.flush_or_pass.new.machine c.parts.found c.tend_one.new.found next.event _ _ (omega (arith, some)) next.advances
+    (go_told _ _ c.parts.machine _ _ c.goes_on.ensures.all c.goes_on.ensures.sink c.parts.invariant.may)
+    c.in_ok-flush_or_pass.ensures.flushed c.in_ok-flush_or_pass.ensures.room
+
+pub returns-in_err-more : goal.returns-in_err-more
+returns-in_err-more g c = λ start new is_start.
+    let next : MakesNext (g.S.EventSource.schedule c.parts.source) (g.S.EventSource.schedule c.tend_one.new.source) c.parts.machine c.parts.found
+    c.tend_one.new.machine c.tend_one.new.found =
+    subst (λ b. GoesByOne (g.S.EventSource.schedule c.parts.source) (g.S.EventSource.schedule c.tend_one.new.source) c.parts.machine c.parts.found
+    c.tend_one.new.machine c.tend_one.new.found b) c.if-not-on.false c.in_ok-on.ensures.went in
+    let some = c.goes_on.ensures.some c.parts-test.true in
+    let all = c.goes_on.ensures.all in
+    let rest = c.goes_on.new.self.now - 1 + c.goes_on.new.self.later in
+    let count : c.parts.left.now + c.parts.left.later ≡ 1 + rest = omega (arith, some, all) in
+    let on = surveys_flush start _ (first_events rest (g.S.EventSource.schedule c.tend_one.new.source)) c.tend_one.new.machine c.flush_or_pass.new.machine c.tend_one.new.found _ _ _
+    (surveys_on 1 start _ _ (first_events rest (g.S.EventSource.schedule c.tend_one.new.source)) c.parts.machine c.tend_one.new.machine c.parts.found c.tend_one.new.found
+    next.event _ _ is_start
+    (surveys_told start _ _ c.parts.machine c.parts.found _ _ _ (c.parts.invariant.on start new is_start) c.goes_on.ensures.sink)
+    (ap (λ n. first_events n (g.S.EventSource.schedule c.parts.source)) count ∙ next.begins rest) next.advances)
+    c.in_ok-flush_or_pass.ensures.flushed in
+    err_by _ Write
+    (λ r. Surveyed start (first_events c.args.events (g.S.EventSource.schedule c.args.source)) c.make_events.new.machine c.tend_one.new.found
+    (g.O.Sink.state c.args.out.now) (g.O.Sink.state c.make_events.new.out) r)
+    c.from_residual-in_err-more.ensures.1
+    (c.in_err-more.ensures.broke start _ c.tend_one.new.found _ is_start on)
+
+pub returns-then-not-more : goal.returns-then-not-more
+returns-then-not-more g c = λ start new is_start.
+    let next : MakesNext (g.S.EventSource.schedule c.parts.source) (g.S.EventSource.schedule c.tend_one.new.source) c.parts.machine c.parts.found
+    c.tend_one.new.machine c.tend_one.new.found =
+    subst (λ b. GoesByOne (g.S.EventSource.schedule c.parts.source) (g.S.EventSource.schedule c.tend_one.new.source) c.parts.machine c.parts.found
+    c.tend_one.new.machine c.tend_one.new.found b) c.if-not-on.false c.in_ok-on.ensures.went in
+    let some = c.goes_on.ensures.some c.parts-test.true in
+    let all = c.goes_on.ensures.all in
+    let rest = c.goes_on.new.self.now - 1 + c.goes_on.new.self.later in
+    let count : c.parts.left.now + c.parts.left.later ≡ 1 + rest = omega (arith, some, all) in
+    let on = surveys_flush start _ (first_events rest (g.S.EventSource.schedule c.tend_one.new.source)) c.tend_one.new.machine c.flush_or_pass.new.machine c.tend_one.new.found _ _ _
+    (surveys_on 1 start _ _ (first_events rest (g.S.EventSource.schedule c.tend_one.new.source)) c.parts.machine c.tend_one.new.machine c.parts.found c.tend_one.new.found
+    next.event _ _ is_start
+    (surveys_told start _ _ c.parts.machine c.parts.found _ _ _ (c.parts.invariant.on start new is_start) c.goes_on.ensures.sink)
+    (ap (λ n. first_events n (g.S.EventSource.schedule c.parts.source)) count ∙ next.begins rest) next.advances)
+    c.in_ok-flush_or_pass.ensures.flushed in
+    let ends : GoesToEnd (first_events rest (g.S.EventSource.schedule c.tend_one.new.source)) c.flush_or_pass.new.machine c.make_events.new.machine
+    (g.O.Sink.state c.flush_or_pass.new.out) (g.O.Sink.state c.make_events.new.out) =
+    subst (λ b. GoesWhile (g.S.EventSource.schedule c.tend_one.new.source) (g.S.EventSource.schedule c.make_events.new.source) rest
+    (c.make_events.new.left.now + c.make_events.new.left.later) c.flush_or_pass.new.machine c.make_events.new.machine
+    (g.O.Sink.state c.flush_or_pass.new.out) (g.O.Sink.state c.make_events.new.out) b) c.if-not-more.true c.in_ok-more.ensures.went in
+    ends start _ c.tend_one.new.found _ is_start on
+
+pub parts-preserved : goal.parts-preserved
+parts-preserved g c =
+    let next : MakesNext (g.S.EventSource.schedule c.parts.source) (g.S.EventSource.schedule c.tend_one.new.source) c.parts.machine c.parts.found
+    c.tend_one.new.machine c.tend_one.new.found =
+    subst (λ b. GoesByOne (g.S.EventSource.schedule c.parts.source) (g.S.EventSource.schedule c.tend_one.new.source) c.parts.machine c.parts.found
+    c.tend_one.new.machine c.tend_one.new.found b) c.if-not-on.false c.in_ok-on.ensures.went in
+    let some = c.goes_on.ensures.some c.parts-test.true in
+    let all = c.goes_on.ensures.all in
+    let rest = c.goes_on.new.self.now - 1 + c.goes_on.new.self.later in
+    let count : c.parts.left.now + c.parts.left.later ≡ 1 + rest = omega (arith, some, all) in
+    let over : GoesOver rest (c.make_events.new.left.now + c.make_events.new.left.later) (first_events rest (g.S.EventSource.schedule c.tend_one.new.source))
+    (first_events (c.make_events.new.left.now + c.make_events.new.left.later) (g.S.EventSource.schedule c.make_events.new.source))
+    c.flush_or_pass.new.machine c.make_events.new.machine (g.O.Sink.state c.flush_or_pass.new.out) (g.O.Sink.state c.make_events.new.out) =
+    subst (λ b. GoesWhile (g.S.EventSource.schedule c.tend_one.new.source) (g.S.EventSource.schedule c.make_events.new.source) rest
+    (c.make_events.new.left.now + c.make_events.new.left.later) c.flush_or_pass.new.machine c.make_events.new.machine
+    (g.O.Sink.state c.flush_or_pass.new.out) (g.O.Sink.state c.make_events.new.out) b) c.if-not-more.false c.in_ok-more.ensures.went in
     record {
       on = λ start new is_start.
-          surveys_flush start _ _ c.goes_on.new.machine c.flush_due.new.machine (record { writes = c.goes_on.new.writes; loads = c.at_once.new.loads }) _ _ _
-          (surveys_more c.repeat.result start _ (first_events c.events.left before) (first_events (c.events.left - 1) behind) c.events.machine c.repeat.new.self c.goes_on.new.machine
-          c.events.found (record { writes = c.goes_on.new.writes; loads = c.at_once.new.loads }) c.in-Some.one.event _ _ is_start c.repeat.ensures.some c.events.invariant.running
-          (c.events.invariant.on start new is_start) parts c.repeat.ensures.chain
-          passed c.in_ok-on.ensures.kept c.in_ok-at_once.ensures.kept (λ r s. one_refuses c.repeat.result c.in-Some.one.event r once)) flushed;
-      running = same ∙ running_is c.goes_on.new.machine.journal.verdict (sym c.in_ok-on.ensures.running ∙ c.if-not-on.false);
-      has = state_flushed c.goes_on.new.machine c.flush_due.new.machine _ _ (state_passed c.repeat.result c.events.machine c.repeat.new.self c.goes_on.new.machine
-          c.in-Some.one.event c.events.invariant.has c.repeat.ensures.chain passed) flushed;
-      taken = taken_more _ c.goes_on.new.machine c.flush_due.new.machine _ _ c.events.invariant.taken flushed;
-      few = omega (arith, few);
-      counts = counts_passed (max_events + (c.args.events - c.events.left) + c.repeat.result) (max_events + (c.args.events - (c.events.left - 1)))
-          c.repeat.new.self c.goes_on.new.machine c.flush_due.new.machine _ _ (omega (arith, once, few, some))
-          (c.repeat.ensures.counts (max_events + (c.args.events - c.events.left)) c.events.invariant.counts) passed flushed;
-      room = c.in_ok-flush_due.ensures.room;
+          over.on start _ c.tend_one.new.found _ is_start
+          (surveys_flush start _ (first_events rest (g.S.EventSource.schedule c.tend_one.new.source)) c.tend_one.new.machine c.flush_or_pass.new.machine c.tend_one.new.found _ _ _
+          (surveys_on 1 start _ _ (first_events rest (g.S.EventSource.schedule c.tend_one.new.source)) c.parts.machine c.tend_one.new.machine c.parts.found c.tend_one.new.found
+          next.event _ _ is_start
+          (surveys_told start _ _ c.parts.machine c.parts.found _ _ _ (c.parts.invariant.on start new is_start) c.goes_on.ensures.sink)
+          (ap (λ n. first_events n (g.S.EventSource.schedule c.parts.source)) count ∙ next.begins rest) next.advances)
+          c.in_ok-flush_or_pass.ensures.flushed);
+      may = over.may;
     }
+
+pub parts-smaller : goal.parts-smaller
+parts-smaller g c =
+    let some = c.goes_on.ensures.some c.parts-test.true in
+    let all = c.goes_on.ensures.all in
+    let rest = c.goes_on.new.self.now - 1 + c.goes_on.new.self.later in
+    let over : GoesOver rest (c.make_events.new.left.now + c.make_events.new.left.later) (first_events rest (g.S.EventSource.schedule c.tend_one.new.source))
+    (first_events (c.make_events.new.left.now + c.make_events.new.left.later) (g.S.EventSource.schedule c.make_events.new.source))
+    c.flush_or_pass.new.machine c.make_events.new.machine (g.O.Sink.state c.flush_or_pass.new.out) (g.O.Sink.state c.make_events.new.out) =
+    subst (λ b. GoesWhile (g.S.EventSource.schedule c.tend_one.new.source) (g.S.EventSource.schedule c.make_events.new.source) rest
+    (c.make_events.new.left.now + c.make_events.new.left.later) c.flush_or_pass.new.machine c.make_events.new.machine
+    (g.O.Sink.state c.flush_or_pass.new.out) (g.O.Sink.state c.make_events.new.out) b) c.if-not-more.false c.in_ok-more.ensures.went in
+    let fewer = over.fewer in
+    omega (arith, some, all, fewer)
+
+-- ---- none is left
+
+pub returns-in_err-pass_write : goal.returns-in_err-pass_write
+returns-in_err-pass_write g c = λ start new is_start.
+    err_by _ Memory
+    (λ r. Surveyed start (first_events c.args.events (g.S.EventSource.schedule c.args.source)) c.pass_write.new.machine
+    (record { writes = c.pass_write.new.writes; loads = c.parts.found.loads }) (g.O.Sink.state c.args.out.now) (g.O.Sink.state c.goes_on.new.out) r)
+    c.from_residual-in_err-pass_write.ensures.1
+    (surveys_want start _ _ c.parts.machine c.pass_write.new.machine c.parts.found _ _
+    (surveys_told start _ _ c.parts.machine c.parts.found _ _ _ (c.parts.invariant.on start new is_start) c.goes_on.ensures.sink) c.pass_write.ensures.passed)
 
 pub returns : goal.returns
 returns g c = λ start new is_start.
-    let none : c.events.left ≡ 0 = omega (arith, c.events-test.false) in
-    surveys_all start _ _ _ _ _ _ (c.events.invariant.on start new is_start) (none_left c.events.left (g.S.EventSource.schedule c.events.source) none)
+    let all = c.goes_on.ensures.all in
+    let last = c.goes_on.ensures.none c.parts-test.false in
+    let none : c.parts.left.now + c.parts.left.later ≡ 0 = omega (arith, all, last) in
+    surveys_over _ start _ _ c.parts.machine c.pass_write.new.machine c.parts.found (record { writes = c.pass_write.new.writes; loads = c.parts.found.loads }) _ _
+    (surveys_told start _ _ c.parts.machine c.parts.found _ _ _ (c.parts.invariant.on start new is_start) c.goes_on.ensures.sink)
+    (record {
+      passed = record { passed = c.pass_write.ensures.passed; kept = c.in_ok-pass_write.ensures.kept };
+      same = refl;
+      over = inr (none_left (c.parts.left.now + c.parts.left.later) (g.S.EventSource.schedule c.parts.source) none);
+    }) (λ end. end)

@@ -1,0 +1,14 @@
+use Rattle.std.proofs.Common.{◌+◌}
+use Rattle.sv_types.specs.Schedule.{first_events}
+use Rattle.cli_survey.specs.Advances.{GoesOver}
+use Rattle.cli_survey.proofs.surveying.make_events.Given as goal
+
+abbrev pub invariant-events : goal.invariant-events
+invariant-events g l =
+    GoesOver (l.initial.left.now + l.initial.left.later) (l.left.now + l.left.later)
+    (first_events (l.initial.left.now + l.initial.left.later) (g.S.EventSource.schedule l.initial.source))
+    (first_events (l.left.now + l.left.later) (g.S.EventSource.schedule l.source))
+    l.initial.machine l.machine (g.O.Sink.state l.initial.out) (g.O.Sink.state l.out)
+
+abbrev pub decreases-events : goal.decreases-events
+decreases-events g l = l.left.now + l.left.later
