@@ -28,7 +28,8 @@ page_address page = ram_base + page_size * page
 
 unfoldable pub run_line : PageRun → List ℕ
 run_line run =
-    codes "pages " ++ (decimal run.count ++ (codes " from " ++ (address_text (page_address run.first) ++ (codes " " ++ (protection_name run.guard ++ line_end)))))
+    codes "pages " ++ (decimal run.count
+    ++ (codes " from " ++ (address_text (page_address run.first) ++ (codes " " ++ (protection_name run.guard ++ line_end)))))
 
 -- a line for each run
 unfoldable pub pages_text : List Protection → List ℕ
