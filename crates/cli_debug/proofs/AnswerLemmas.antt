@@ -93,7 +93,6 @@ wants_files words files read old p = record { reached = p.reached; follows = p.f
 -- ---- the words
 
 pub words_may : (judged : Result RunWords Refusal) (words : RunWords) (files : FilesState) → judged ≡ Ok words → MayFollow (survey_plan judged) files → MayFollow (run_plan words) files
-unfolding survey_plan
 words_may judged words files is may = subst (λ (j : Result RunWords Refusal). MayFollow (survey_plan j) files) is may
 
 pub answers_ok : (judged : Result RunWords Refusal) (words : RunWords) (files read : FilesState) (old new : Wire) (result : Result Status Trouble) → judged ≡ Ok words →
@@ -209,7 +208,6 @@ reached_fault words (Some (Make name rules line)) files read old new result foll
 
 judged_fault : (judged : Result RunWords Refusal) (files read : FilesState) (old new : Wire) (result : Result Status Trouble) → NoReadFault judged →
     AnswersDebug judged files read old new result → status_of_end result ≡ Status.ReadFault → HasFault (survey_plan judged) files read ⊎ (old.keys.faults < new.keys.faults)
-unfolding survey_plan
 judged_fault (Err why) files read old new result never it is =
     absurd (written_no_fault (refusal_status why) (refusal_line why) old.sink new.sink result never it.1.1.writes is)
 judged_fault (Ok words) files read old new result never (inl wants) is = absurd (wants_no_fault result wants.0 is)

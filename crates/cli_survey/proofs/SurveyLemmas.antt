@@ -158,10 +158,8 @@ new_runs m s new is_start = verdict_is m s new.stands ∙ start_runs s is_start
 -- nothing of it is kept where no write stopped the machine
 none_of : (v : Verdict) → IsNoWrite v → pass_of v ≡ []
 unfolding pass_of
-none_of Running none = refl
-none_of Shutdown none = refl
-none_of (Stopped (Entry target) h turn) none = refl
 none_of (Stopped (Write pc gpa) h turn) none = absurd none
+none_of _ none = refl
 
 pub surveys_none : (start : State) (all left : List Event) (m : Machine) (w : Found) (sink : SinkState) → left ≡ all → IsNew m start → IsStart start → writes_view w.writes ≡
     no_writes → loads_view w.loads ≡ no_loads →
