@@ -1,5 +1,5 @@
 use Rattle.std.proofs.Common.{refl, sym, ◌∙◌}
-use Rattle.cli_dispatch.specs.declared.choice.TopCall.TheVariants.{Live, Sweep, Shrink, Resume, Others, Survey, Debug}
+use Rattle.cli_dispatch.specs.declared.choice.TopCall.TheVariants.{Live, Snap, Sweep, Shrink, Resume, Others, Survey, Debug}
 use Rattle.cli_dispatch.proofs.Owing.{owed_of}
 use Rattle.cli_dispatch.proofs.call.answer.Goals as goal
 
@@ -32,6 +32,16 @@ returns-in-Live-clause-owed g c = owed_of Live _ _ _ _ _ (sym c.in-Live.is ∙ c
       unasked = c.secvisor_live.ensures.unasked;
       held = c.secvisor_live.ensures.held;
       unsaved = c.secvisor_live.ensures.unsaved;
+    })
+
+pub returns-in-Snap-clause-owed : goal.returns-in-Snap-clause-owed
+returns-in-Snap-clause-owed g c = owed_of Snap _ _ _ _ _ (sym c.in-Snap.is ∙ c.top_call_of.ensures)
+    (record {
+      headline = c.secvisor_snap.ensures.headline;
+      read_fault = c.secvisor_snap.ensures.read_fault;
+      unread = c.secvisor_snap.ensures.unread;
+      held = c.secvisor_snap.ensures.held;
+      keys = refl;
     })
 
 pub returns-in-Sweep-clause-owed : goal.returns-in-Sweep-clause-owed
