@@ -15,6 +15,7 @@ pub mod Reservations
 pub mod Standing
 pub mod DrawnBatches
 pub mod ConsoleLemmas
+pub mod Noted
 pub mod Passes
 pub mod Looking
 pub mod EventsBatches

@@ -1,6 +1,7 @@
 pub mod Boot
 pub mod Keeping
 pub mod Limits
+pub mod Noting
 pub mod Machines
 pub mod Repeats
 pub mod Resumed

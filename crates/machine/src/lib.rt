@@ -21,6 +21,7 @@ pub use boot::BootRefusal;
 pub use drawing::Drawing;
 pub use hw_devices::SECTOR_BYTES;
 pub use machine::Machine;
+pub use machine_journal::Notes;
 pub use machine_start::Booted;
 pub use resume::ResumeFailure;
 pub use running::{Left, draw_on, flush_due, run};

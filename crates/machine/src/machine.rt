@@ -14,6 +14,7 @@ ghost use Rattle.spec_hardware.specs.StandsFor.{StandsFor};
 ghost use Rattle.laws_simulation.specs.HwPassing.{hw_passed_over};
 ghost use Rattle.laws_simulation.specs.Passing.{passed_over};
 ghost use Rattle.machine.specs.Limits.{max_counts};
+ghost use Rattle.machine.specs.Noting.{hw_noting, noting};
 ghost use Rattle.machine.specs.Repeats.{Made, MadeInBatch, MadeRow, Makes, MayMake, Repeats};
 ghost use Rattle.hw_platform.specs.Batches.{AreFree};
 ghost use Rattle.machine.specs.Batches.{MayBatch, reserves_nothing};
@@ -21,6 +22,7 @@ ghost use Rattle.hw_fast_path.specs.Ends.{turns_of};
 
 use crate::events::System;
 use hw_fast_path::Batch;
+use machine_journal::Notes;
 use std::marker::Model;
 use sv_types::{Counts, Event, Note, Verdict};
 
@@ -238,6 +240,16 @@ impl Machine {
         ensures { result.now ≡ self.now.journal.notes }
     {
         self.system.journal.notes()
+    }
+
+    /// Keeps these notes in the place of its own, which it hands out; what was counted stays counted.
+    #[inline(never)]
+    pub fn swap_notes(&mut self, notes: &mut Notes)
+        ensures taken { notes.new ≡ self.old.journal.notes }
+        ensures kept { self.new ≡ hw_noting notes.old self.old }
+        ensures stands { (r : State) → StandsFor self.old r → StandsFor self.new (noting notes.old r) }
+    {
+        self.system.swap_notes(notes);
     }
 
     /// The printed bytes that weren't taken away.

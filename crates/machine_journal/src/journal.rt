@@ -10,14 +10,15 @@ ghost use Rattle.sv_types.specs.declared.sbi.SbiCode.TheVariants.{Success};
 ghost use Rattle.spec_reference.specs.Counting.{with_count, count_turn, count_beat, count_key, count_tick, count_retired, count_trap};
 ghost use Rattle.spec_reference.specs.Counting.{count_return, count_demote, count_denied, count_dropped, count_load, count_unload};
 ghost use Rattle.spec_reference.specs.Counting.{MayCount, with_note, printed_low, machine_ended};
-ghost use Rattle.machine_journal.specs.Journals.{count_batch};
+ghost use Rattle.machine_journal.specs.Journals.{count_batch, with_notes};
 ghost use Rattle.spec_reference.specs.Answers.{count_answer, journal_side_effect};
 
+use crate::notes::Notes;
 use spec_processor::Mode;
 use spec_reference::SideEffect;
 use std::alloc::{AllocError, Global};
 use std::marker::Model;
-use sv_types::{Counts, MAX_NOTES, MAX_PRINTED, Note, Rule, SbiCode, Verdict};
+use sv_types::{Counts, MAX_PRINTED, Note, Rule, SbiCode, Verdict};
 
 /// Printed bytes, the first 4,096 notes, counts and the verdict. Contracts see them.
 ///
@@ -25,7 +26,7 @@ use sv_types::{Counts, MAX_NOTES, MAX_PRINTED, Note, Rule, SbiCode, Verdict};
 #[derive(Drop)]
 pub struct Journal {
     printed: Vec<u8>,
-    notes: Vec<Note>,
+    notes: Notes,
     counts: Counts,
     verdict: Verdict,
 }
@@ -48,7 +49,7 @@ impl Journal {
         ensures { IfOk result (λ j. j ≡ record { printed = []; notes = []; counts = no_counts; verdict = Running }) }
     {
         let printed = Vec::with_capacity(alloc, MAX_PRINTED)?;
-        let notes = Vec::with_capacity(alloc, MAX_NOTES)?;
+        let notes = Notes::new(alloc)?;
         Ok(Journal {
             printed,
             notes,
@@ -68,11 +69,10 @@ impl Journal {
         ensures { IfOk result (λ j. j ≡ record { printed = []; notes = notes.now; counts = counts; verdict = verdict }) }
     {
         let printed = Vec::with_capacity(alloc, MAX_PRINTED)?;
-        let mut kept = Vec::with_capacity(alloc, MAX_NOTES)?;
-        kept.extend_from_slice(notes)?;
+        let notes = Notes::from_values(alloc, notes)?;
         Ok(Journal {
             printed,
-            notes: kept,
+            notes,
             counts,
             verdict,
         })
@@ -96,7 +96,15 @@ impl Journal {
     pub fn notes(&self) -> &[Note]
         ensures { result.now ≡ self.now.notes }
     {
-        &self.notes
+        self.notes.items()
+    }
+
+    /// Keeps these notes in the place of its own, which it hands out; what was counted stays counted.
+    pub fn swap_notes(&mut self, notes: &mut Notes)
+        ensures taken { notes.new ≡ self.old.notes }
+        ensures kept { self.new ≡ with_notes notes.old self.old }
+    {
+        std::mem::swap(&mut self.notes, notes);
     }
 
     /// The counts, which start at 0.
@@ -359,14 +367,11 @@ impl Journal {
         }
     }
 
-    #[tactic(auto, using(crate::proofs::Notes::notes_full, crate::proofs::Notes::notes_room))]
     fn note(&mut self, note: Note)
         requires { CanCount self.old.counts.notes }
         ensures { self.new ≡ with_note note self.old }
     {
-        if self.notes.len() < MAX_NOTES {
-            self.notes.push_reserved(note);
-        }
+        self.notes.add(note);
         self.counts.notes += 1;
     }
 }

@@ -2,5 +2,7 @@
 #![tactic(auto)]
 
 mod journal;
+mod notes;
 
 pub use journal::Journal;
+pub use notes::Notes;

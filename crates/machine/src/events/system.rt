@@ -21,11 +21,12 @@ ghost use Rattle.hw_platform.specs.Attempts.{hart_in, IsReady};
 ghost use Rattle.secvisor_core.specs.Serving.{Answered, IsGuarded, MayServe, MayTrap, asked_of, left_entry};
 ghost use Rattle.machine.specs.Beats.{told_noted};
 ghost use Rattle.machine.specs.EventsLimits.{max_counts};
+ghost use Rattle.machine.specs.Noting.{hw_noting};
 ghost use Rattle.machine.specs.Turns.{Attempts, ExitServed, IsReadyAt, IsReadyTwice, MayTurn, exit_of, quietly_counted};
 
 use dma_guard::DmaStep;
 use hw_platform::Hardware;
-use machine_journal::Journal;
+use machine_journal::{Journal, Notes};
 use secvisor_core::{Visor, is_again};
 use spec_hardware::ExitAnswer;
 use spec_processor::{Exit, Mode, Outcome};
@@ -325,6 +326,14 @@ impl System {
     {
         self.hardware.cleared += self.journal.printed().len() as u64;
         self.journal.clear_printed();
+    }
+
+    /// Keeps these notes in the place of its own, which it hands out.
+    pub fn swap_notes(&mut self, notes: &mut Notes)
+        ensures taken { notes.new ≡ self.old.journal.notes }
+        ensures kept { self.new ≡ hw_noting notes.old self.old }
+    {
+        self.journal.swap_notes(notes);
     }
 
     /// Drops the system; a load under way frees its pages.
