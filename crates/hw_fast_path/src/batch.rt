@@ -19,8 +19,7 @@ use crate::tried::Tried;
 use crate::window::{Window, at_pc, word_at_pc};
 use hart::Core;
 use host_mem::HostMem;
-use hw_tlb::Reach;
-use hw_tlb::gstage_cache::Cache;
+use hw_tlb::HartCaches;
 use spec_processor::HRegs;
 
 // The two callers of an effect, each of which has an instance of its table: LLVM builds in what has one caller, and this is
@@ -35,23 +34,22 @@ fn turn(
     words: &mut FlatWords,
     core: &mut Core,
     regs: &HRegs,
-    cache: &mut Cache,
-    reach: &mut Reach,
+    caches: &mut HartCaches,
     mem: &mut HostMem,
     window: &mut Window,
 ) -> Tried
-    requires may { MayTurn mem.old core.old regs.now cache.old reach.old }
+    requires may { MayTurn mem.old core.old regs.now caches.old.second caches.old.both }
     requires leads { Leads mem.old (core_of core.old regs.now) window.old.page window.old.host }
     ensures comes { (lines : Lines) → pending regs.now core.old.csrs lines ≡ None →
         Comes result (attempt mem.old (core_of core.old regs.now) lines) mem.old mem.new (core_of core.old regs.now) (core_of core.new regs.now) }
-    ensures turned { Turned result mem.old mem.new core.old core.new regs.now cache.old cache.new reach.new }
+    ensures turned { Turned result mem.old mem.new core.old core.new regs.now caches.old.second caches.new.second caches.new.both }
     ensures leads { Leads mem.new (core_of core.new regs.now) window.new.page window.new.host }
 {
-    let Some(here) = at_pc(core, regs, cache, reach, mem, *window) else {
+    let Some(here) = at_pc(core, regs, caches, mem, *window) else {
         return Tried::Stopped;
     };
     let word = here.word(core, regs, mem);
-    match carry_out::<InRow>(core, regs, cache, reach, mem, words.micro_op(core.pc, word)) {
+    match carry_out::<InRow>(core, regs, caches, mem, words.micro_op(core.pc, word)) {
         Tried::Stopped => {
             *window = here;
             Tried::Stopped
@@ -159,22 +157,21 @@ fn batch_of_turns(
     words: &mut FlatWords,
     core: &mut Core,
     regs: &HRegs,
-    cache: &mut Cache,
-    reach: &mut Reach,
+    caches: &mut HartCaches,
     mem: &mut HostMem,
     most: u64,
 ) -> Batch
-    requires may { MayTurn mem.old core.old regs.now cache.old reach.old }
+    requires may { MayTurn mem.old core.old regs.now caches.old.second caches.old.both }
     ensures ends { (lines : Lines) → pending regs.now core.old.csrs lines ≡ None →
         EndsBy result.left result.made mem.old (core_of core.old regs.now) lines mem.new (core_of core.new regs.now) }
     ensures most { turns_of result ≤ most }
-    ensures on { GoesOn mem.old mem.new core.old core.new regs.now cache.old cache.new }
-    ensures reach { ReachAgrees mem.new.tables reach.new }
+    ensures on { GoesOn mem.old mem.new core.old core.new regs.now caches.old.second caches.new.second }
+    ensures reach { ReachAgrees mem.new.tables caches.new.both }
 {
     let mut window = Window::none();
     let mut made = 0;
     'turns: while made < most {
-        let tried = turn(words, core, regs, cache, reach, mem, &mut window);
+        let tried = turn(words, core, regs, caches, mem, &mut window);
         if !tried.is_made() {
             let left = leave(core, regs, mem, window);
             return Batch { made, left };
@@ -199,21 +196,20 @@ fn one_turn(
     words: &mut FlatWords,
     core: &mut Core,
     regs: &HRegs,
-    cache: &mut Cache,
-    reach: &mut Reach,
+    caches: &mut HartCaches,
     mem: &mut HostMem,
 ) -> LoneTurn
-    requires may { MayTurn mem.old core.old regs.now cache.old reach.old }
+    requires may { MayTurn mem.old core.old regs.now caches.old.second caches.old.both }
     ensures ends { (lines : Lines) → pending regs.now core.old.csrs lines ≡ None →
         EndsBy (batch_of result).left (batch_of result).made mem.old (core_of core.old regs.now) lines mem.new (core_of core.new regs.now) }
     ensures most { turns_of (batch_of result) ≤ 1 }
-    ensures on { GoesOn mem.old mem.new core.old core.new regs.now cache.old cache.new }
-    ensures reach { ReachAgrees mem.new.tables reach.new }
+    ensures on { GoesOn mem.old mem.new core.old core.new regs.now caches.old.second caches.new.second }
+    ensures reach { ReachAgrees mem.new.tables caches.new.both }
 {
-    let Some(word) = word_at_pc(core, regs, cache, reach, mem) else {
+    let Some(word) = word_at_pc(core, regs, caches, mem) else {
         return LoneTurn::Stopped;
     };
-    let tried = carry_out::<Alone>(core, regs, cache, reach, mem, words.micro_op(core.pc, word));
+    let tried = carry_out::<Alone>(core, regs, caches, mem, words.micro_op(core.pc, word));
     if tried.is_made() {
         return LoneTurn::Made;
     }
@@ -235,24 +231,23 @@ pub fn quick_turns(
     words: &mut MicroOpCache,
     core: &mut Core,
     regs: &HRegs,
-    cache: &mut Cache,
-    reach: &mut Reach,
+    caches: &mut HartCaches,
     mem: &mut HostMem,
     most: u64,
 ) -> Batch
-    requires may { MayTurn mem.old core.old regs.now cache.old reach.old }
+    requires may { MayTurn mem.old core.old regs.now caches.old.second caches.old.both }
     requires count { words.old + most < 2 ^ 64 }
     ensures ends { (lines : Lines) → pending regs.now core.old.csrs lines ≡ None →
         EndsBy result.left result.made mem.old (core_of core.old regs.now) lines mem.new (core_of core.new regs.now) }
     ensures most { turns_of result ≤ most }
-    ensures on { GoesOn mem.old mem.new core.old core.new regs.now cache.old cache.new }
-    ensures reach { ReachAgrees mem.new.tables reach.new }
+    ensures on { GoesOn mem.old mem.new core.old core.new regs.now caches.old.second caches.new.second }
+    ensures reach { ReachAgrees mem.new.tables caches.new.both }
     ensures count { words.new ≡ words.old + turns_of result }
 {
     let batch = if most == 1 {
-        one_turn(&mut words.micro_op, core, regs, cache, reach, mem).batch()
+        one_turn(&mut words.micro_op, core, regs, caches, mem).batch()
     } else {
-        batch_of_turns(&mut words.micro_op, core, regs, cache, reach, mem, most)
+        batch_of_turns(&mut words.micro_op, core, regs, caches, mem, most)
     };
     words.count(batch);
     batch

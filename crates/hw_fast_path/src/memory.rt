@@ -11,8 +11,7 @@ ghost use Rattle.hw_fast_path.specs.Quick.{MayTranslate, Translated};
 
 use hart::{Core, regime};
 use host_mem::HostMem;
-use hw_tlb::Reach;
-use hw_tlb::gstage_cache::Cache;
+use hw_tlb::HartCaches;
 use spec_processor::{Access, BARE, HRegs, ROOT_MODE_SHIFT};
 
 /// An access to so many bytes at a virtual address.
@@ -29,20 +28,25 @@ pub(crate) struct Reference {
 fn walk_to(
     core: &Core,
     regs: &HRegs,
-    cache: &mut Cache,
-    reach: &mut Reach,
+    caches: &mut HartCaches,
     mem: &HostMem,
     access: Access,
     address: u64,
 ) -> Option<u64>
-    requires may { MayTranslate mem.now regs.now.hgatp cache.old reach.old }
+    requires may { MayTranslate mem.now regs.now.hgatp caches.old.second caches.old.both }
     ensures value { (htinst : ℕ) → IfSome result (λ hpa. translation_result mem.now (core_of core.now regs.now) access address htinst ≡ Ok hpa) }
     ensures place { (width : ℕ) → IsWidth width → address % width ≡ 0 → IfSome result (λ hpa. IsHostPlace mem.now hpa width) }
     ensures ram { IfSome result (λ hpa. length mem.now.tables ≤ hpa) }
-    ensures translated { Translated mem.now.tables regs.now.hgatp cache.old cache.new reach.new }
+    ensures translated { Translated mem.now.tables regs.now.hgatp caches.old.second caches.new.second caches.new.both }
 {
     let _table_bytes = mem.table_bytes();
-    reach.walk(cache, mem, &regime(core, regs), address, access)
+    caches.both.walk(
+        &mut caches.second,
+        mem,
+        &regime(core, regs),
+        address,
+        access,
+    )
 }
 
 // The host place of a virtual address, where its translation is held: without a first stage that of the second one, else
@@ -51,14 +55,13 @@ fn walk_to(
 fn held_place(
     core: &Core,
     regs: &HRegs,
-    cache: &Cache,
-    reach: &Reach,
+    caches: &HartCaches,
     mem: &HostMem,
     reference: Reference,
 ) -> Option<u64>
     requires apart { WalksApart mem.now regs.now.hgatp }
-    requires agrees { CacheAgrees mem.now.tables cache.now }
-    requires reach { ReachAgrees mem.now.tables reach.now }
+    requires agrees { CacheAgrees mem.now.tables caches.now.second }
+    requires reach { ReachAgrees mem.now.tables caches.now.both }
     ensures value { IfSome result (λ hpa. (htinst : ℕ) →
         translation_result mem.now (core_of core.now regs.now) reference.access reference.address htinst ≡ Ok hpa) }
     ensures place { IfSome result (λ hpa. (width : ℕ) → IsWidth width → reference.address % width ≡ 0 → IsHostPlace mem.now hpa width) }
@@ -66,9 +69,11 @@ fn held_place(
 {
     let _table_bytes = mem.table_bytes();
     if core.csrs.vsatp >> ROOT_MODE_SHIFT == BARE {
-        cache.held_place(mem, regs.hgatp, reference.address, reference.access)
+        caches
+            .second
+            .held_place(mem, regs.hgatp, reference.address, reference.access)
     } else {
-        reach.held_place(
+        caches.both.held_place(
             mem,
             &regime(core, regs),
             reference.address,
@@ -83,29 +88,20 @@ fn held_place(
 pub(crate) fn place(
     core: &Core,
     regs: &HRegs,
-    cache: &mut Cache,
-    reach: &mut Reach,
+    caches: &mut HartCaches,
     mem: &HostMem,
     reference: Reference,
 ) -> Option<u64>
-    requires may { MayTranslate mem.now regs.now.hgatp cache.old reach.old }
+    requires may { MayTranslate mem.now regs.now.hgatp caches.old.second caches.old.both }
     ensures value { (htinst : ℕ) →
         IfSome result (λ hpa. translation_result mem.now (core_of core.now regs.now) reference.access reference.address htinst ≡ Ok hpa) }
     ensures place { (width : ℕ) → IsWidth width → reference.address % width ≡ 0 → IfSome result (λ hpa. IsHostPlace mem.now hpa width) }
     ensures ram { IfSome result (λ hpa. length mem.now.tables ≤ hpa) }
-    ensures translated { Translated mem.now.tables regs.now.hgatp cache.old cache.new reach.new }
+    ensures translated { Translated mem.now.tables regs.now.hgatp caches.old.second caches.new.second caches.new.both }
 {
-    match held_place(core, regs, cache, reach, mem, reference) {
+    match held_place(core, regs, caches, mem, reference) {
         Some(hpa) => Some(hpa),
-        None => walk_to(
-            core,
-            regs,
-            cache,
-            reach,
-            mem,
-            reference.access,
-            reference.address,
-        ),
+        None => walk_to(core, regs, caches, mem, reference.access, reference.address),
     }
 }
 
@@ -131,21 +127,20 @@ fn is_aligned(address: u64, width: u8) -> bool
 pub(crate) fn aligned_place(
     core: &Core,
     regs: &HRegs,
-    cache: &mut Cache,
-    reach: &mut Reach,
+    caches: &mut HartCaches,
     mem: &HostMem,
     reference: Reference,
 ) -> Option<u64>
-    requires may { MayTranslate mem.now regs.now.hgatp cache.old reach.old }
+    requires may { MayTranslate mem.now regs.now.hgatp caches.old.second caches.old.both }
     requires width { IsWidth reference.width }
     ensures value { (htinst : ℕ) →
         IfSome result (λ hpa. aligned_translation mem.now (core_of core.now regs.now) reference.access reference.address reference.width htinst ≡ Ok hpa) }
     ensures place { IfSome result (λ hpa. IsHostPlace mem.now hpa reference.width) }
     ensures ram { IfSome result (λ hpa. length mem.now.tables ≤ hpa) }
-    ensures translated { Translated mem.now.tables regs.now.hgatp cache.old cache.new reach.new }
+    ensures translated { Translated mem.now.tables regs.now.hgatp caches.old.second caches.new.second caches.new.both }
 {
     if is_aligned(reference.address, reference.width) {
-        place(core, regs, cache, reach, mem, reference)
+        place(core, regs, caches, mem, reference)
     } else {
         None
     }

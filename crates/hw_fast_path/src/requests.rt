@@ -20,8 +20,7 @@ use crate::registers::{CsrAccess, csr};
 use crate::tried::Tried;
 use hart::Core;
 use host_mem::HostMem;
-use hw_tlb::Reach;
-use hw_tlb::gstage_cache::Cache;
+use hw_tlb::HartCaches;
 use rv64_exec::{amo, loaded_value};
 use spec_processor::{Access, AmoOp, Effect, HRegs, INSTRUCTION_BYTES, Mode};
 
@@ -40,12 +39,11 @@ struct Loading {
 fn load(
     core: &mut Core,
     regs: &HRegs,
-    cache: &mut Cache,
-    reach: &mut Reach,
+    caches: &mut HartCaches,
     mem: &HostMem,
     load: Loading,
 ) -> Tried
-    requires may { MayTurn mem.now core.old regs.now cache.old reach.old }
+    requires may { MayTurn mem.now core.old regs.now caches.old.second caches.old.both }
     requires register { load.rd < register_count }
     requires width { IsWidth load.width }
     ensures comes { (htinst : ℕ) →
@@ -53,14 +51,14 @@ fn load(
         (with_region mem.now (after_load mem.now (core_of core.old regs.now) load.rd load.width load.signed
         (aligned_translation mem.now (core_of core.old regs.now) Access.Load load.address load.width htinst))) mem.now mem.now
         (core_of core.old regs.now) (core_of core.new regs.now) }
-    ensures turned { Turned result mem.now mem.now core.old core.new regs.now cache.old cache.new reach.new }
+    ensures turned { Turned result mem.now mem.now core.old core.new regs.now caches.old.second caches.new.second caches.new.both }
 {
     let reference = Reference {
         access: Access::Load,
         address: load.address,
         width: load.width,
     };
-    match aligned_place(core, regs, cache, reach, mem, reference) {
+    match aligned_place(core, regs, caches, mem, reference) {
         Some(hpa) => {
             let word = mem.read(hpa as usize, load.width);
             core.regs
@@ -86,25 +84,24 @@ struct Storing {
 fn store(
     core: &mut Core,
     regs: &HRegs,
-    cache: &mut Cache,
-    reach: &mut Reach,
+    caches: &mut HartCaches,
     mem: &mut HostMem,
     store: Storing,
 ) -> Tried
-    requires may { MayTurn mem.old core.old regs.now cache.old reach.old }
+    requires may { MayTurn mem.old core.old regs.now caches.old.second caches.old.both }
     requires width { IsWidth store.width }
     ensures comes { (htinst : ℕ) →
         Comes result (after_store mem.old (core_of core.old regs.now) store.width store.value
         (aligned_translation mem.old (core_of core.old regs.now) Access.Store store.address store.width htinst)) mem.old mem.new
         (core_of core.old regs.now) (core_of core.new regs.now) }
-    ensures turned { Turned result mem.old mem.new core.old core.new regs.now cache.old cache.new reach.new }
+    ensures turned { Turned result mem.old mem.new core.old core.new regs.now caches.old.second caches.new.second caches.new.both }
 {
     let reference = Reference {
         access: Access::Store,
         address: store.address,
         width: store.width,
     };
-    match aligned_place(core, regs, cache, reach, mem, reference) {
+    match aligned_place(core, regs, caches, mem, reference) {
         Some(hpa) => {
             mem.write(hpa as usize, store.width, store.value);
             core.pc = core.pc.wrapping_add(INSTRUCTION_BYTES);
@@ -130,12 +127,11 @@ struct Operation {
 fn atomic(
     core: &mut Core,
     regs: &HRegs,
-    cache: &mut Cache,
-    reach: &mut Reach,
+    caches: &mut HartCaches,
     mem: &mut HostMem,
     operation: Operation,
 ) -> Tried
-    requires may { MayTurn mem.old core.old regs.now cache.old reach.old }
+    requires may { MayTurn mem.old core.old regs.now caches.old.second caches.old.both }
     requires register { operation.rd < register_count }
     requires width { IsWidth operation.width }
     requires word { (operation.width ≡ 4) ⊎ (operation.width ≡ 8) }
@@ -143,7 +139,7 @@ fn atomic(
         Comes result (after_amo mem.old (core_of core.old regs.now) operation.rd operation.width operation.op operation.value
         (aligned_translation mem.old (core_of core.old regs.now) Access.Store operation.address operation.width htinst)) mem.old mem.new
         (core_of core.old regs.now) (core_of core.new regs.now) }
-    ensures turned { Turned result mem.old mem.new core.old core.new regs.now cache.old cache.new reach.new }
+    ensures turned { Turned result mem.old mem.new core.old core.new regs.now caches.old.second caches.new.second caches.new.both }
 {
     // Its word is read where stores may go, and never where loads alone may.
     let access = Access::Store;
@@ -152,7 +148,7 @@ fn atomic(
         address: operation.address,
         width: operation.width,
     };
-    match aligned_place(core, regs, cache, reach, mem, reference) {
+    match aligned_place(core, regs, caches, mem, reference) {
         Some(hpa) => {
             let word = mem.read(hpa as usize, operation.width);
             let made = amo(operation.op, operation.width, word, operation.value);
@@ -196,17 +192,16 @@ fn supervisor_only(core: &mut Core, regs: &HRegs) -> Tried
 fn apply(
     core: &mut Core,
     regs: &HRegs,
-    cache: &mut Cache,
-    reach: &mut Reach,
+    caches: &mut HartCaches,
     mem: &mut HostMem,
     effect: Effect,
 ) -> Tried
-    requires may { MayTurn mem.old core.old regs.now cache.old reach.old }
+    requires may { MayTurn mem.old core.old regs.now caches.old.second caches.old.both }
     requires request { IsRequest effect }
     ensures comes { (lines : Lines) → (word : ℕ) →
         Comes result (after_effect mem.old (core_of core.old regs.now) lines word effect) mem.old mem.new (core_of core.old regs.now)
         (core_of core.new regs.now) }
-    ensures turned { Turned result mem.old mem.new core.old core.new regs.now cache.old cache.new reach.new }
+    ensures turned { Turned result mem.old mem.new core.old core.new regs.now caches.old.second caches.new.second caches.new.both }
 {
     match effect {
         Effect::Set { rd, value, next } => {
@@ -222,8 +217,7 @@ fn apply(
         } => load(
             core,
             regs,
-            cache,
-            reach,
+            caches,
             mem,
             Loading {
                 rd,
@@ -235,8 +229,7 @@ fn apply(
         Effect::Store { addr, width, value } => store(
             core,
             regs,
-            cache,
-            reach,
+            caches,
             mem,
             Storing {
                 address: addr,
@@ -253,8 +246,7 @@ fn apply(
         } => atomic(
             core,
             regs,
-            cache,
-            reach,
+            caches,
             mem,
             Operation {
                 rd,
@@ -296,19 +288,18 @@ fn apply(
 pub(crate) fn carry_out<Caller>(
     core: &mut Core,
     regs: &HRegs,
-    cache: &mut Cache,
-    reach: &mut Reach,
+    caches: &mut HartCaches,
     mem: &mut HostMem,
     micro_op: &MicroOp,
 ) -> Tried
-    requires may { MayTurn mem.old core.old regs.now cache.old reach.old }
+    requires may { MayTurn mem.old core.old regs.now caches.old.second caches.old.both }
     ensures comes { (lines : Lines) →
         Comes result (after_word mem.old (core_of core.old regs.now) lines micro_op.now.word) mem.old mem.new (core_of core.old regs.now)
         (core_of core.new regs.now) }
-    ensures turned { Turned result mem.old mem.new core.old core.new regs.now cache.old cache.new reach.new }
+    ensures turned { Turned result mem.old mem.new core.old core.new regs.now caches.old.second caches.new.second caches.new.both }
 {
     match micro_op.effect::<Caller>(&core.regs, core.pc) {
-        Some(effect) => apply(core, regs, cache, reach, mem, effect),
+        Some(effect) => apply(core, regs, caches, mem, effect),
         None => Tried::Stopped,
     }
 }

@@ -10,8 +10,7 @@ ghost use Rattle.hw_fast_path.specs.Quick.{Fetches, Leads, MayTranslate, Transla
 use crate::memory::{Reference, place};
 use hart::Core;
 use host_mem::HostMem;
-use hw_tlb::Reach;
-use hw_tlb::gstage_cache::Cache;
+use hw_tlb::HartCaches;
 use spec_processor::{Access, BARE, HRegs, INSTRUCTION_BYTES, PAGE_BYTES, ROOT_MODE_SHIFT};
 
 /// What no page of an address has for its number.
@@ -73,21 +72,20 @@ impl Window {
 pub(crate) fn at_pc(
     core: &Core,
     regs: &HRegs,
-    cache: &mut Cache,
-    reach: &mut Reach,
+    caches: &mut HartCaches,
     mem: &HostMem,
     window: Window,
 ) -> Option<Window>
-    requires may { MayTranslate mem.now regs.now.hgatp cache.old reach.old }
+    requires may { MayTranslate mem.now regs.now.hgatp caches.old.second caches.old.both }
     requires leads { Leads mem.now (core_of core.now regs.now) window.page window.host }
     ensures page { IfSome result (λ at. core.now.pc / page_size ≡ at.page) }
     ensures leads { IfSome result (λ at. Leads mem.now (core_of core.now regs.now) at.page at.host) }
-    ensures translated { Translated mem.now.tables regs.now.hgatp cache.old cache.new reach.new }
+    ensures translated { Translated mem.now.tables regs.now.hgatp caches.old.second caches.new.second caches.new.both }
 {
     if core.pc / PAGE_BYTES == window.page {
         Some(window)
     } else {
-        find_window(core, regs, cache, reach, mem)
+        find_window(core, regs, caches, mem)
     }
 }
 
@@ -96,14 +94,13 @@ pub(crate) fn at_pc(
 pub(crate) fn word_at_pc(
     core: &Core,
     regs: &HRegs,
-    cache: &mut Cache,
-    reach: &mut Reach,
+    caches: &mut HartCaches,
     mem: &HostMem,
 ) -> Option<u32>
-    requires may { MayTranslate mem.now regs.now.hgatp cache.old reach.old }
+    requires may { MayTranslate mem.now regs.now.hgatp caches.old.second caches.old.both }
     requires aligned { core.now.pc % instruction_size ≡ 0 }
     ensures fetched { IfSome result (Fetches mem.now (core_of core.now regs.now)) }
-    ensures translated { Translated mem.now.tables regs.now.hgatp cache.old cache.new reach.new }
+    ensures translated { Translated mem.now.tables regs.now.hgatp caches.old.second caches.new.second caches.new.both }
 {
     let _table_bytes = mem.table_bytes();
     let fetch = Reference {
@@ -111,24 +108,18 @@ pub(crate) fn word_at_pc(
         address: core.pc,
         width: INSTRUCTION_BYTES as u8,
     };
-    match place(core, regs, cache, reach, mem, fetch) {
+    match place(core, regs, caches, mem, fetch) {
         Some(hpa) => Some(mem.read(hpa as usize, INSTRUCTION_BYTES as u8) as u32),
         None => None,
     }
 }
 
 // The window of the pc's page by translation.
-fn find_window(
-    core: &Core,
-    regs: &HRegs,
-    cache: &mut Cache,
-    reach: &mut Reach,
-    mem: &HostMem,
-) -> Option<Window>
-    requires may { MayTranslate mem.now regs.now.hgatp cache.old reach.old }
+fn find_window(core: &Core, regs: &HRegs, caches: &mut HartCaches, mem: &HostMem) -> Option<Window>
+    requires may { MayTranslate mem.now regs.now.hgatp caches.old.second caches.old.both }
     ensures page { IfSome result (λ at. core.now.pc / page_size ≡ at.page) }
     ensures leads { IfSome result (λ at. Leads mem.now (core_of core.now regs.now) at.page at.host) }
-    ensures translated { Translated mem.now.tables regs.now.hgatp cache.old cache.new reach.new }
+    ensures translated { Translated mem.now.tables regs.now.hgatp caches.old.second caches.new.second caches.new.both }
 {
     let _table_bytes = mem.table_bytes();
     let fetch = Reference {
@@ -136,7 +127,7 @@ fn find_window(
         address: core.pc,
         width: INSTRUCTION_BYTES as u8,
     };
-    match place(core, regs, cache, reach, mem, fetch) {
+    match place(core, regs, caches, mem, fetch) {
         Some(hpa) => Some(Window {
             page: core.pc / PAGE_BYTES,
             host: hpa - hpa % PAGE_BYTES,

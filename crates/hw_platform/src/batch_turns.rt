@@ -42,15 +42,7 @@ fn batch_in_slot(
     ensures count { words.new ≡ words.old + turns_of result }
 {
     let regs = slot.privilege.registers();
-    quick_turns(
-        words,
-        &mut slot.hart.core,
-        regs,
-        &mut own.second,
-        &mut own.both,
-        mem,
-        most,
-    )
+    quick_turns(words, &mut slot.hart.core, regs, own, mem, most)
 }
 
 /// Turns of a hart among all harts, each with its caches.

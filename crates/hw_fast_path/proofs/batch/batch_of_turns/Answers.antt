@@ -11,7 +11,7 @@ pub turns-init : goal.turns-init
 turns-init c = record {
   batch = batch_starts c.args.mem.now (core_of c.args.core.now c.args.regs.now);
   course = course_stays c.args.core.now.csrs;
-  on = goes_nowhere c.args.mem.now c.args.core.now c.args.regs.now c.args.cache.now c.requires.may.ready c.requires.may.free;
+  on = goes_nowhere c.args.mem.now c.args.core.now c.args.regs.now c.args.caches.now.second c.requires.may.ready c.requires.may.free;
   leads = subst (λ (w : Window). Leads c.args.mem.now (core_of c.args.core.now c.args.regs.now) w.page w.host) (sym c.none-window.ensures)
       (no_window c.args.mem.now (core_of c.args.core.now c.args.regs.now) 0);
   few = omega arith;
@@ -34,8 +34,9 @@ returns-then-not-is_made-clause-most c = leaving_within c.leave-left.result c.tu
 
 pub returns-then-not-is_made-clause-on : goal.returns-then-not-is_made-clause-on
 returns-then-not-is_made-clause-on c =
-    goes_left c.args.mem.now c.turn-tried.new.mem c.args.core.now c.turn-tried.new.core c.leave-left.new.core c.args.regs.now c.args.cache.now c.turn-tried.new.cache
-    (goes_further c.args.mem.now c.turns.mem c.turn-tried.new.mem c.args.core.now c.turns.core c.turn-tried.new.core c.args.regs.now c.args.cache.now c.turns.cache c.turn-tried.new.cache
+    goes_left c.args.mem.now c.turn-tried.new.mem c.args.core.now c.turn-tried.new.core c.leave-left.new.core c.args.regs.now c.args.caches.now.second c.turn-tried.new.caches.second
+    (goes_further c.args.mem.now c.turns.mem c.turn-tried.new.mem c.args.core.now c.turns.core c.turn-tried.new.core c.args.regs.now
+    c.args.caches.now.second c.turns.caches.second c.turn-tried.new.caches.second
     c.turns.invariant.on c.turn-tried.ensures.turned.on)
     c.leave-left.ensures.pc c.leave-left.ensures.reservation
 
@@ -47,7 +48,8 @@ returns-then-not-keeps_course-clause-ends c =
 
 pub returns-then-not-keeps_course-clause-on : goal.returns-then-not-keeps_course-clause-on
 returns-then-not-keeps_course-clause-on c =
-    goes_further c.args.mem.now c.turns.mem c.turn-tried.new.mem c.args.core.now c.turns.core c.turn-tried.new.core c.args.regs.now c.args.cache.now c.turns.cache c.turn-tried.new.cache
+    goes_further c.args.mem.now c.turns.mem c.turn-tried.new.mem c.args.core.now c.turns.core c.turn-tried.new.core c.args.regs.now
+    c.args.caches.now.second c.turns.caches.second c.turn-tried.new.caches.second
     c.turns.invariant.on c.turn-tried.ensures.turned.on
 
 pub turns-preserved : goal.turns-preserved
@@ -56,7 +58,8 @@ turns-preserved c = record {
       (core_of c.turn-tried.new.core c.args.regs.now) c.turns.invariant.course refl c.turns.invariant.batch (sym c.is_made.ensures ∙ c.if-not-is_made.false) c.turn-tried.ensures.comes;
   course = course_further c.args.core.now.csrs c.turns.core.csrs c.turn-tried.new.core.csrs c.turns.invariant.course
       (course_kept c.turn-tried.result c.turns.core.csrs c.turn-tried.new.core.csrs (sym c.keeps_course.ensures ∙ c.if-not-keeps_course.false) c.turn-tried.ensures.turned.course);
-  on = goes_further c.args.mem.now c.turns.mem c.turn-tried.new.mem c.args.core.now c.turns.core c.turn-tried.new.core c.args.regs.now c.args.cache.now c.turns.cache c.turn-tried.new.cache
+  on = goes_further c.args.mem.now c.turns.mem c.turn-tried.new.mem c.args.core.now c.turns.core c.turn-tried.new.core c.args.regs.now
+      c.args.caches.now.second c.turns.caches.second c.turn-tried.new.caches.second
       c.turns.invariant.on c.turn-tried.ensures.turned.on;
   leads = c.turn-tried.ensures.leads;
   few = omega (arith, c.turns-test.true);

@@ -9,10 +9,10 @@ abbrev pub invariant-turns : goal.invariant-turns
 invariant-turns l = record {
   batch : Batch l.made l.initial.mem (core_of l.initial.core l.regs) l.mem (core_of l.core l.regs);
   course : SameCourse l.initial.core.csrs l.core.csrs;
-  on : GoesOn l.initial.mem l.mem l.initial.core l.core l.regs l.initial.cache l.cache;
+  on : GoesOn l.initial.mem l.mem l.initial.core l.core l.regs l.initial.caches.second l.caches.second;
   leads : Leads l.mem (core_of l.core l.regs) l.window.page l.window.host;
   few : l.made ≤ l.most;
-  reach : ReachAgrees l.mem.tables l.reach;
+  reach : ReachAgrees l.mem.tables l.caches.both;
 }
 
 abbrev pub decreases-turns : goal.decreases-turns

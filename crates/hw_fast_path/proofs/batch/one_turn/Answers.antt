@@ -19,8 +19,8 @@ returns-then-is_made-clause-ends c =
 
 pub returns-then-is_made-clause-on : goal.returns-then-is_made-clause-on
 returns-then-is_made-clause-on c =
-    (turned_after c.carry_out-tried.result c.args.mem.now c.carry_out-tried.new.mem c.args.core.now c.carry_out-tried.new.core c.args.regs.now c.args.cache.now c.word_at_pc.new.cache
-    c.carry_out-tried.new.cache c.word_at_pc.new.reach c.carry_out-tried.new.reach c.word_at_pc.ensures.translated c.carry_out-tried.ensures.turned).on
+    (turned_after c.carry_out-tried.result c.args.mem.now c.carry_out-tried.new.mem c.args.core.now c.carry_out-tried.new.core c.args.regs.now c.args.caches.now.second c.word_at_pc.new.caches.second
+    c.carry_out-tried.new.caches.second c.word_at_pc.new.caches.both c.carry_out-tried.new.caches.both c.word_at_pc.ensures.translated c.carry_out-tried.ensures.turned).on
 
 pub returns-clause-ends : goal.returns-clause-ends
 returns-clause-ends c =
@@ -38,7 +38,7 @@ returns-clause-most c = subst (λ (b : Made). turns_of b ≤ 1) (sym c.left.ensu
 
 pub returns-clause-on : goal.returns-clause-on
 returns-clause-on c =
-    goes_left c.args.mem.now c.carry_out-tried.new.mem c.args.core.now c.carry_out-tried.new.core c.leave_by.new.core c.args.regs.now c.args.cache.now c.carry_out-tried.new.cache
-    (turned_after c.carry_out-tried.result c.args.mem.now c.carry_out-tried.new.mem c.args.core.now c.carry_out-tried.new.core c.args.regs.now c.args.cache.now c.word_at_pc.new.cache
-    c.carry_out-tried.new.cache c.word_at_pc.new.reach c.carry_out-tried.new.reach c.word_at_pc.ensures.translated c.carry_out-tried.ensures.turned).on
+    goes_left c.args.mem.now c.carry_out-tried.new.mem c.args.core.now c.carry_out-tried.new.core c.leave_by.new.core c.args.regs.now c.args.caches.now.second c.carry_out-tried.new.caches.second
+    (turned_after c.carry_out-tried.result c.args.mem.now c.carry_out-tried.new.mem c.args.core.now c.carry_out-tried.new.core c.args.regs.now c.args.caches.now.second c.word_at_pc.new.caches.second
+    c.carry_out-tried.new.caches.second c.word_at_pc.new.caches.both c.carry_out-tried.new.caches.both c.word_at_pc.ensures.translated c.carry_out-tried.ensures.turned).on
     c.leave_by.ensures.pc c.leave_by.ensures.reservation

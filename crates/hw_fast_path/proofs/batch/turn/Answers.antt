@@ -24,7 +24,7 @@ returns-in-Retired-clause-leads c =
 
 pub returns-in-Stored-clause-leads : goal.returns-in-Stored-clause-leads
 returns-in-Stored-clause-leads c =
-    stored_leads c.args.mem.now c.carry_out.new.mem c.args.core.now c.carry_out.new.core c.args.regs.now c.at_pc.new.cache c.carry_out.new.cache c.in-Some.here c.behind_store.result
+    stored_leads c.args.mem.now c.carry_out.new.mem c.args.core.now c.carry_out.new.core c.args.regs.now c.at_pc.new.caches.second c.carry_out.new.caches.second c.in-Some.here c.behind_store.result
     c.carry_out.ensures.turned.on c.in-Stored.ensures.turned.course c.requires.may.ready.walk.apart c.in-Some.ensures.leads c.behind_store.ensures.bare c.behind_store.ensures.paged
 
 pub returns-in-ContextChanged-clause-leads : goal.returns-in-ContextChanged-clause-leads
@@ -55,20 +55,20 @@ returns-in-ContextChanged-clause-comes c = λ lines none.
 
 pub returns-in-Stopped-clause-turned : goal.returns-in-Stopped-clause-turned
 returns-in-Stopped-clause-turned c =
-    turned_after Stopped c.args.mem.now c.carry_out.new.mem c.args.core.now c.carry_out.new.core c.args.regs.now c.args.cache.now c.at_pc.new.cache c.carry_out.new.cache
-    c.at_pc.new.reach c.carry_out.new.reach c.at_pc.ensures.translated c.in-Stopped.ensures.turned
+    turned_after Stopped c.args.mem.now c.carry_out.new.mem c.args.core.now c.carry_out.new.core c.args.regs.now c.args.caches.now.second c.at_pc.new.caches.second c.carry_out.new.caches.second
+    c.at_pc.new.caches.both c.carry_out.new.caches.both c.at_pc.ensures.translated c.in-Stopped.ensures.turned
 
 pub returns-in-Retired-clause-turned : goal.returns-in-Retired-clause-turned
 returns-in-Retired-clause-turned c =
-    turned_after Retired c.args.mem.now c.carry_out.new.mem c.args.core.now c.carry_out.new.core c.args.regs.now c.args.cache.now c.at_pc.new.cache c.carry_out.new.cache
-    c.at_pc.new.reach c.carry_out.new.reach c.at_pc.ensures.translated c.in-Retired.ensures.turned
+    turned_after Retired c.args.mem.now c.carry_out.new.mem c.args.core.now c.carry_out.new.core c.args.regs.now c.args.caches.now.second c.at_pc.new.caches.second c.carry_out.new.caches.second
+    c.at_pc.new.caches.both c.carry_out.new.caches.both c.at_pc.ensures.translated c.in-Retired.ensures.turned
 
 pub returns-in-Stored-clause-turned : goal.returns-in-Stored-clause-turned
 returns-in-Stored-clause-turned c =
-    turned_after Stored c.args.mem.now c.carry_out.new.mem c.args.core.now c.carry_out.new.core c.args.regs.now c.args.cache.now c.at_pc.new.cache c.carry_out.new.cache
-    c.at_pc.new.reach c.carry_out.new.reach c.at_pc.ensures.translated c.in-Stored.ensures.turned
+    turned_after Stored c.args.mem.now c.carry_out.new.mem c.args.core.now c.carry_out.new.core c.args.regs.now c.args.caches.now.second c.at_pc.new.caches.second c.carry_out.new.caches.second
+    c.at_pc.new.caches.both c.carry_out.new.caches.both c.at_pc.ensures.translated c.in-Stored.ensures.turned
 
 pub returns-in-ContextChanged-clause-turned : goal.returns-in-ContextChanged-clause-turned
 returns-in-ContextChanged-clause-turned c =
-    turned_after ContextChanged c.args.mem.now c.carry_out.new.mem c.args.core.now c.carry_out.new.core c.args.regs.now c.args.cache.now c.at_pc.new.cache c.carry_out.new.cache
-    c.at_pc.new.reach c.carry_out.new.reach c.at_pc.ensures.translated c.in-ContextChanged.ensures.turned
+    turned_after ContextChanged c.args.mem.now c.carry_out.new.mem c.args.core.now c.carry_out.new.core c.args.regs.now c.args.caches.now.second c.at_pc.new.caches.second c.carry_out.new.caches.second
+    c.at_pc.new.caches.both c.carry_out.new.caches.both c.at_pc.ensures.translated c.in-ContextChanged.ensures.turned
