@@ -101,3 +101,14 @@ demotions fs (note ∷ notes) = demotions (after_demotion fs note) notes
 abbrev pub denied_moves : List Finding → List Note → List Finding
 denied_moves fs [] = fs
 denied_moves fs (note ∷ notes) = denied_moves (after_denied fs note) notes
+
+-- both
+pub record FoundByNotes : Type 0 where
+  pub demotions : List Finding
+  pub denied : List Finding
+
+abbrev pub with_notes : FoundByNotes → List Note → FoundByNotes
+with_notes f notes = record { demotions = demotions f.demotions notes; denied = denied_moves f.denied notes }
+
+abbrev pub found_by : List Note → FoundByNotes
+found_by notes = record { demotions = demotions [] notes; denied = denied_moves [] notes }

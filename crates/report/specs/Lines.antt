@@ -8,7 +8,7 @@ use Rattle.elf64_load.specs.Printed.{escaped, location_text}
 use Rattle.page_measure.specs.declared.fields.wrong.WrongField.{WrongField}
 use Rattle.sv_types.specs.Policies.{ModuleRule}
 use Rattle.sv_types.specs.declared.event.Note.{Note}
-use Rattle.report.specs.Findings.{PassedWrites, RefusedLoads, demotions, denied_moves}
+use Rattle.report.specs.Findings.{FoundByNotes, PassedWrites, RefusedLoads, found_by}
 use Rattle.report.specs.declared.findings.findings.Finding.{Finding}
 use Rattle.report.specs.declared.findings.loads.RefusedLoad.{RefusedLoad}
 
@@ -100,7 +100,10 @@ all_loads modules loads = load_lines modules loads.kept ++ loads_line loads.tota
 
 -- ---- all of a survey: the writes that it passed over, the loads that were refused, and what its notes say
 
-unfoldable pub survey_lines : KernelNames → List ModuleRule → PassedWrites → RefusedLoads → List Note → List ℕ
-survey_lines names modules writes loads notes =
-    (((write_lines names writes.findings ++ total_line writes.total) ++ fetch_lines names (demotions [] notes)) ++ all_loads modules loads)
-    ++ denied_lines (denied_moves [] notes)
+unfoldable pub found_lines : KernelNames → List ModuleRule → PassedWrites → RefusedLoads → FoundByNotes → List ℕ
+found_lines names modules writes loads found =
+    (((write_lines names writes.findings ++ total_line writes.total) ++ fetch_lines names found.demotions) ++ all_loads modules loads)
+    ++ denied_lines found.denied
+
+abbrev pub survey_lines : KernelNames → List ModuleRule → PassedWrites → RefusedLoads → List Note → List ℕ
+survey_lines names modules writes loads notes = found_lines names modules writes loads (found_by notes)

@@ -1,5 +1,7 @@
--- What callers see of the writes that a survey passed over, and of the loads that it saw refused.
-use Rattle.report.specs.Findings.{PassedWrites, RefusedLoads}
+-- What callers see of the writes that a survey passed over, of the loads that it saw refused, and of what its notes say.
+use Rattle.std.specs.Prelude.{List, Option, None, Some}
+use Rattle.sv_types.specs.declared.event.Note.{Note}
+use Rattle.report.specs.Findings.{FoundByNotes, PassedWrites, RefusedLoads, found_by}
 use Rattle.report.specs.declared.findings.findings.Writes.{Writes}
 use Rattle.report.specs.declared.findings.loads.Loads.{Loads}
 
@@ -8,3 +10,8 @@ writes_view w = record { findings = w.findings.items; total = w.total }
 
 abbrev pub loads_view : Loads → RefusedLoads
 loads_view l = record { kept = l.kept.items; total = l.total }
+
+-- by all notes, where these are all or it was kept
+abbrev pub notes_view : Option FoundByNotes → List Note → FoundByNotes
+notes_view None notes = found_by notes
+notes_view (Some found) notes = found

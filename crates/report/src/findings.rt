@@ -5,8 +5,10 @@ mod findings;
 mod found;
 mod lines;
 mod loads;
+mod noted;
 
 pub use findings::{Finding, MAX_FINDINGS, Occurrence, Writes, add_write};
 pub use found::{Found, nothing_found};
 pub use lines::survey_lines;
 pub use loads::{Loads, RefusedLoad, add_load};
+pub use noted::NotesFound;

@@ -1,6 +1,6 @@
 // What a survey found, counted by a key.
 
-ghost use Rattle.std.specs.Prelude.{◌≡◌, ◌<◌, [], length, IfOk, OnOk};
+ghost use Rattle.std.specs.Prelude.{◌≡◌, ◌<◌, ◌≤◌, length, vec_capacity, OnOk};
 ghost use Rattle.report.specs.Findings as spec;
 ghost use Rattle.report.specs.Views.{writes_view};
 
@@ -80,7 +80,8 @@ fn place_of(findings: &[Finding], occurrence: &Occurrence) -> Option<usize>
 
 fn join(findings: &mut Vec<Finding>, place: usize, occurrence: &Occurrence)
     requires { place < length findings.old.items }
-    ensures { findings.new.items ≡ spec.joined_at findings.old.items place occurrence.now }
+    ensures joined { findings.new.items ≡ spec.joined_at findings.old.items place occurrence.now }
+    ensures room { vec_capacity findings.new ≡ vec_capacity findings.old }
 {
     findings[place] = joined(&findings[place], occurrence);
 }
@@ -97,6 +98,21 @@ fn add(findings: &mut Vec<Finding>, occurrence: &Occurrence) -> Result<(), Alloc
         findings.push(first_finding(occurrence))?;
     }
     Ok(())
+}
+
+// The same where there is room for all findings that are kept.
+fn add_reserved(findings: &mut Vec<Finding>, occurrence: &Occurrence)
+    requires { spec.max_findings ≤ vec_capacity findings.old }
+    ensures found { findings.new.items ≡ spec.after_occurrence findings.old.items occurrence.now }
+    ensures room { vec_capacity findings.new ≡ vec_capacity findings.old }
+{
+    if let Some(place) = place_of(findings, occurrence) {
+        join(findings, place, occurrence);
+        return;
+    }
+    if findings.len() < MAX_FINDINGS {
+        findings.push_reserved(first_finding(occurrence));
+    }
 }
 
 /// The writes that a survey passed over: those of each pc, and how many they are in all, whether their findings are kept or not.
@@ -133,8 +149,10 @@ fn page_address(gpa: u64) -> u64
 }
 
 #[tactic(auto, unfolding(crate::specs::Findings::after_demotion))]
-fn add_demotion(findings: &mut Vec<Finding>, note: Note) -> Result<(), AllocError>
-    ensures { OnOk result (findings.new.items ≡ spec.after_demotion findings.old.items note) }
+pub(crate) fn add_demotion(findings: &mut Vec<Finding>, note: Note)
+    requires { spec.max_findings ≤ vec_capacity findings.old }
+    ensures found { findings.new.items ≡ spec.after_demotion findings.old.items note }
+    ensures room { vec_capacity findings.new ≡ vec_capacity findings.old }
 {
     match note {
         Note::Demote {
@@ -149,17 +167,17 @@ fn add_demotion(findings: &mut Vec<Finding>, note: Note) -> Result<(), AllocErro
                 hart,
                 turn,
             };
-            add(findings, &occurrence)
+            add_reserved(findings, &occurrence);
         }
-        Note::Denied { .. } | Note::Load { .. } | Note::Unload { .. } | Note::Retire { .. } => {
-            Ok(())
-        }
+        Note::Denied { .. } | Note::Load { .. } | Note::Unload { .. } | Note::Retire { .. } => {}
     }
 }
 
 #[tactic(auto, unfolding(crate::specs::Findings::after_denied))]
-fn add_denied(findings: &mut Vec<Finding>, note: Note) -> Result<(), AllocError>
-    ensures { OnOk result (findings.new.items ≡ spec.after_denied findings.old.items note) }
+pub(crate) fn add_denied(findings: &mut Vec<Finding>, note: Note)
+    requires { spec.max_findings ≤ vec_capacity findings.old }
+    ensures found { findings.new.items ≡ spec.after_denied findings.old.items note }
+    ensures room { vec_capacity findings.new ≡ vec_capacity findings.old }
 {
     match note {
         Note::Denied { gpa } => {
@@ -169,32 +187,8 @@ fn add_denied(findings: &mut Vec<Finding>, note: Note) -> Result<(), AllocError>
                 hart: 0,
                 turn: 0,
             };
-            add(findings, &occurrence)
+            add_reserved(findings, &occurrence);
         }
-        Note::Demote { .. } | Note::Load { .. } | Note::Unload { .. } | Note::Retire { .. } => {
-            Ok(())
-        }
+        Note::Demote { .. } | Note::Load { .. } | Note::Unload { .. } | Note::Retire { .. } => {}
     }
-}
-
-/// The pages at which kernel mode was left, by the notes of a run. Fails where memory runs out.
-pub(crate) fn demotions(alloc: Global, notes: &[Note]) -> Result<Vec<Finding>, AllocError>
-    ensures { IfOk result (λ found. found.items ≡ spec.demotions [] notes.now) }
-{
-    let mut found = Vec::new(alloc);
-    'notes: for note in notes {
-        add_demotion(&mut found, *note)?;
-    }
-    Ok(found)
-}
-
-/// The pages that devices were kept from, by the notes of a run. Fails where memory runs out.
-pub(crate) fn denied_moves(alloc: Global, notes: &[Note]) -> Result<Vec<Finding>, AllocError>
-    ensures { IfOk result (λ found. found.items ≡ spec.denied_moves [] notes.now) }
-{
-    let mut found = Vec::new(alloc);
-    'notes: for note in notes {
-        add_denied(&mut found, *note)?;
-    }
-    Ok(found)
 }

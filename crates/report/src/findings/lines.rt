@@ -5,11 +5,12 @@ ghost use Rattle.sv_types.specs.Policies.{rules_of};
 ghost use Rattle.elf64_load.specs.KernelViews.{names_view};
 ghost use Rattle.elf64_load.specs.SymbolsViews.{location_view};
 ghost use Rattle.report.specs.Lines as spec;
-ghost use Rattle.report.specs.Views.{loads_view, writes_view};
+ghost use Rattle.report.specs.Views.{loads_view, notes_view, writes_view};
 
-use crate::findings::findings::{Finding, demotions, denied_moves};
+use crate::findings::findings::Finding;
 use crate::findings::found::Found;
 use crate::findings::loads::{Loads, RefusedLoad};
+use crate::findings::noted::NotesFound;
 use elf64_load::symbols::{KernelNames, Location, location_text, push_name};
 use page_measure::fields::WrongField;
 use std::alloc::{AllocError, Global};
@@ -312,12 +313,34 @@ fn push_denied_lines(
     Ok(())
 }
 
+// All lines, where what was found by notes is known.
+#[tactic(auto, unfolding(crate::specs::Lines::found_lines))]
+fn found_lines(
+    alloc: Global,
+    names: &KernelNames,
+    policy: &Policy,
+    found: &Found,
+    noted: &NotesFound,
+) -> Result<Vec<u8>, AllocError>
+    ensures { IfOk result (λ t. t.items ≡
+        spec.found_lines (names_view names.now) (rules_of policy.now).modules (writes_view found.now.writes) (loads_view found.now.loads) noted.now) }
+{
+    let mut text = Vec::new(alloc);
+    push_write_lines(alloc, &mut text, names, &found.writes.findings)?;
+    let total = total_line(alloc, found.writes.total)?;
+    text.extend_from_slice(total.as_str().as_bytes())?;
+    push_fetch_lines(alloc, &mut text, names, noted.demotions())?;
+    push_all_loads(alloc, &mut text, policy, &found.loads)?;
+    push_denied_lines(alloc, &mut text, noted.denied())?;
+    Ok(text)
+}
+
 /// The lines of a survey's findings. First those of the writes that it passed over, in the order of their first turns: of each pc how
 /// often it wrote, the first hart and turn, the lowest and highest address, and the names of the pc and of the lowest address, or a
 /// dash, and then how many writes there were in all, where there were any. Then by the notes those of the pages at which kernel mode
 /// was left, with the first hart, turn and pc; those of the loads that were refused for their text, with the module's name and what
-/// was found, and how many they were; and by the notes those of the pages that devices were kept from. Fails where memory runs out.
-#[tactic(auto, unfolding(crate::specs::Lines::survey_lines))]
+/// was found, and how many they were; and by the notes those of the pages that devices were kept from. The notes are these, or all
+/// those by which findings were kept. Fails where memory runs out.
 pub fn survey_lines(
     alloc: Global,
     names: &KernelNames,
@@ -325,17 +348,14 @@ pub fn survey_lines(
     found: &Found,
     notes: &[Note],
 ) -> Result<Vec<u8>, AllocError>
-    ensures { IfOk result (λ t. t.items ≡
-        spec.survey_lines (names_view names.now) (rules_of policy.now).modules (writes_view found.now.writes) (loads_view found.now.loads) notes.now) }
+    ensures { IfOk result (λ t. t.items ≡ spec.found_lines (names_view names.now) (rules_of policy.now).modules
+        (writes_view found.now.writes) (loads_view found.now.loads) (notes_view found.now.noted notes.now)) }
 {
-    let mut text = Vec::new(alloc);
-    push_write_lines(alloc, &mut text, names, &found.writes.findings)?;
-    let total = total_line(alloc, found.writes.total)?;
-    text.extend_from_slice(total.as_str().as_bytes())?;
-    let demotions = demotions(alloc, notes)?;
-    push_fetch_lines(alloc, &mut text, names, &demotions)?;
-    push_all_loads(alloc, &mut text, policy, &found.loads)?;
-    let denied = denied_moves(alloc, notes)?;
-    push_denied_lines(alloc, &mut text, &denied)?;
-    Ok(text)
+    match &found.noted {
+        Some(noted) => found_lines(alloc, names, policy, found, noted),
+        None => {
+            let noted = NotesFound::of(alloc, notes)?;
+            found_lines(alloc, names, policy, found, &noted)
+        }
+    }
 }

@@ -10,7 +10,7 @@ join-requires c = place_below c.args.findings.now.items c.args.occurrence.now c.
 
 pub returns-in-Some : goal.returns-in-Some
 returns-in-Some c =
-    c.join.ensures ∙
+    c.join.ensures.joined ∙
     joined_there c.args.findings.now.items c.args.occurrence.now c.in-Some.place (ap (λ (fs : List Finding). place_of fs c.args.occurrence.now) (sym c.deref.ensures.value) ∙
     sym c.place_of.ensures ∙ c.in-Some.is)
 
