@@ -1,27 +1,29 @@
 -- How a survey goes on by an event, or by rows of them.
-use Rattle.std.proofs.Common.{◌≡◌, ◌⊎◌, ℕ, ◌+◌, ◌-◌, ◌<◌, ◌≤◌, List, [], ◌++◌, length, replicate, refl, sym, ◌∙◌, ap, subst, arith, true, inr}
-use Rattle.std.specs.Prelude.{Option, Some, None, IsTrue, is_some, not}
+use Rattle.std.proofs.Common.{◌≡◌, ℕ, ◌+◌, ◌-◌, ◌<◌, ◌≤◌, List, [], ◌++◌, length, take, replicate, refl, sym, ◌∙◌, ap, subst, arith, Bool, true, false, inr}
+use Rattle.std.specs.Prelude.{Option, Some, None, IsTrue, is_some, not, nat_lt, ◌&&◌}
+use Rattle.std.proofs.lemmas.Bool.Decides.{nat_tests}
 use Rattle.sv_types.proofs.TruthValues.{and_first, and_second}
-use Rattle.sv_types.specs.Limits.{max_printed}
+use Rattle.sv_types.specs.Limits.{max_notes, max_printed}
 use Rattle.sv_types.specs.Schedule.{Schedule, first_events}
 use Rattle.sv_types.specs.declared.event.Counts.{Counts}
 use Rattle.sv_types.specs.declared.event.Event.{Event}
-use Rattle.sv_types.specs.declared.event.Verdict.{Verdict}
+use Rattle.sv_types.specs.declared.event.Note.{Note}
 use Rattle.sv_types.specs.declared.event.Verdict.TheVariants.{Running}
 use Rattle.spec_reference.specs.Counting.{CountsAtMost}
-use Rattle.spec_reference.specs.Start.{IsStart}
+use Rattle.spec_reference.specs.Run.{run}
 use Rattle.spec_reference.specs.States.{State}
 use Rattle.spec_hardware.specs.Machine.{Machine}
 use Rattle.spec_hardware.specs.StandsFor.{StandsFor}
 use Rattle.laws_simulation.specs.HwPassing.{hw_passed_over}
 use Rattle.laws_simulation.specs.Passing.{passed_over}
 use Rattle.laws_simulation.proofs.HwPassesHold.{hw_pass_law}
-use Rattle.host_io.specs.Outside.{SinkState, BreaksOff, MayWrite}
-use Rattle.machine.specs.Console.{Flushed, HasTaken}
+use Rattle.host_io.specs.Outside.{SinkState, BreaksOff}
+use Rattle.machine.specs.Console.{Flushed}
 use Rattle.machine.specs.Limits.{max_counts}
 use Rattle.machine.specs.Repeats.{MayMake}
-use Rattle.machine.specs.Standing.{HasState}
-use Rattle.machine.proofs.ConsoleLemmas.{flushed_counts, room_again, state_after}
+use Rattle.machine.specs.Standing.{HasState, Stands}
+use Rattle.machine.proofs.ConsoleLemmas.{flushed_counts}
+use Rattle.laws_simulation.proofs.RunsReach.{clear_law}
 use Rattle.machine.proofs.Loadings.{none_seen}
 use Rattle.machine.proofs.Passes.{pass_rest}
 use Rattle.machine.proofs.Repeated.{counts_within}
@@ -29,11 +31,12 @@ use Rattle.report.specs.Findings.{RefusedLoads}
 use Rattle.report.specs.Views.{loads_view, writes_view}
 use Rattle.report.specs.declared.findings.found.Found.{Found}
 use Rattle.report.specs.declared.findings.loads.RefusedLoad.{RefusedLoad}
-use Rattle.cli_survey.specs.Advances.{Advances, Ends, GoesOver, GoesToBreak, GoesToEnd, IsPassed, IsRowMade, MayGoOn}
+use Rattle.cli_survey.specs.Advances.{Advances, GoesOver, GoesToBreak, GoesToEnd, IsPassed, IsRepeated, IsRowMade, MayGoOn, MayTend}
 use Rattle.cli_survey.specs.Refusals.{refusals, with_loads}
-use Rattle.cli_survey.specs.Surveys.{SurveysUp, is_plain, is_running}
+use Rattle.cli_survey.specs.Surveys.{has_room, is_clear, is_plain, is_running}
 use Rattle.cli_survey.proofs.LookLemmas.{none_refused}
-use Rattle.cli_survey.proofs.SurveyLemmas.{keeps_writes, pass_counts, pass_running, running_is, surveys_break, surveys_flush, surveys_on, surveys_over}
+use Rattle.cli_survey.proofs.RowLemmas.{row_made, told_row}
+use Rattle.cli_survey.proofs.SurveyLemmas.{keeps_writes, pass_counts, pass_notes, pass_running, running_is, surveys_break, surveys_flush, surveys_on, surveys_over}
 
 -- ---- over a pass
 
@@ -50,13 +53,29 @@ counts_passed n m passed is counts =
     let same : passed.journal.counts ≡ m.journal.counts = ap (λ (x : Machine). x.journal.counts) is ∙ pass_counts m in
     subst (λ (c : Counts). CountsAtMost n c) (sym same) counts
 
-pub may_passed : (n : ℕ) (m passed : Machine) → passed ≡ hw_passed_over m → MayMake m n → MayMake passed n
-may_passed n m passed is may = record {
-  asked = may.asked;
+notes_passed : (m passed : Machine) → passed ≡ hw_passed_over m → length m.journal.notes ≤ max_notes → length passed.journal.notes ≤ max_notes
+notes_passed m passed is few =
+    let same : passed.journal.notes ≡ m.journal.notes = ap (λ (x : Machine). x.journal.notes) is ∙ pass_notes m in
+    subst (λ (notes : List Note). length notes ≤ max_notes) (sym same) few
+
+pub tend_passed : (n : ℕ) (m passed : Machine) → passed ≡ hw_passed_over m → MayTend m n → MayTend passed n
+tend_passed n m passed is may = record {
   few = may.few;
+  state = state_passed m passed may.state is;
+  counts = counts_passed (max_counts - (n + 1)) m passed is may.counts;
   room = room_passed m passed is may.room;
-  counts = counts_passed (max_counts - n) m passed is may.counts;
+  kept = notes_passed m passed is may.kept;
 }
+
+pub tend_makes : (n k : ℕ) (m : Machine) → MayTend m n → 0 < k → k ≤ n + 1 → MayMake m k
+tend_makes n k m may some within =
+    let few = may.few in
+    record {
+      asked = some;
+      few = omega (arith, few, within);
+      room = may.room;
+      counts = counts_within (max_counts - (n + 1)) (max_counts - k) m.journal.counts (omega (arith, within)) may.counts;
+    }
 
 pub go_passed : (n : ℕ) (m passed : Machine) (to : SinkState) → passed ≡ hw_passed_over m → MayGoOn m n to → MayGoOn passed n to
 go_passed n m passed to is may = record {
@@ -65,25 +84,36 @@ go_passed n m passed to is may = record {
   state = state_passed m passed may.state is;
   counts = counts_passed (max_counts - (n + 1)) m passed is may.counts;
   room = room_passed m passed is may.room;
+  kept = notes_passed m passed is may.kept;
 }
 
 -- ---- over a row of events
 
-pub go_one : (n : ℕ) (m : Machine) (to : SinkState) → MayGoOn m n to → MayMake m 1
-go_one n m to may =
+pub go_tends : (n k : ℕ) (m : Machine) (to : SinkState) → k ≤ n → MayGoOn m n to → MayTend m k
+go_tends n k m to within may =
     let few = may.few in
     record {
-      asked = omega arith;
-      few = omega arith;
+      few = omega (arith, few, within);
+      state = may.state;
+      counts = counts_within (max_counts - (n + 1)) (max_counts - (k + 1)) m.journal.counts (omega (arith, within)) may.counts;
       room = may.room;
-      counts = counts_within (max_counts - (n + 1)) (max_counts - 1) m.journal.counts (omega arith) may.counts;
+      kept = may.kept;
     }
 
 pub go_told : (n told : ℕ) (m : Machine) (to new : SinkState) → told ≡ n → new ≡ to → MayGoOn m n to → MayGoOn m told new
 go_told n told m to new count sink may = subst (λ (k : ℕ). MayGoOn m k new) (sym count) (subst (λ (s : SinkState). MayGoOn m n s) (sym sink) may)
 
 pub go_room : (n : ℕ) (left : ℕ) (m next : Machine) (e : Event) (to : SinkState) → IsRowMade m e n next → MayGoOn m left to → length next.journal.printed ≤ max_printed
-go_room n left m next e to made may = room_again n m next e may.state made.chain may.room
+go_room n left m next e to made may = made.room may.room
+
+state_flushed : (n : ℕ) (m next flushed : Machine) (e : Event) (now new : SinkState) → HasState m → IsRowMade m e n next → Flushed next flushed now new → HasState flushed
+state_flushed n m next flushed e now new has made f =
+    let row : List Event = replicate n e in
+    let there : Stands m (take m.cleared has.state.journal.printed) has.state = record { stands = has.stands; away = refl } in
+    record {
+      state = run has.state row;
+      stands = clear_law next flushed (run has.state row) (made.stands has.state (take m.cleared has.state.journal.printed) there).stands f.away.cleared;
+    }
 
 pub go_made : (n left rest : ℕ) (m next flushed : Machine) (e : Event) (now new : SinkState) → rest + n ≡ left → IsRowMade m e n next → MayGoOn m left now →
     Flushed next flushed now new → length flushed.journal.printed < max_printed → MayGoOn flushed rest new
@@ -95,11 +125,12 @@ go_made n left rest m next flushed e now new split made may f room =
         count = subst (λ (k : ℕ). k < 18446744073709551615) (sym (ap (λ (s : SinkState). s.faults) f.taken)) may.sink.count;
       };
       few = omega (arith, few, split);
-      state = state_after n m next flushed e now new may.state made.chain f;
+      state = state_flushed n m next flushed e now new may.state made f;
       counts = flushed_counts (max_counts - (rest + 1)) next flushed now new
           (counts_within (max_counts - (left + 1) + n) (max_counts - (rest + 1)) next.journal.counts (omega (arith, few, split))
           (made.counts (max_counts - (left + 1)) may.counts)) f;
       room = room;
+      kept = subst (λ (notes : List Note). length notes ≤ max_notes) (sym (ap (λ (x : Machine). x.journal.notes) f.away.cleared.same)) (made.kept may.kept);
     }
 
 -- the same behind a pass
@@ -115,14 +146,47 @@ room_advanced n left m next w after e now a may = go_room n left a.ready next e 
 -- ---- where nothing is to be seen to
 
 pub plain_running : (m : Machine) → is_plain m ≡ true → is_running m.journal.verdict ≡ true
-plain_running m plain = and_first (is_running m.journal.verdict) (not (is_some m.loading)) plain
+plain_running m plain =
+    and_first (is_running m.journal.verdict) (not (is_some m.loading))
+    (and_first (is_running m.journal.verdict && not (is_some m.loading)) (has_room m) plain)
 
 is_none : {A : Type 0} (x : Option A) → not (is_some x) ≡ true → x ≡ None
 is_none None is = refl
 is_none (Some x) is = absurd (cc is)
 
 pub plain_unloaded : (m : Machine) → is_plain m ≡ true → m.loading ≡ None
-plain_unloaded m plain = is_none m.loading (and_second (is_running m.journal.verdict) (not (is_some m.loading)) plain)
+plain_unloaded m plain =
+    is_none m.loading (and_second (is_running m.journal.verdict) (not (is_some m.loading))
+    (and_first (is_running m.journal.verdict && not (is_some m.loading)) (has_room m) plain))
+
+has_below : (a b : ℕ) → a < b → nat_lt a b ≡ true
+has_below a b is = grind (arith, nat_tests)
+
+both_true : (a b : Bool) → a ≡ true → b ≡ true → (a && b) ≡ true
+both_true true b first second = second
+both_true false b first second = absurd (cc first)
+
+-- where so many events still fit
+pub plain_by : (m : Machine) (fit : ℕ) → is_clear m ≡ true → length m.journal.notes + fit ≤ max_notes → 0 < fit → is_plain m ≡ true
+plain_by m fit clear fits some = both_true (is_clear m) (has_room m) clear (has_below (length m.journal.notes) max_notes (omega (arith, fits, some)))
+
+below_by : (a b : ℕ) → nat_lt a b ≡ true → a < b
+below_by a b is = grind (arith, nat_tests)
+
+pub room_below : (m : Machine) → has_room m ≡ true → length m.journal.notes < max_notes
+room_below m room = below_by (length m.journal.notes) max_notes room
+
+above_by : (a b : ℕ) → a ≤ b → nat_lt a b ≡ false → a ≡ b
+above_by a b few is = grind (arith, nat_tests)
+
+pub no_room : (m : Machine) → length m.journal.notes ≤ max_notes → has_room m ≡ false → length m.journal.notes ≡ max_notes
+no_room m few full = above_by (length m.journal.notes) max_notes few full
+
+pub plain_has_room : (m : Machine) → is_plain m ≡ true → has_room m ≡ true
+plain_has_room m plain = and_second (is_running m.journal.verdict && not (is_some m.loading)) (has_room m) plain
+
+pub plain_room : (m : Machine) → is_plain m ≡ true → length m.journal.notes < max_notes
+plain_room m plain = room_below m (plain_has_room m plain)
 
 plain_passed : (m : Machine) (w : Found) → is_plain m ≡ true → IsPassed m w m w
 plain_passed m w plain =
@@ -132,13 +196,18 @@ plain_passed m w plain =
 unrefused : (m : Machine) (r : State) (e : Event) (l : RefusedLoads) → StandsFor m r → m.loading ≡ None → l ≡ with_loads l (refusals r e)
 unrefused m r e l stands none = sym (ap (λ (xs : List RefusedLoad). with_loads l xs) (none_refused r e (none_seen m r stands none)))
 
-plain_advances : (m next : Machine) (w : Found) (e : Event) (n : ℕ) → is_plain m ≡ true → IsRowMade m e n next → Advances m w e n next w
-plain_advances m next w e n plain made = record {
+-- the row that a chain made
+pub plain_made : (n : ℕ) (m next : Machine) (e : Event) → HasState m → is_plain m ≡ true → IsRepeated m e n next → IsRowMade m e n next
+plain_made n m next e has plain it = row_made n m next e has (running_is m.journal.verdict (plain_running m plain)) it
+
+plain_advances : (m next : Machine) (w : Found) (e : Event) (n : ℕ) → is_plain m ≡ true → length m.journal.notes + n ≤ max_notes → IsRowMade m e n next → Advances m w e n next w
+plain_advances m next w e n plain fits made = record {
   ready = m;
   passed = plain_passed m w plain;
   running = plain_running m plain;
   looked = λ r stands. unrefused m r e (loads_view w.loads) stands (plain_unloaded m plain);
   made = made;
+  told = told_row n m next e w.noted (plain_room m plain) fits made;
 }
 
 -- ---- the events of a loop before which nothing is to be seen to
@@ -155,29 +224,29 @@ over_told many n told before script m next now to new over count sink =
 
 -- a row more
 pub over_made : (n many left rest : ℕ) (before mid after : List Event) (m at next flushed : Machine) (e : Event) (now to new : SinkState) →
-    GoesOver many left before mid m at now to → is_plain at ≡ true → mid ≡ replicate n e ++ after → rest + n ≡ left → IsRowMade at e n next → Flushed next flushed to new →
-    length flushed.journal.printed < max_printed → GoesOver many rest before after m flushed now new
-over_made n many left rest before mid after m at next flushed e now to new over plain parts split made f room =
+    GoesOver many left before mid m at now to → is_plain at ≡ true → mid ≡ replicate n e ++ after → rest + n ≡ left →
+    length at.journal.notes + n ≤ max_notes → IsRowMade at e n next → Flushed next flushed to new → length flushed.journal.printed < max_printed → GoesOver many rest before after m flushed now new
+over_made n many left rest before mid after m at next flushed e now to new over plain parts split fits made f room =
     let fewer = over.fewer in
     record {
       fewer = omega (arith, fewer, split);
       on = λ start all found old is_start up.
           surveys_flush start all after next flushed found old to new
-          (surveys_on n start all mid after at next found found e old to is_start (over.on start all found old is_start up) parts (plain_advances at next found e n plain made)) f;
+          (surveys_on n start all mid after at next found found e old to is_start (over.on start all found old is_start up) parts (plain_advances at next found e n plain fits made)) f;
       may = go_made n left rest at next flushed e to new split made over.may f room;
     }
 
 -- a write of the console failed after it
 pub over_broke : (n many left : ℕ) (before mid after : List Event) (m at next passed : Machine) (e : Event) (now to new : SinkState) →
-    GoesOver many left before mid m at now to → is_plain at ≡ true → mid ≡ replicate n e ++ after → IsRowMade at e n next → passed ≡ hw_passed_over next →
-    BreaksOff to new next.journal.printed → GoesToBreak before m passed now new
-over_broke n many left before mid after m at next passed e now to new over plain parts made is broke = λ start all found old is_start up.
+    GoesOver many left before mid m at now to → is_plain at ≡ true → mid ≡ replicate n e ++ after → length at.journal.notes + n ≤ max_notes → IsRowMade at e n next →
+    passed ≡ hw_passed_over next → BreaksOff to new next.journal.printed → GoesToBreak before m passed now new
+over_broke n many left before mid after m at next passed e now to new over plain parts fits made is broke = λ start all found old is_start up.
     surveys_break start all after next passed found old to new
-    (surveys_on n start all mid after at next found found e old to is_start (over.on start all found old is_start up) parts (plain_advances at next found e n plain made)) is broke
+    (surveys_on n start all mid after at next found found e old to is_start (over.on start all found old is_start up) parts (plain_advances at next found e n plain fits made)) is broke
 
 -- none is left
 pub over_all : (many left : ℕ) (before mid : List Event) (m at : Machine) (now to : SinkState) → GoesOver many left before mid m at now to → is_plain at ≡ true → mid ≡ [] →
     GoesToEnd before m at now to
 over_all many left before mid m at now to over plain none = λ start all found old is_start up.
     surveys_over (mid ≡ []) start all mid at at found found old to (over.on start all found old is_start up)
-    (record { passed = plain_passed at found plain; same = refl; over = inr none }) (λ last. last)
+    (record { passed = plain_passed at found plain; same = refl; noted = refl; over = inr none }) (λ last. last)

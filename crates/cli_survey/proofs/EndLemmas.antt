@@ -2,7 +2,6 @@
 use Rattle.std.proofs.Common.{◌≡◌, ◌<◌, ℕ, List, [], ◌∷◌, ◌++◌, refl, sym, ◌∙◌, ap, subst, append_assoc, append-nil, IsTrue, Result, Ok, Err, OnOk}
 use Rattle.spec_processor.specs.Counters.{CanCount}
 use Rattle.sv_types.specs.declared.event.Event.{Event}
-use Rattle.sv_types.specs.declared.event.Note.{Note}
 use Rattle.sv_types.specs.declared.event.Verdict.{Verdict}
 use Rattle.sv_types.specs.declared.status.Status.{Status}
 use Rattle.spec_reference.specs.Report.{report}
@@ -18,15 +17,20 @@ use Rattle.host_io.specs.declared.trouble.Trouble.TheVariants.{Write, Memory}
 use Rattle.machine.proofs.Standing.{prints_after, stands_printed, stands_verdict}
 use Rattle.secvisor_cli.specs.Answers.{Writes, is_answer}
 use Rattle.secvisor_cli.proofs.EndLemmas.{broken_writes, run_is_answer}
-use Rattle.report.specs.Findings.{PassedWrites, RefusedLoads}
+use Rattle.report.specs.Findings.{FoundByNotes, PassedWrites, RefusedLoads}
+use Rattle.report.specs.Lines.{found_lines}
+use Rattle.elf64_load.specs.Names.{names_in}
+use Rattle.sv_types.specs.Kernel.{kernel_segments}
 use Rattle.report.specs.Views.{loads_view, writes_view}
-use Rattle.sv_types.specs.Policies.{Rules}
+use Rattle.sv_types.specs.Policies.{ModuleRule, Rules}
 use Rattle.machine.proofs.Loadings.{rules_seen}
+use Rattle.cli_survey.specs.Noted.{noted}
 use Rattle.cli_survey.specs.Refusals.{loads_in}
 use Rattle.report.specs.declared.findings.found.Found.{Found as Passed}
 use Rattle.cli_survey.specs.Surveys.{HasSurveyed, StandsAmong, SurveyBroke, SurveyWants, Surveyed, writes_in}
-use Rattle.cli_survey.specs.SurveyAnswers.{SurveysTo, bytes_due, ending_of, lines_of, lines_found, lines_due, status_due, survey_status}
+use Rattle.cli_survey.specs.SurveyAnswers.{SurveysTo, bytes_due, ending_of, lines_of, lines_found, lines_due, set_apart, status_due, survey_status}
 use Rattle.cli_survey.proofs.LookLemmas.{survey_on}
+use Rattle.cli_survey.proofs.RowLemmas.{told_view}
 use Rattle.cli_survey.proofs.SurveyLemmas.{passed_prints}
 
 -- ---- two writes, one after the other
@@ -71,7 +75,7 @@ printed_front : (file : List ℕ) (start : State) (done left events : List Event
     (rest : List ℕ) × ((survey start done).journal.printed ++ rest ≡ bytes_due file start events)
 printed_front file start done left events split =
     let grown = grows (survey start done) left in
-    let after : List ℕ = ending_of file (writes_in start events) (loads_in start events) (survey start events) in
+    let after : List ℕ = ending_of file (writes_in start events) (loads_in start events) (noted start events) (survey start events) in
     let all : (survey start done).journal.printed ++ grown.0 ≡ (survey start events).journal.printed =
     sym grown.1 ∙ ap (λ (s : State). s.journal.printed) (sym (survey_on start done left)) ∙ ap (λ (es : List Event). (survey start es).journal.printed) split in
     (grown.0 ++ after, sym (append_assoc (survey start done).journal.printed grown.0 after) ∙ ap (λ (p : List ℕ). p ++ after) all)
@@ -121,10 +125,6 @@ may_write start events m w old new s may = record {
   count = subst (λ (n : ℕ). CanCount n) (sym (ap (λ (k : SinkState). k.faults) s.taken)) may.count;
 }
 
-notes_are : (m : Machine) (r : State) → StandsFor m r → m.journal.notes ≡ r.journal.notes
-unfolding machine_of
-notes_are m r s = ap (λ (x : Machine). x.journal.notes) s.same
-
 report_is : (m : Machine) (r : State) → StandsFor m r → report m.journal ≡ report r.journal
 unfolding machine_of
 report_is m r s = ap (λ (x : Machine). report x.journal) s.same
@@ -155,15 +155,18 @@ none_left : (events : List Event) (result : Result Status Trouble) → OnOk resu
 none_left events (Ok status) = refl
 none_left events (Err trouble) = tt
 
--- what the machine tells is what the survey's state tells
+abbrev lines_by : (file : List ℕ) → List ModuleRule → PassedWrites → RefusedLoads → FoundByNotes → List ℕ
+lines_by file modules writes loads found = set_apart (found_lines (names_in file (kernel_segments file)) modules writes loads found)
+
+-- what the machine and what was found tell is what is due
 ending_same : (file : List ℕ) (start : State) (events : List Event) (m : Machine) (w : Passed) (old new : SinkState) → HasSurveyed start events m w old new →
     lines_found file m w ≡ lines_due file start events
 ending_same file start events m w old new s =
-    ap (λ (k : Rules). lines_of file k.modules (writes_view w.writes) (loads_view w.loads) m.journal.notes) (rules_seen m (survey start events) s.stands.stands)
-    ∙ ap (λ (x : PassedWrites). lines_of file (survey start events).rules.modules x (loads_view w.loads) m.journal.notes) s.writes_are
-    ∙ ap (λ (x : RefusedLoads). lines_of file (survey start events).rules.modules (writes_in start events) x m.journal.notes) s.loads_are
-    ∙ ap (λ (n : List Note). lines_of file (survey start events).rules.modules (writes_in start events) (loads_in start events) n)
-    (notes_are m (survey start events) s.stands.stands)
+    let modules : List ModuleRule = (survey start events).rules.modules in
+    ap (λ (f : FoundByNotes). lines_by file m.rules.modules (writes_view w.writes) (loads_view w.loads) f) (told_view w.noted m.journal.notes (noted start events) s.told)
+    ∙ ap (λ (k : Rules). lines_of file k.modules (writes_view w.writes) (loads_view w.loads) (noted start events)) (rules_seen m (survey start events) s.stands.stands)
+    ∙ ap (λ (x : PassedWrites). lines_of file modules x (loads_view w.loads) (noted start events)) s.writes_are
+    ∙ ap (λ (x : RefusedLoads). lines_of file modules (writes_in start events) x (noted start events)) s.loads_are
 
 pub survey_finished : (file : List ℕ) (start : State) (events : List Event) (m : Machine) (w : Passed) (old mid new : SinkState) (result : Result Status Trouble) →
     HasSurveyed start events m w old mid →

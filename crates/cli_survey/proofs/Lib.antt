@@ -1,4 +1,10 @@
+pub mod KeepsNotes
+pub mod RequestsNote
+pub mod CallsNote
+pub mod StepsNote
+pub mod NotedLemmas
 pub mod LookLemmas
+pub mod RowLemmas
 pub mod SurveyLemmas
 pub mod AdvanceLemmas
 pub mod ReadyLemmas

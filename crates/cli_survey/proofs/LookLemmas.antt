@@ -285,3 +285,7 @@ running_refuses r e running = ap (λ (v : Verdict). refusals_under v r e) runnin
 pub on_ok : {A E P Q : Type 0} (result : Result A E) → OnOk result P → (P → Q) → OnOk result Q
 on_ok (Ok x) p f = f p
 on_ok (Err e) p f = tt
+
+pub on_any : {A E P : Type 0} (result : Result A E) → P → OnOk result P
+on_any (Ok x) p = p
+on_any (Err e) p = tt

@@ -19,9 +19,10 @@ use Rattle.laws_simulation.specs.Passes.{Pass, pass_of, passes}
 use Rattle.laws_simulation.specs.SurveyLaws.{IsNoWrite}
 use Rattle.laws_simulation.proofs.SurveysHold.{unpassed}
 use Rattle.elf64_load.specs.Names.{KernelNames, names_in}
-use Rattle.report.specs.Findings.{PassedWrites, RefusedLoads, demotions, denied_moves, no_writes, raised, with_write}
-use Rattle.report.specs.Lines.{all_loads, denied_lines, fetch_lines, survey_lines, total_line, write_lines}
+use Rattle.report.specs.Findings.{PassedWrites, RefusedLoads, found_by, no_writes, raised, with_write}
+use Rattle.report.specs.Lines.{all_loads, denied_lines, fetch_lines, found_lines, survey_lines, total_line, write_lines}
 use Rattle.sv_types.specs.Policies.{ModuleRule}
+use Rattle.cli_survey.specs.Noted.{noted}
 use Rattle.cli_survey.specs.Refusals.{loads_in}
 use Rattle.cli_survey.specs.NoFindings.{NoFindingsLaw}
 use Rattle.cli_survey.specs.Surveys.{occurrence_of, with_passes, writes_in}
@@ -52,14 +53,14 @@ unfolding total_line
 total_none total e = total_by total (total == 0) refl e
 
 no_total : (names : KernelNames) (modules : List ModuleRule) (w : PassedWrites) (loads : RefusedLoads) (notes : List Note) → survey_lines names modules w loads notes ≡ [] → w.total ≡ 0
-unfolding survey_lines
+unfolding found_lines
 no_total names modules w loads notes e =
     let writes = write_lines names w.findings ++ total_line w.total in
-    let fetches = fetch_lines names (demotions [] notes) in
+    let fetches = fetch_lines names (found_by notes).demotions in
     let refused = all_loads modules loads in
     total_none w.total
     (second_none (write_lines names w.findings) (total_line w.total)
-    (first_none writes fetches (first_none (writes ++ fetches) refused (first_none ((writes ++ fetches) ++ refused) (denied_lines (denied_moves [] notes)) e))))
+    (first_none writes fetches (first_none (writes ++ fetches) refused (first_none ((writes ++ fetches) ++ refused) (denied_lines (found_by notes).denied) e))))
 
 -- ---- no pass
 
@@ -93,8 +94,8 @@ pub no_findings_law : NoFindingsLaw
 no_findings_law file start events none =
     let last : State = survey start events in
     let unpassed : passes start events ≡ [] =
-    none_passed (passes start events) (no_total (names_in file (kernel_segments file)) last.rules.modules (writes_in start events) (loads_in start events) last.journal.notes
-    (apart_none (survey_lines (names_in file (kernel_segments file)) last.rules.modules (writes_in start events) (loads_in start events) last.journal.notes) none)) in
+    none_passed (passes start events) (no_total (names_in file (kernel_segments file)) last.rules.modules (writes_in start events) (loads_in start events) (noted start events)
+    (apart_none (survey_lines (names_in file (kernel_segments file)) last.rules.modules (writes_in start events) (loads_in start events) (noted start events)) none)) in
     let same : last ≡ run start events = same_run start events unpassed in
     record {
       state = same;

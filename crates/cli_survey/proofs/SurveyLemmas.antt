@@ -2,6 +2,7 @@
 use Rattle.std.proofs.Common.{◌≡◌, ◌≢◌, ◌⊎◌, ℕ, zero, suc, ◌<◌, List, [], ◌∷◌, ◌++◌, length, take, replicate, refl, sym, ◌∙◌, ap, subst}
 use Rattle.std.proofs.Common.{append_assoc, append-nil, arith, slice_get, Some, inl, inr, true, false}
 use Rattle.sv_types.specs.declared.event.Event.{Event}
+use Rattle.sv_types.specs.declared.event.Note.{Note}
 use Rattle.sv_types.specs.declared.event.Rule.TheVariants.{Write}
 use Rattle.sv_types.specs.declared.event.Verdict.{Verdict}
 use Rattle.sv_types.specs.declared.event.Verdict.TheVariants.{Running, Stopped}
@@ -10,7 +11,7 @@ use Rattle.spec_reference.specs.Run.{HasEnded, run, step}
 use Rattle.spec_reference.specs.Soundness.{IsSound}
 use Rattle.spec_reference.specs.Start.{IsStart, flat_start, boot_start, virtio_start, start as begin}
 use Rattle.spec_reference.specs.States.{State}
-use Rattle.spec_reference.proofs.Runs.{ended_stays, run_on}
+use Rattle.spec_reference.proofs.Runs.{ended_stays}
 use Rattle.spec_hardware.specs.Machine.{Machine, HwHart}
 use Rattle.spec_hardware.specs.Reaches.{IsNew}
 use Rattle.spec_hardware.specs.StandsFor.{StandsFor}
@@ -20,29 +21,30 @@ use Rattle.laws_resume.proofs.KeepableStarts.{keepable_law}
 use Rattle.laws_resume.proofs.KeepableSteps.{keeps_law}
 use Rattle.laws_simulation.specs.HwPassing.{hw_moved_on, hw_passed_under, hw_passed_over}
 use Rattle.laws_simulation.specs.Passing.{passed_over, survey}
-use Rattle.laws_simulation.specs.Passes.{Pass, pass_of, passes, IsRow}
+use Rattle.laws_simulation.specs.Passes.{Pass, pass_of, passes}
 use Rattle.laws_simulation.specs.SurveyLaws.{IsNoWrite}
 use Rattle.laws_simulation.proofs.HwPassesHold.{hw_pass_law}
 use Rattle.laws_simulation.proofs.PassesHold.{moves_on_law, pass_law}
-use Rattle.laws_simulation.proofs.RowsHold.{passes_on_law, row_law}
+use Rattle.laws_simulation.proofs.RowsHold.{passes_on_law}
 use Rattle.laws_simulation.proofs.SurveysHold.{same_run_law, unpassed}
 use Rattle.laws_guarantee.proofs.SurveysKeep.{survey_keeps}
 use Rattle.host_io.specs.Outside.{SinkState, after_taking, BreaksOff}
 use Rattle.host_io.proofs.SinkLemmas.{after_taking-append, after_taking-nil}
-use Rattle.machine.specs.Repeats.{Repeats}
 use Rattle.machine.specs.Console.{Flushed}
 use Rattle.machine.specs.Standing.{Stands}
 use Rattle.machine.proofs.Passes.{pass_rest}
-use Rattle.machine.proofs.Repeated.{one_more, repeats_stand}
-use Rattle.machine.proofs.Standing.{stands_new, stands_step, stands_away, stands_verdict, verdict_is}
-use Rattle.report.specs.Findings.{PassedWrites, RefusedLoads, no_loads, no_writes, with_write}
+use Rattle.machine.proofs.Standing.{stands_new, stands_away, stands_notes, stands_verdict, verdict_is}
+use Rattle.report.specs.Findings.{FoundByNotes, PassedWrites, RefusedLoads, no_loads, no_writes, with_write}
 use Rattle.report.specs.Views.{loads_view, writes_view}
 use Rattle.report.specs.declared.findings.found.Found.{Found}
 use Rattle.report.specs.declared.findings.loads.RefusedLoad.{RefusedLoad}
-use Rattle.cli_survey.specs.Advances.{Advances, Ends}
+use Rattle.cli_survey.specs.Advances.{Advances, Ends, IsRowMade, TellsOn}
+use Rattle.cli_survey.specs.Noted.{Tells, noted}
 use Rattle.cli_survey.specs.Refusals.{loads_in, refusals, refused, with_loads}
+use Rattle.cli_survey.specs.Rows.{GoesAsRow}
+use Rattle.cli_survey.proofs.NotedLemmas.{none_noted, noted_on}
 use Rattle.cli_survey.proofs.LookLemmas.{loads_on, none_after, survey_on}
-use Rattle.cli_survey.specs.Surveys.{HasSurveyed, StandsAmong, SurveyBroke, SurveyWants, SurveysUp, is_running, occurrence_of, with_passes, writes_in}
+use Rattle.cli_survey.specs.Surveys.{HasSurveyed, SurveyBroke, SurveyWants, SurveysUp, is_running, occurrence_of, with_passes, writes_in}
 
 -- ---- events after others
 
@@ -54,24 +56,8 @@ writes_on : (r : State) (front back : List Event) → writes_in r (front ++ back
 writes_on r front back =
     ap (λ (ps : List Pass). with_passes no_writes ps) (passes_on_law r front back) ∙ passed_on no_writes (passes r front) (passes (survey r front) back)
 
--- ---- a row of equal events
-
 none_running : (v : Verdict) → v ≡ Running → IsNoWrite v
 none_running v is = subst IsNoWrite (sym is) tt
-
-row_of : (k : ℕ) (m next : Machine) (e : Event) (r : State) → StandsFor m r → m.journal.verdict ≡ Running → Repeats (suc k) m e next → IsRow r k e
-row_of k m next e r s running (before, (those, (on, makes))) =
-    let mid : State = run r (replicate k e) in
-    let here : StandsFor before mid = repeats_stand k m before e those r s in
-    row_law r k e (none_running mid.journal.verdict (sym (verdict_is before mid here) ∙ on.running running))
-
-stands_row : (n : ℕ) (m next : Machine) (e : Event) (r : State) (cleared : List ℕ) → Stands m cleared r → Repeats n m e next → Stands next cleared (run r (replicate n e))
-stands_row zero m next e r cleared s same = subst (λ (x : Machine). Stands x cleared r) (sym same) s
-stands_row (suc k) m next e r cleared s (mid, (those, (on, makes))) =
-    let here : Stands mid cleared (run r (replicate k e)) = stands_row k m mid e r cleared s those in
-    subst (λ (x : State). Stands next cleared x)
-    (sym (run_on r (replicate k e) (e ∷ [])) ∙ ap (λ (events : List Event). run r events) (one_more k e))
-    (stands_step mid next (run r (replicate k e)) cleared e here (makes.stands (run r (replicate k e)) here.stands) makes.event)
 
 -- ---- a pass
 
@@ -90,6 +76,20 @@ moved_counts : (m : Machine) (h : ℕ) (x : Option HwHart) → (hw_moved_on m h 
 unfolding hw_moved_on
 moved_counts m h None = refl
 moved_counts m h (Some hw) = refl
+
+moved_notes : (m : Machine) (h : ℕ) (x : Option HwHart) → (hw_moved_on m h x).journal.notes ≡ m.journal.notes
+unfolding hw_moved_on
+moved_notes m h None = refl
+moved_notes m h (Some hw) = refl
+
+under_notes : (v : Verdict) (m : Machine) → (hw_passed_under v m).journal.notes ≡ m.journal.notes
+unfolding hw_passed_under
+under_notes (Stopped (Write pc gpa) h turn) m = moved_notes m h (slice_get m.harts h)
+under_notes _ m = refl
+
+pub pass_notes : (m : Machine) → (hw_passed_over m).journal.notes ≡ m.journal.notes
+unfolding hw_passed_over
+pass_notes m = under_notes m.journal.verdict m
 
 under_counts : (v : Verdict) (m : Machine) → (hw_passed_under v m).journal.counts ≡ m.journal.counts
 unfolding hw_passed_under
@@ -152,6 +152,15 @@ start_runs s (inl k) = ap (λ (x : State). x.journal.verdict) k.same
 start_runs s (inr (inl k)) = ap (λ (x : State). x.journal.verdict) k.same
 start_runs s (inr (inr k)) = ap (λ (x : State). x.journal.verdict) k.same
 
+start_notes : (s : State) → IsStart s → s.journal.notes ≡ []
+unfolding flat_start boot_start virtio_start begin
+start_notes s (inl k) = ap (λ (x : State). x.journal.notes) k.same
+start_notes s (inr (inl k)) = ap (λ (x : State). x.journal.notes) k.same
+start_notes s (inr (inr k)) = ap (λ (x : State). x.journal.notes) k.same
+
+pub new_notes : (m : Machine) (s : State) → IsNew m s → IsStart s → m.journal.notes ≡ []
+new_notes m s new is_start = stands_notes m s [] (stands_new m s new) ∙ start_notes s is_start
+
 pub new_runs : (m : Machine) (s : State) → IsNew m s → IsStart s → m.journal.verdict ≡ Running
 new_runs m s new is_start = verdict_is m s new.stands ∙ start_runs s is_start
 
@@ -162,9 +171,8 @@ none_of (Stopped (Write pc gpa) h turn) none = absurd none
 none_of _ none = refl
 
 pub surveys_none : (start : State) (all left : List Event) (m : Machine) (w : Found) (sink : SinkState) → left ≡ all → IsNew m start → IsStart start → writes_view w.writes ≡
-    no_writes → loads_view w.loads ≡ no_loads →
-    SurveysUp start all left m w sink sink
-surveys_none start all left m w sink same new is_start none unrefused =
+    no_writes → loads_view w.loads ≡ no_loads → w.noted ≡ None → SurveysUp start all left m w sink sink
+surveys_none start all left m w sink same new is_start none unrefused unnoted =
     let calm : IsNoWrite start.journal.verdict = none_running start.journal.verdict (start_runs start is_start) in
     record {
       done = [];
@@ -175,6 +183,8 @@ surveys_none start all left m w sink same new is_start none unrefused =
       stands = stands_new m start new;
       writes_are = ap (λ (ps : List Pass). with_passes (writes_view w.writes) ps) (none_of start.journal.verdict calm) ∙ none;
       loads_are = unrefused;
+      told = subst (λ (found : Option FoundByNotes). Tells found m.journal.notes []) (sym unnoted)
+          (new_notes m start new is_start);
       taken = sym (after_taking-nil sink);
       calm = calm;
     }
@@ -203,8 +213,8 @@ stands_passing start all left m passed w old new up is =
 
 surveys_passed : (start : State) (all left : List Event) (m passed : Machine) (w after : Found) (old new : SinkState) → SurveysUp start all left m w old new →
     passed ≡ hw_passed_over m → writes_view after.writes ≡ with_passes (writes_view w.writes) (pass_of m.journal.verdict) → loads_view after.loads ≡ loads_view w.loads →
-    SurveysOn start all left passed after old new
-surveys_passed start all left m passed w after old new up is kept same = record {
+    after.noted ≡ w.noted → SurveysOn start all left passed after old new
+surveys_passed start all left m passed w after old new up is kept same noted_same = record {
   done = up.done;
   split = up.split;
   surveyed = record {
@@ -212,6 +222,8 @@ surveys_passed start all left m passed w after old new up is kept same = record 
     stands = stands_passing start all left m passed w old new up is;
     writes_are = kept ∙ ap (λ (v : Verdict). with_passes (writes_view w.writes) (pass_of v)) (verdict_is m up.before up.stands.stands) ∙ up.writes_are;
     loads_are = same ∙ up.loads_are;
+    told = subst (λ (found : Option FoundByNotes). Tells found passed.journal.notes (noted start up.done)) (sym noted_same)
+        (subst (λ (notes : List Note). Tells w.noted notes (noted start up.done)) (sym (ap (λ (x : Machine). x.journal.notes) is ∙ pass_notes m)) up.told);
     taken = up.taken;
   };
   calm = up.calm;
@@ -240,28 +252,27 @@ record HasMoved (start : State) (all rest : List Event) (next : Machine) (done :
   row : passes (survey start done) (replicate n e) ≡ pass_of (run (survey start done) (replicate n e)).journal.verdict
   reached : survey start (done ++ replicate n e) ≡ passed_over (run (survey start done) (replicate n e))
 
-moved : (n : ℕ) (start : State) (all left rest : List Event) (m next : Machine) (w : Found) (e : Event) (old now : SinkState) → 0 < n → m.journal.verdict ≡ Running →
-    (on : SurveysOn start all left m w old now) → left ≡ replicate n e ++ rest → Repeats n m e next → HasMoved start all rest next on.done on.surveyed.cleared n e
-moved zero start all left rest m next w e old now some running on parts repeats = absurd (omega arith)
-moved (suc k) start all left rest m next w e old now some running on parts repeats =
+moved : (n : ℕ) (start : State) (all left rest : List Event) (m next : Machine) (w : Found) (e : Event) (old now : SinkState) →
+    (on : SurveysOn start all left m w old now) → left ≡ replicate n e ++ rest → IsRowMade m e n next → HasMoved start all rest next on.done on.surveyed.cleared n e
+moved n start all left rest m next w e old now on parts made =
     let r : State = survey start on.done in
-    let row : List Event = replicate (suc k) e in
-    let it : IsRow r k e = row_of k m next e r on.surveyed.stands.stands running repeats in
+    let row : List Event = replicate n e in
+    let it : GoesAsRow r n e = made.row r on.surveyed.stands.stands in
     record {
       split = split_by all on.done left rest row parts on.split;
-      before = stands_row (suc k) m next e r on.surveyed.cleared on.surveyed.stands repeats;
+      before = made.stands r on.surveyed.cleared on.surveyed.stands;
       row = it.passed;
       reached = survey_on start on.done row ∙ it.state;
     }
 
-surveys_more : (n : ℕ) (start : State) (all left rest : List Event) (m next : Machine) (w after : Found) (e : Event) (old now : SinkState) → IsStart start → 0 < n →
-    m.journal.verdict ≡ Running → SurveysOn start all left m w old now → left ≡ replicate n e ++ rest → Repeats n m e next →
+surveys_more : (n : ℕ) (start : State) (all left rest : List Event) (m next : Machine) (w after : Found) (e : Event) (old now : SinkState) → IsStart start →
+    SurveysOn start all left m w old now → left ≡ replicate n e ++ rest → IsRowMade m e n next → TellsOn m e n next w.noted after.noted →
     writes_view after.writes ≡ writes_view w.writes → ((r : State) → StandsFor m r → loads_view after.loads ≡ with_loads (loads_view w.loads) (refusals r e)) →
-    ((r : State) → StandsFor m r → refused r (replicate n e) ≡ refusals r e) → SurveysUp start all rest next after old now
-surveys_more n start all left rest m next w after e old now is_start some running on parts repeats kept added row_refuses =
+    SurveysUp start all rest next after old now
+surveys_more n start all left rest m next w after e old now is_start on parts made told kept added =
     let r : State = survey start on.done in
     let row : List Event = replicate n e in
-    let it : HasMoved start all rest next on.done on.surveyed.cleared n e = moved n start all left rest m next w e old now some running on parts repeats in
+    let it : HasMoved start all rest next on.done on.surveyed.cleared n e = moved n start all left rest m next w e old now on parts made in
     let first : IsSound start = reached_sound start [] is_start in
     let keeps : IsKeepable r = survey_keeps start on.done (keepable_law start [] is_start) first in
     record {
@@ -278,8 +289,10 @@ surveys_more n start all left rest m next w after e old now is_start some runnin
       loads_are =
           added r on.surveyed.stands.stands
           ∙ ap (λ (l : RefusedLoads). with_loads l (refusals r e)) on.surveyed.loads_are
-          ∙ ap (λ (xs : List RefusedLoad). with_loads (loads_in start on.done) xs) (sym (row_refuses r on.surveyed.stands.stands))
+          ∙ ap (λ (xs : List RefusedLoad). with_loads (loads_in start on.done) xs) (sym (made.refuses r on.surveyed.stands.stands))
           ∙ sym (loads_on start on.done row);
+      told = subst (λ (notes : List Note). Tells after.noted next.journal.notes notes) (sym (noted_on start on.done row))
+          (told r (noted start on.done) on.surveyed.stands.stands on.surveyed.told);
       taken = on.surveyed.taken;
       calm =
           subst (λ (x : State). IsNoWrite x.journal.verdict) (sym it.reached)
@@ -309,6 +322,7 @@ surveys_flush start all left m flushed w old now new up f = record {
   stands = stands_away m flushed up.before up.cleared f.cleared up.stands f.away;
   writes_are = up.writes_are;
   loads_are = up.loads_are;
+  told = subst (λ (notes : List Note). Tells w.noted notes (noted start up.done)) (sym (ap (λ (x : Machine). x.journal.notes) f.away.cleared.same)) up.told;
   taken = f.taken ∙ ap (λ (s : SinkState). after_taking s f.cleared) up.taken ∙ after_taking-append old up.cleared f.cleared;
   calm = up.calm;
 }
@@ -349,6 +363,9 @@ surveys_ended start all left m w old new on ended =
       stands = subst (λ (x : State). Stands m on.surveyed.cleared x) same on.surveyed.stands;
       writes_are = on.surveyed.writes_are ∙ sym none ∙ sym (writes_on start on.done left);
       loads_are = on.surveyed.loads_are ∙ sym unrefused ∙ sym (loads_on start on.done left);
+      told = subst (λ (notes : List Note). Tells w.noted m.journal.notes notes)
+          (sym (append-nil (noted start on.done)) ∙ ap (λ (rest : List Note). noted start on.done ++ rest) (sym (none_noted left r over on.calm))
+          ∙ sym (noted_on start on.done left)) on.surveyed.told;
       taken = on.surveyed.taken;
     })
 
@@ -362,14 +379,14 @@ surveys_all start all left m w old new on none =
 
 -- what was kept before an event
 abbrev kept_before : Found → Found → Found
-kept_before w after = record { writes = after.writes; loads = w.loads }
+kept_before w after = record { writes = after.writes; loads = w.loads; noted = w.noted }
 
 -- a row of events is made
 pub surveys_on : (n : ℕ) (start : State) (all left rest : List Event) (m next : Machine) (w after : Found) (e : Event) (old now : SinkState) → IsStart start →
     SurveysUp start all left m w old now → left ≡ replicate n e ++ rest → Advances m w e n next after → SurveysUp start all rest next after old now
 surveys_on n start all left rest m next w after e old now is_start up parts a =
-    surveys_more n start all left rest a.ready next (kept_before w after) after e old now is_start a.made.some (running_is a.ready.journal.verdict a.running)
-    (surveys_passed start all left m a.ready w (kept_before w after) old now up a.passed.passed a.passed.kept refl) parts a.made.chain refl a.looked a.made.refuses
+    surveys_more n start all left rest a.ready next (kept_before w after) after e old now is_start
+    (surveys_passed start all left m a.ready w (kept_before w after) old now up a.passed.passed a.passed.kept refl refl) parts a.made a.told refl a.looked
 
 over_by : (none : Type 0) (start : State) (all left : List Event) (m : Machine) (w : Found) (old now : SinkState) → SurveysOn start all left m w old now →
     (is_running m.journal.verdict ≡ false) ⊎ none → (none → left ≡ []) → HasSurveyed start all m w old now
@@ -380,4 +397,4 @@ over_by none start all left m w old now on (inr end) last = surveys_all start al
 pub surveys_over : (none : Type 0) (start : State) (all left : List Event) (m ready : Machine) (w after : Found) (old now : SinkState) → SurveysUp start all left m w old now →
     Ends none m w ready after → (none → left ≡ []) → HasSurveyed start all ready after old now
 surveys_over none start all left m ready w after old now up e last =
-    over_by none start all left ready after old now (surveys_passed start all left m ready w after old now up e.passed.passed e.passed.kept e.same) e.over last
+    over_by none start all left ready after old now (surveys_passed start all left m ready w after old now up e.passed.passed e.passed.kept e.same e.noted) e.over last

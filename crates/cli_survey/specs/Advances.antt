@@ -1,12 +1,13 @@
 -- How a survey goes on by an event, or by a row of equal ones. This project's own.
 use Rattle.std.specs.Prelude.{◌≡◌, ℕ, ◌+◌, ◌-◌, ◌<◌, ◌≤◌, ◌⊎◌, Bool, true, false, Option, Some, None}
 use Rattle.std.specs.Prelude.{List, [], ◌++◌, length, replicate}
-use Rattle.sv_types.specs.Limits.{max_printed}
+use Rattle.sv_types.specs.Limits.{max_notes, max_printed}
 use Rattle.sv_types.specs.Schedule.{Schedule, first_events, next_event}
 use Rattle.sv_types.specs.declared.event.Event.{Event}
+use Rattle.sv_types.specs.declared.event.Note.{Note}
 use Rattle.script.specs.Runs.{BeginsWith}
-use Rattle.script.specs.declared.event_run.EventRun.{EventRun}
 use Rattle.spec_reference.specs.Counting.{CountsAtMost}
+use Rattle.spec_reference.specs.Run.{run}
 use Rattle.spec_reference.specs.Start.{IsStart}
 use Rattle.spec_reference.specs.States.{State}
 use Rattle.spec_hardware.specs.Machine.{Machine}
@@ -17,11 +18,14 @@ use Rattle.host_io.specs.Outside.{MayWrite, SinkState}
 use Rattle.machine.specs.Drawing.{count_left, events_with, is_used_up}
 use Rattle.machine.specs.Limits.{max_counts}
 use Rattle.machine.specs.Repeats.{Repeats}
-use Rattle.machine.specs.Standing.{HasState}
+use Rattle.machine.specs.Standing.{HasState, Stands}
 use Rattle.machine.specs.declared.drawing.Drawing.{Drawing}
+use Rattle.report.specs.Findings.{FoundByNotes}
 use Rattle.report.specs.Views.{loads_view, writes_view}
 use Rattle.report.specs.declared.findings.found.Found.{Found}
+use Rattle.cli_survey.specs.Noted.{Tells, noted}
 use Rattle.cli_survey.specs.Refusals.{refusals, refused, with_loads}
+use Rattle.cli_survey.specs.Rows.{GoesAsRow}
 use Rattle.cli_survey.specs.Surveys.{HasSurveyed, SurveyBroke, SurveysUp, is_running, with_passes}
 
 -- a write that stopped the machine was passed over, and is kept
@@ -30,11 +34,26 @@ pub record IsPassed (m : Machine) (found : Found) (ready : Machine) (after : Fou
   pub kept : writes_view after.writes ≡ with_passes (writes_view found.writes) (pass_of m.journal.verdict)
 
 -- an event was made so often, of which the last time alone may print or end the run; only the first may refuse a load
-pub record IsRowMade (m : Machine) (e : Event) (n : ℕ) (next : Machine) : Type 0 where
+pub record IsRepeated (m : Machine) (e : Event) (n : ℕ) (next : Machine) : Type 0 where
   pub some : 0 < n
   pub chain : Repeats n m e next
   pub refuses : (r : State) → StandsFor m r → refused r (replicate n e) ≡ refusals r e
   pub counts : (k : ℕ) → CountsAtMost k m.journal.counts → CountsAtMost (k + n) next.journal.counts
+
+-- the same by what the machine stands for
+pub record IsRowMade (m : Machine) (e : Event) (n : ℕ) (next : Machine) : Type 0 where
+  pub some : 0 < n
+  pub stands : (r : State) (cleared : List ℕ) → Stands m cleared r → Stands next cleared (run r (replicate n e))
+  pub row : (r : State) → StandsFor m r → GoesAsRow r n e
+  pub refuses : (r : State) → StandsFor m r → refused r (replicate n e) ≡ refusals r e
+  pub counts : (k : ℕ) → CountsAtMost k m.journal.counts → CountsAtMost (k + n) next.journal.counts
+  pub room : length m.journal.printed < max_printed → length next.journal.printed ≤ max_printed
+  pub kept : length m.journal.notes ≤ max_notes → length next.journal.notes ≤ max_notes
+
+-- so each of its notes is told
+abbrev pub TellsOn : (m : Machine) → Event → (n : ℕ) → (next : Machine) → (old new : Option FoundByNotes) → Type 0
+TellsOn m e n next old new = (r : State) (all : List Note) → StandsFor m r → Tells old m.journal.notes all →
+    Tells new next.journal.notes (all ++ noted r (replicate n e))
 
 -- behind the pass the machine runs, the load that the event refuses is kept, and the event was made so often
 pub record Advances (m : Machine) (found : Found) (e : Event) (n : ℕ) (next : Machine) (after : Found) : Type 0 where
@@ -43,11 +62,13 @@ pub record Advances (m : Machine) (found : Found) (e : Event) (n : ℕ) (next : 
   pub running : is_running ready.journal.verdict ≡ true
   pub looked : (r : State) → StandsFor ready r → loads_view after.loads ≡ with_loads (loads_view found.loads) (refusals r e)
   pub made : IsRowMade ready e n next
+  pub told : TellsOn ready e n next found.noted after.noted
 
 -- behind the pass the machine has ended, or no event is left
 pub record Ends (none : Type 0) (m : Machine) (found : Found) (ready : Machine) (after : Found) : Type 0 where
   pub passed : IsPassed m found ready after
   pub same : loads_view after.loads ≡ loads_view found.loads
+  pub noted : after.noted ≡ found.noted
   pub over : (is_running ready.journal.verdict ≡ false) ⊎ none
 
 -- the one or the other, by what is answered
@@ -84,13 +105,22 @@ GoesByRow schedule old new m found next after on =
 
 -- ---- by events before which nothing is to be seen to
 
--- a machine may go on over so many events and one more, and this sink may take its console
+-- a machine may go on over so many events and one more
+pub record MayTend (m : Machine) (n : ℕ) : Type 0 where
+  pub few : n < max_counts
+  pub state : HasState m
+  pub counts : CountsAtMost (max_counts - (n + 1)) m.journal.counts
+  pub room : length m.journal.printed < max_printed
+  pub kept : length m.journal.notes ≤ max_notes
+
+-- and this sink may take its console
 pub record MayGoOn (m : Machine) (n : ℕ) (to : SinkState) : Type 0 where
   pub sink : MayWrite to
   pub few : n < max_counts
   pub state : HasState m
   pub counts : CountsAtMost (max_counts - (n + 1)) m.journal.counts
   pub room : length m.journal.printed < max_printed
+  pub kept : length m.journal.notes ≤ max_notes
 
 -- of so many events these are left, whatever was found before
 pub record GoesOver (many few : ℕ) (before left : List Event) (m next : Machine) (now new : SinkState) : Type 0 where

@@ -1,5 +1,7 @@
 pub mod Refusals
 pub mod Looking
+pub mod Noted
+pub mod Rows
 pub mod Surveys
 pub mod Advances
 pub mod SurveyAnswers

@@ -17,8 +17,8 @@ use Rattle.spec_hardware.specs.Reaches.{IsNew}
 use Rattle.laws_simulation.specs.Passing.{survey}
 use Rattle.elf64_load.specs.Names.{names_in}
 use Rattle.report.specs.Findings.{PassedWrites, RefusedLoads}
-use Rattle.report.specs.Lines.{survey_lines}
-use Rattle.report.specs.Views.{loads_view, writes_view}
+use Rattle.report.specs.Lines.{found_lines, survey_lines}
+use Rattle.report.specs.Views.{loads_view, notes_view, writes_view}
 use Rattle.report.specs.declared.findings.found.Found.{Found}
 use Rattle.host_io.specs.Endings.{status_of_end}
 use Rattle.host_io.specs.Outside.{FilesState, SinkState}
@@ -31,6 +31,7 @@ use Rattle.cli_plans.specs.declared.refusal.Refusal.{Refusal}
 use Rattle.secvisor_cli.specs.Answers.{Outside, outside, Writes, WritesAndSaves}
 use Rattle.secvisor_cli.specs.Ready.{IsFresh, Prepares}
 use Rattle.secvisor_cli.specs.declared.ready.Stop.{Stop}
+use Rattle.cli_survey.specs.Noted.{noted}
 use Rattle.cli_survey.specs.Refusals.{loads_in}
 use Rattle.cli_survey.specs.Surveys.{StandsAmong, writes_in}
 use Rattle.cli_survey.specs.declared.ready.ReadySurvey.{ReadySurvey}
@@ -48,11 +49,13 @@ lines_of file modules writes loads notes = set_apart (survey_lines (names_in fil
 
 -- the same of what was found so far
 abbrev pub lines_found : (file : List ℕ) → Machine → Found → List ℕ
-lines_found file machine found = lines_of file machine.rules.modules (writes_view found.writes) (loads_view found.loads) machine.journal.notes
+lines_found file machine found =
+    set_apart (found_lines (names_in file (kernel_segments file)) machine.rules.modules
+    (writes_view found.writes) (loads_view found.loads) (notes_view found.noted machine.journal.notes))
 
 -- what stands after the console
-abbrev pub ending_of : (file : List ℕ) → PassedWrites → RefusedLoads → State → List ℕ
-ending_of file writes loads last = lines_of file last.rules.modules writes loads last.journal.notes ++ report last.journal
+abbrev pub ending_of : (file : List ℕ) → PassedWrites → RefusedLoads → List Note → State → List ℕ
+ending_of file writes loads notes last = lines_of file last.rules.modules writes loads notes ++ report last.journal
 
 -- the machine stopped where a line says so
 abbrev pub survey_status : (lines : List ℕ) → Verdict → Status
@@ -61,12 +64,12 @@ survey_status (byte ∷ lines) verdict = Status.Stopped
 
 abbrev pub lines_due : (file : List ℕ) → State → List Event → List ℕ
 lines_due file start events =
-    lines_of file (survey start events).rules.modules (writes_in start events) (loads_in start events) (survey start events).journal.notes
+    lines_of file (survey start events).rules.modules (writes_in start events) (loads_in start events) (noted start events)
 
 -- all bytes that are due: the console of the survey, the lines of its findings, and the report
 abbrev pub bytes_due : (file : List ℕ) → State → List Event → List ℕ
 bytes_due file start events =
-    (survey start events).journal.printed ++ ending_of file (writes_in start events) (loads_in start events) (survey start events)
+    (survey start events).journal.printed ++ ending_of file (writes_in start events) (loads_in start events) (noted start events) (survey start events)
 
 abbrev pub status_due : (file : List ℕ) → State → List Event → Status
 status_due file start events = survey_status (lines_due file start events) (survey start events).journal.verdict

@@ -1,5 +1,6 @@
 -- A machine's survey with its console, while it goes on. This project's own.
-use Rattle.std.specs.Prelude.{◌≡◌, ℕ, List, [], ◌∷◌, ◌++◌, Bool, true, false, ◌&&◌, not, is_some, Result, Ok, Err}
+use Rattle.std.specs.Prelude.{◌≡◌, ℕ, List, [], ◌∷◌, ◌++◌, length, nat_lt, Bool, true, false, ◌&&◌, not, is_some, None, Result, Ok, Err}
+use Rattle.sv_types.specs.Limits.{max_notes}
 use Rattle.sv_types.specs.declared.event.Event.{Event}
 use Rattle.sv_types.specs.declared.event.Verdict.{Verdict}
 use Rattle.sv_types.specs.declared.event.Verdict.TheVariants.{Running, Shutdown, Stopped}
@@ -19,6 +20,7 @@ use Rattle.report.specs.Findings.{PassedWrites, no_loads, no_writes, with_write}
 use Rattle.report.specs.Views.{loads_view, writes_view}
 use Rattle.report.specs.declared.findings.findings.Occurrence.{Occurrence}
 use Rattle.report.specs.declared.findings.found.Found.{Found}
+use Rattle.cli_survey.specs.Noted.{Tells, noted}
 use Rattle.cli_survey.specs.Refusals.{loads_in}
 
 -- ---- what was passed over
@@ -39,19 +41,28 @@ is_running Running = true
 is_running Shutdown = false
 is_running (Stopped rule h turn) = false
 
--- nothing is to be seen to before an event: the machine runs, and no load is under way
+-- the machine would keep one note more
+abbrev pub has_room : Machine → Bool
+has_room m = nat_lt (length m.journal.notes) max_notes
+
+-- the machine runs, and no load is under way
+abbrev pub is_clear : Machine → Bool
+is_clear m = is_running m.journal.verdict && not (is_some m.loading)
+
+-- nothing is to be seen to before an event: besides, a note would be kept
 abbrev pub is_plain : Machine → Bool
-is_plain m = is_running m.journal.verdict && not (is_some m.loading)
+is_plain m = is_clear m && has_room m
 
 -- ---- a survey so far
 
 -- The machine stands where the survey is after these events, but for console bytes that the sink took, the writes are those that
--- it passed over, and the loads those that it saw refused.
+-- it passed over, the loads those that it saw refused, and all its notes are told.
 pub record HasSurveyed (start : State) (done : List Event) (machine : Machine) (found : Found) (old new : SinkState) : Type 0 where
   pub cleared : List ℕ
   pub stands : Stands machine cleared (survey start done)
   pub writes_are : writes_view found.writes ≡ writes_in start done
   pub loads_are : loads_view found.loads ≡ loads_in start done
+  pub told : Tells found.noted machine.journal.notes (noted start done)
   pub taken : new ≡ after_taking old cleared
 
 -- The same in front of a pass, with the events that are left: a write that stopped the machine in the last of the events that were
@@ -66,6 +77,7 @@ pub record SurveysUp (start : State) (all left : List Event) (machine : Machine)
   pub stands : Stands machine cleared before
   pub writes_are : with_passes (writes_view found.writes) (pass_of before.journal.verdict) ≡ writes_in start done
   pub loads_are : loads_view found.loads ≡ loads_in start done
+  pub told : Tells found.noted machine.journal.notes (noted start done)
   pub taken : new ≡ after_taking old cleared
   -- no write stopped the machine that isn't passed over
   pub calm : IsNoWrite (survey start done).journal.verdict
@@ -104,3 +116,5 @@ pub record MaySurvey (machine : Machine) (events : ℕ) (found : Found) (to : Si
   pub running : machine.journal.verdict ≡ Running
   pub none : writes_view found.writes ≡ no_writes
   pub none_refused : loads_view found.loads ≡ no_loads
+  pub none_noted : found.noted ≡ None
+  pub no_notes : machine.journal.notes ≡ []

@@ -5,10 +5,10 @@ mod answer;
 mod ending;
 mod laws;
 mod looking;
+mod noting;
 mod ready;
 mod surveying;
 
 pub use answer::secvisor_survey;
 pub use laws::{law_no_findings, law_refused_noted};
 pub use ready::{KernelFile, ReadySurvey};
-pub use surveying::survey;

@@ -1,6 +1,6 @@
 // A machine's survey, with its console.
-ghost use Rattle.std.specs.Prelude.{◌≡◌, ◌+◌, ◌<◌, ◌≤◌, length, true, IfOk, OnOk, OnErr};
-ghost use Rattle.sv_types.specs.Limits.{max_printed};
+ghost use Rattle.std.specs.Prelude.{◌≡◌, ◌+◌, ◌<◌, ◌≤◌, [], length, true, IfOk, OnOk, OnErr};
+ghost use Rattle.sv_types.specs.Limits.{max_notes, max_printed};
 ghost use Rattle.sv_types.specs.Schedule.{first_events};
 ghost use Rattle.laws_simulation.specs.HwPassing.{hw_passed_over};
 ghost use Rattle.laws_simulation.specs.Passes.{pass_of};
@@ -12,17 +12,18 @@ ghost use Rattle.machine.specs.Drawing.{count_left, events_with, is_used_up};
 ghost use Rattle.machine.specs.Repeats.{MayMake};
 ghost use Rattle.machine.specs.Standing.{HasState};
 ghost use Rattle.report.specs.Views.{loads_view, writes_view};
-ghost use Rattle.cli_survey.specs.Advances.{GoesByOne, GoesByRow, GoesByRows, GoesToBreak, GoesWhile, IsRowMade, MayGoOn};
+ghost use Rattle.cli_survey.specs.Advances.{GoesByOne, GoesByRow, GoesByRows, GoesToBreak, GoesWhile, IsRepeated, IsRowMade, MayGoOn, MayTend, TellsOn};
 ghost use Rattle.cli_survey.specs.Refusals.{refusals, with_loads};
-ghost use Rattle.cli_survey.specs.Surveys.{MaySurvey, SurveyedFromStart, is_plain, is_running, with_passes};
+ghost use Rattle.cli_survey.specs.Surveys.{MaySurvey, SurveyedFromStart, has_room, is_clear, is_plain, is_running, with_passes};
 
 use crate::looking::look;
+use crate::noting::make_noted;
 use host_io::{Failed, Sink, Trouble};
-use machine::{Drawing, Left, Machine, draw_on, flush_due};
-use report::findings::{Found, Loads, Occurrence, Writes, add_write};
+use machine::{Drawing, Left, Machine, Notes, draw_on, flush_due};
+use report::findings::{Found, NotesFound, Occurrence, Writes, add_write};
 use script::{EventRun, EventSource, Script, Source};
-use std::alloc::AllocError;
-use sv_types::{Event, Rule, Verdict};
+use std::alloc::{AllocError, Global};
+use sv_types::{MAX_NOTES, Rule, Verdict};
 
 // A write that stopped the machine is passed over, and kept.
 #[inline(never)]
@@ -72,27 +73,82 @@ fn is_running(verdict: Verdict) -> bool
     }
 }
 
-// Whether nothing is to be seen to before an event: the machine runs, and no load is under way.
+// Whether the machine would keep one note more.
 #[inline(always)]
-fn is_plain(machine: &Machine) -> bool
-    ensures { result ≡ is_plain machine.now }
+fn has_room(machine: &Machine) -> bool
+    ensures { result ≡ has_room machine.now }
+{
+    machine.journal().len() < MAX_NOTES
+}
+
+// Whether the machine runs, and no load is under way.
+#[inline(always)]
+fn is_clear(machine: &Machine) -> bool
+    ensures { result ≡ is_clear machine.now }
 {
     is_running(machine.verdict()) && !machine.is_loading()
 }
 
-// A load that an event refuses is kept, and the event is made.
-#[inline(never)]
-fn look_and_make(machine: &mut Machine, event: Event, loads: &mut Loads) -> Result<(), AllocError>
-    requires may { MayMake machine.old 1 }
+// Whether nothing is to be seen to before an event: besides, a note would be kept.
+#[inline(always)]
+fn is_plain(machine: &Machine) -> bool
+    ensures { result ≡ is_plain machine.now }
+{
+    is_clear(machine) && has_room(machine)
+}
+
+// The first event of a row is made where its note would be kept, and else some of them with their notes set apart.
+#[inline(always)]
+fn make_tended(
+    machine: &mut Machine,
+    row: &EventRun,
+    alloc: Global,
+    noted: &mut Option<NotesFound>,
+    spare: &mut Notes,
+) -> Result<u64, AllocError>
+    requires may { MayMake machine.old row.now.count }
     requires has { HasState machine.old }
     requires running { is_running machine.old.journal.verdict ≡ true }
-    ensures looked { OnOk result ((r : State) → StandsFor machine.old r → loads_view loads.new ≡ with_loads (loads_view loads.old) (refusals r event)) }
-    ensures made { OnOk result (IsRowMade machine.old event 1 machine.new) }
+    requires kept { length machine.old.journal.notes ≤ max_notes }
+    requires spare { spare.old ≡ [] }
+    ensures made { IfOk result (λ n. IsRowMade machine.old row.now.event n machine.new) }
+    ensures most { IfOk result (λ n. n ≤ row.now.count) }
+    ensures told { IfOk result (λ n. TellsOn machine.old row.now.event n machine.new noted.old noted.new) }
+    ensures spare { spare.new ≡ [] }
     ensures same { OnErr result (machine.new ≡ machine.old) }
 {
-    look(machine, event, loads)?;
-    machine.step(event);
-    Ok(())
+    if has_room(machine) {
+        machine.step(row.event);
+        return Ok(1);
+    }
+    make_noted(machine, row, alloc, noted, spare)
+}
+
+// A load that the first event of a row refuses is kept, and the event is made, or some of them are. Answers how many.
+#[inline(never)]
+fn look_and_make(
+    machine: &mut Machine,
+    row: &EventRun,
+    found: &mut Found,
+    spare: &mut Notes,
+) -> Result<u64, AllocError>
+    requires may { MayMake machine.old row.now.count }
+    requires has { HasState machine.old }
+    requires running { is_running machine.old.journal.verdict ≡ true }
+    requires kept { length machine.old.journal.notes ≤ max_notes }
+    requires spare { spare.old ≡ [] }
+    ensures looked { OnOk result ((r : State) → StandsFor machine.old r →
+        loads_view found.new.loads ≡ with_loads (loads_view found.old.loads) (refusals r row.now.event)) }
+    ensures made { IfOk result (λ n. IsRowMade machine.old row.now.event n machine.new) }
+    ensures most { IfOk result (λ n. n ≤ row.now.count) }
+    ensures told { IfOk result (λ n. TellsOn machine.old row.now.event n machine.new found.old.noted found.new.noted) }
+    ensures writes { found.new.writes ≡ found.old.writes }
+    ensures spare { spare.new ≡ [] }
+    ensures same { OnErr result (machine.new ≡ machine.old) }
+{
+    look(machine, row.event, &mut found.loads)?;
+    let alloc = *found.writes.findings.allocator();
+    make_tended(machine, row, alloc, &mut found.noted, spare)
 }
 
 // A write that stopped the machine is passed over, and a load that the next event refuses is kept; then the event is made. Answers
@@ -102,10 +158,12 @@ fn tend_one<S: EventSource>(
     machine: &mut Machine,
     source: &mut S,
     found: &mut Found,
+    spare: &mut Notes,
 ) -> Result<bool, AllocError>
-    requires may { MayMake machine.old 1 }
-    requires has { HasState machine.old }
+    requires may { MayTend machine.old 0 }
+    requires spare { spare.old ≡ [] }
     ensures went { IfOk result (GoesByOne (S.schedule source.old) (S.schedule source.new) machine.old found.old machine.new found.new) }
+    ensures spare { spare.new ≡ [] }
     ensures want { OnErr result (machine.new ≡ hw_passed_over machine.old) }
 {
     pass_write(machine, &mut found.writes)?;
@@ -115,20 +173,22 @@ fn tend_one<S: EventSource>(
     let Some(one) = source.draw(1) else {
         return Ok(false);
     };
-    look_and_make(machine, one.event, &mut found.loads)?;
+    look_and_make(machine, &EventRun::once(one.event), found, spare)?;
     Ok(true)
 }
 
-// The same of a row of equal events, of which one is made.
+// The same of a row of equal events, of which some are made.
 #[inline(always)]
 fn tend_row<S: EventSource>(
     machine: &mut Machine,
     drawing: &mut Drawing<S>,
     found: &mut Found,
+    spare: &mut Notes,
 ) -> Result<bool, AllocError>
-    requires may { MayMake machine.old 1 }
-    requires has { HasState machine.old }
+    requires may { MayTend machine.old (count_left drawing.old) }
+    requires spare { spare.old ≡ [] }
     ensures went { IfOk result (GoesByRow S.schedule drawing.old drawing.new machine.old found.old machine.new found.new) }
+    ensures spare { spare.new ≡ [] }
     ensures want { OnErr result (machine.new ≡ hw_passed_over machine.old) }
 {
     pass_write(machine, &mut found.writes)?;
@@ -138,8 +198,8 @@ fn tend_row<S: EventSource>(
     let Some(batch) = drawing.draw() else {
         return Ok(false);
     };
-    look_and_make(machine, batch.event, &mut found.loads)?;
-    drawing.count_down(1);
+    let tended = look_and_make(machine, &batch, found, spare)?;
+    drawing.count_down(tended);
     Ok(true)
 }
 
@@ -162,18 +222,31 @@ fn flush_or_pass<O: Sink>(machine: &mut Machine, out: &mut O) -> Result<(), Fail
     }
 }
 
-// A row of equal events, up to one after which a load is under way. Answers how many were made. One alone needs no row.
+// So many events may be made before there is no room for a note of each.
 #[inline(always)]
-fn make_row(machine: &mut Machine, row: &EventRun) -> u64
+fn fitting(machine: &Machine, row: &EventRun) -> u64
+    requires { has_room machine.now ≡ true }
+    ensures most { result ≤ row.now.count }
+    ensures fits { length machine.now.journal.notes + result ≤ max_notes }
+    ensures some { 0 < row.now.count → 0 < result }
+{
+    row.count.min((MAX_NOTES - machine.journal().len()) as u64)
+}
+
+// A row of equal events, up to one after which a load is under way, or no room is left for a note. Answers how many were made. One alone
+// needs no row. It has an instance for each kind of source: LLVM builds in what has one caller, and this is too large for it otherwise.
+fn make_row<S>(machine: &mut Machine, row: &EventRun) -> u64
     requires may { MayMake machine.old row.now.count }
     requires plain { is_plain machine.old ≡ true }
-    ensures made { IsRowMade machine.old row.now.event result machine.new }
+    ensures made { IsRepeated machine.old row.now.event result machine.new }
     ensures most { result ≤ row.now.count }
+    ensures fits { length machine.old.journal.notes + result ≤ max_notes }
 {
     if row.count == 1 {
         return machine.repeat(row.event, 1);
     }
-    machine.repeat_to_load(row.event, row.count)
+    let most = fitting(machine, row);
+    machine.repeat_to_load(row.event, most)
 }
 
 // Rows of equal events, up to where something is to be seen to. Answers how many events are to be drawn later; none where no row is
@@ -195,7 +268,7 @@ fn make_rows<S: EventSource, O: Sink>(
         let Some(batch) = drawing.draw() else {
             return Ok(None);
         };
-        let made = make_row(machine, &batch);
+        let made = make_row::<S>(machine, &batch);
         drawing.count_down(made);
         flush_or_pass(machine, out)?;
         later = draw_on(machine, drawing, later, out);
@@ -203,8 +276,8 @@ fn make_rows<S: EventSource, O: Sink>(
     Ok(Some(later))
 }
 
-// Surveys a machine over the first events of a source, of which equal ones come in rows: again and again one event is made with all
-// that may be to be seen to, and then those before which nothing is.
+// Surveys a machine over the first events of a source, of which equal ones come in rows: again and again one event is made, or
+// some equal ones, with all that may be to be seen to, and then those before which nothing is.
 #[inline(never)]
 fn survey_in_batches<S: EventSource + Drop, O: Sink>(
     machine: &mut Machine,
@@ -217,10 +290,11 @@ fn survey_in_batches<S: EventSource + Drop, O: Sink>(
     ensures { SurveyedFromStart machine.old (first_events events (S.schedule source)) machine.new found.new (O.state out.old) (O.state out.new) result }
 {
     let left = Left::of(events);
+    let mut spare = Notes::new(*found.writes.findings.allocator())?;
     let mut drawing = Drawing::new(source, left.now);
     let mut later = left.later;
     'parts: loop {
-        let on = tend_row(machine, &mut drawing, found)?;
+        let on = tend_row(machine, &mut drawing, found, &mut spare)?;
         if !on {
             return Ok(());
         }
@@ -233,7 +307,17 @@ fn survey_in_batches<S: EventSource + Drop, O: Sink>(
     }
 }
 
-// Events one by one, up to where something is to be seen to, or none is left to be made. Answers whether the source may have more.
+// So many events of these may be made before there is no room for a note of each.
+#[inline(always)]
+fn room_for(machine: &Machine, events: u64) -> u64
+    requires { length machine.now.journal.notes ≤ max_notes }
+    ensures most { result ≤ events }
+    ensures fits { length machine.now.journal.notes + result ≤ max_notes }
+{
+    events.min((MAX_NOTES - machine.journal().len()) as u64)
+}
+
+// Events one by one, up to where something may be to be seen to, or none is to be made now. Answers whether the source may have more.
 #[inline(always)]
 fn make_events<S: EventSource, O: Sink>(
     machine: &mut Machine,
@@ -247,8 +331,9 @@ fn make_events<S: EventSource, O: Sink>(
     ensures broke { OnErr result (GoesToBreak (first_events (left.old.now + left.old.later) (S.schedule source.old))
         machine.old machine.new (O.state out.old) (O.state out.new)) }
 {
-    'events: while left.goes_on(machine, out) {
-        if !is_plain(machine) {
+    let mut fit = room_for(machine, left.now);
+    'events: while fit > 0 {
+        if !is_clear(machine) {
             return Ok(true);
         }
         let Some(one) = source.draw(1) else {
@@ -256,6 +341,7 @@ fn make_events<S: EventSource, O: Sink>(
         };
         machine.repeat(one.event, 1);
         left.now -= 1;
+        fit -= 1;
         flush_or_pass(machine, out)?;
     }
     Ok(true)
@@ -273,10 +359,11 @@ fn survey_one_by_one<S: EventSource + Drop, O: Sink>(
     requires { MaySurvey machine.old events found.old (O.state out.old) }
     ensures { SurveyedFromStart machine.old (first_events events (S.schedule source)) machine.new found.new (O.state out.old) (O.state out.new) result }
 {
+    let mut spare = Notes::new(*found.writes.findings.allocator())?;
     let mut source = source;
     let mut left = Left::of(events);
     'parts: while left.goes_on(machine, out) {
-        let on = tend_one(machine, &mut source, found)?;
+        let on = tend_one(machine, &mut source, found, &mut spare)?;
         if !on {
             return Ok(());
         }
@@ -292,12 +379,12 @@ fn survey_one_by_one<S: EventSource + Drop, O: Sink>(
 }
 
 /// Surveys a running machine of which nothing is printed yet over the first events of a script: it runs up to its verdict, and
-/// passes over each write that would stop it, which is kept; so is each load that is refused, with what is wrong with its text. The
-/// console is written at each line feed and whenever 4,096 bytes
+/// passes over each write that would stop it, which is kept; so is each load that is refused, with what is wrong with its text, and
+/// what is found by its notes once the machine doesn't keep them all. The console is written at each line feed and whenever 4,096 bytes
 /// stand. Where a write fails or memory runs out the machine stands after some of the events.
 ///
 /// Each kind of source has a loop of its own, which doesn't ask for it again.
-pub fn survey<O: Sink>(
+pub(crate) fn survey<O: Sink>(
     machine: &mut Machine,
     script: Script,
     events: u64,

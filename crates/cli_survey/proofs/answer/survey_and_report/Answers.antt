@@ -2,7 +2,7 @@ use Rattle.sv_types.specs.Schedule.{first_events}
 use Rattle.secvisor_cli.proofs.ReadyLemmas.{err_by}
 use Rattle.cli_survey.specs.SurveyAnswers.{SurveysTo}
 use Rattle.cli_survey.proofs.EndLemmas.{may_write, survey_failed, survey_finished}
-use Rattle.cli_survey.proofs.SurveyLemmas.{new_runs}
+use Rattle.cli_survey.proofs.SurveyLemmas.{new_notes, new_runs}
 use Rattle.cli_survey.proofs.answer.survey_and_report.Goals as goal
 
 pub survey-requires : goal.survey-requires
@@ -11,6 +11,8 @@ survey-requires g c = record {
   running = new_runs c.args.machine.now c.requires.starts.start c.requires.starts.is_new c.requires.starts.is_start;
   none = c.nothing_found-found.ensures.writes;
   none_refused = c.nothing_found-found.ensures.loads;
+  none_noted = c.nothing_found-found.ensures.noted;
+  no_notes = new_notes c.args.machine.now c.requires.starts.start c.requires.starts.is_new c.requires.starts.is_start;
 }
 
 pub returns-in_err-survey : goal.returns-in_err-survey

@@ -1,11 +1,11 @@
-use Rattle.std.proofs.Common.{◌≡◌, ◌-◌, ◌+◌, ◌++◌, ◌∙◌, ap, replicate, subst, sym, arith, true}
+use Rattle.std.proofs.Common.{◌≡◌, ◌-◌, ◌+◌, ◌++◌, ◌∙◌, ap, replicate, subst, sym, arith}
 use Rattle.host_io.proofs.SinkLemmas.{on_err}
 use Rattle.script.specs.declared.event_run.EventRun.{EventRun}
 use Rattle.machine.specs.Drawing.{count_left, events_with, IsAtHand}
 use Rattle.machine.specs.Limits.{max_counts}
 use Rattle.machine.proofs.Repeated.{counts_within}
 use Rattle.cli_survey.specs.Advances.{GoesOver, GoesToBreak}
-use Rattle.cli_survey.proofs.AdvanceLemmas.{go_room, over_all, over_broke, over_made, over_none}
+use Rattle.cli_survey.proofs.AdvanceLemmas.{go_room, over_all, over_broke, over_made, over_none, plain_made}
 use Rattle.cli_survey.proofs.surveying.make_rows.Goals as goal
 
 pub events-init : goal.events-init
@@ -46,7 +46,9 @@ flush_or_pass-requires-clause-sink g c = c.events.invariant.over.may.sink
 pub flush_or_pass-requires-clause-room : goal.flush_or_pass-requires-clause-room
 flush_or_pass-requires-clause-room g c =
     go_room c.make_row-made.result (count_left c.events.drawing + c.events.later) c.events.machine c.make_row-made.new.machine c.in-Some.batch.event
-    (g.O.Sink.state c.events.out) c.make_row-made.ensures.made c.events.invariant.over.may
+    (g.O.Sink.state c.events.out)
+    (plain_made c.make_row-made.result c.events.machine c.make_row-made.new.machine c.in-Some.batch.event c.events.invariant.over.may.state
+    (sym c.is_plain.ensures ∙ c.events-test.true) c.make_row-made.ensures.made) c.events.invariant.over.may
 
 pub returns-in_err-flush_or_pass-clause-broke : goal.returns-in_err-flush_or_pass-clause-broke
 returns-in_err-flush_or_pass-clause-broke g c =
@@ -59,7 +61,9 @@ returns-in_err-flush_or_pass-clause-broke g c =
     let broke : GoesToBreak (events_with c.args.later g.S.EventSource.schedule c.args.drawing.now) c.args.machine.now c.flush_or_pass.new.machine
     (g.O.Sink.state c.args.out.now) (g.O.Sink.state c.flush_or_pass.new.out) =
     over_broke c.make_row-made.result _ _ _ _ (events_with later g.S.EventSource.schedule c.count_down.new.self) _ c.events.machine c.make_row-made.new.machine _
-    c.in-Some.batch.event _ _ _ c.events.invariant.over (sym c.is_plain.ensures ∙ c.events-test.true) parts c.make_row-made.ensures.made
+    c.in-Some.batch.event _ _ _ c.events.invariant.over (sym c.is_plain.ensures ∙ c.events-test.true) parts c.make_row-made.ensures.fits
+    (plain_made c.make_row-made.result c.events.machine c.make_row-made.new.machine c.in-Some.batch.event c.events.invariant.over.may.state
+    (sym c.is_plain.ensures ∙ c.events-test.true) c.make_row-made.ensures.made)
     c.in_err-flush_or_pass.ensures.passed c.in_err-flush_or_pass.ensures.failed in
     on_err _ _ broke
 
@@ -90,7 +94,9 @@ events-preserved g c =
           c.args.machine.now c.flush_or_pass.new.machine (g.O.Sink.state c.args.out.now) k) (sym c.draw_on-later.ensures.sink)
           (over_made c.make_row-made.result _ (count_left c.events.drawing + later) (count_left c.draw_on-later.new.drawing + next) _ _ _ _ c.events.machine
           c.make_row-made.new.machine c.flush_or_pass.new.machine c.in-Some.batch.event _ _ _ c.events.invariant.over (sym c.is_plain.ensures ∙ c.events-test.true) parts
-          (omega (arith, fewer, count, on)) c.make_row-made.ensures.made c.in_ok-flush_or_pass.ensures.flushed c.in_ok-flush_or_pass.ensures.room);
+          (omega (arith, fewer, count, on)) c.make_row-made.ensures.fits
+          (plain_made c.make_row-made.result c.events.machine c.make_row-made.new.machine c.in-Some.batch.event c.events.invariant.over.may.state
+          (sym c.is_plain.ensures ∙ c.events-test.true) c.make_row-made.ensures.made) c.in_ok-flush_or_pass.ensures.flushed c.in_ok-flush_or_pass.ensures.room);
       some = c.draw_on-later.ensures.some;
     }
 

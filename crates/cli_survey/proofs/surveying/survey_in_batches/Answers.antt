@@ -1,16 +1,15 @@
-use Rattle.std.proofs.Common.{◌≡◌, ◌+◌, ◌++◌, replicate, ap, subst, sym, ◌∙◌, length, arith, true, false}
+use Rattle.std.proofs.Common.{◌+◌, ap, refl, subst, ◌∙◌, length, arith}
 use Rattle.sv_types.specs.Limits.{max_events}
 use Rattle.sv_types.specs.Schedule.{first_events}
 use Rattle.host_io.specs.declared.trouble.Trouble.TheVariants.{Write, Memory}
 use Rattle.machine.specs.Drawing.{count_left, events_with}
-use Rattle.machine.specs.Limits.{max_counts}
 use Rattle.machine.proofs.DrawnBatches.{used_none}
 use Rattle.machine.proofs.Repeated.{counts_within}
 use Rattle.secvisor_cli.proofs.ReadyLemmas.{err_by}
-use Rattle.cli_survey.specs.Advances.{GoesByRow, GoesByRows, GoesToEnd, LeavesLater, MakesRow, MayGoOn}
-use Rattle.cli_survey.specs.Surveys.{Surveyed, SurveysUp}
-use Rattle.cli_survey.proofs.AdvanceLemmas.{go_advanced, go_one, go_told, room_advanced}
-use Rattle.cli_survey.proofs.SurveyLemmas.{surveys_break, surveys_drawn, surveys_flush, surveys_none, surveys_on, surveys_over, surveys_told, surveys_want}
+use Rattle.cli_survey.specs.Advances.{GoesByRow, GoesByRows, GoesToEnd, LeavesLater, MakesRow}
+use Rattle.cli_survey.specs.Surveys.{Surveyed}
+use Rattle.cli_survey.proofs.AdvanceLemmas.{go_advanced, go_tends, go_told, room_advanced}
+use Rattle.cli_survey.proofs.SurveyLemmas.{pass_running, surveys_break, surveys_drawn, surveys_flush, surveys_none, surveys_on, surveys_over, surveys_want}
 use Rattle.cli_survey.proofs.surveying.survey_in_batches.Goals as goal
 
 pub parts-init : goal.parts-init
@@ -21,33 +20,44 @@ parts-init g c =
     let few = c.requires.run.few in
     record {
       on = λ start new is_start. surveys_none start _ _ c.args.machine.now c.args.found.now _
-          (c.new-drawing.ensures.further later ∙ ap (λ n. first_events n (g.S.EventSource.schedule c.args.source)) all) new is_start c.requires.none c.requires.none_refused;
+          (c.new-drawing.ensures.further later ∙ ap (λ n. first_events n (g.S.EventSource.schedule c.args.source)) all) new is_start c.requires.none c.requires.none_refused c.requires.none_noted;
+      spare = c.in_ok-spare.ensures;
       may = record {
         sink = c.requires.run.sink;
         few = omega (arith, asked, all, few);
         state = c.requires.run.state;
         counts = counts_within max_events _ c.args.machine.now.journal.counts (omega (arith, asked, all, few)) c.requires.run.counts;
         room = omega (arith, ap length c.requires.run.console);
+        kept = omega (arith, ap length c.requires.no_notes);
       };
       some = λ used.
           let none = used_none c.new-drawing.result.batch.count c.new-drawing.result.undrawn used in
           c.of-left.ensures.none (omega (arith, none, asked));
     }
 
+-- no room for notes that are set apart
+pub returns-in_err-spare : goal.returns-in_err-spare
+returns-in_err-spare g c = λ start new is_start.
+    err_by _ Memory
+    (λ r. Surveyed start (first_events c.args.events (g.S.EventSource.schedule c.args.source)) c.args.machine.now c.args.found.now
+    (g.O.Sink.state c.args.out.now) (g.O.Sink.state c.args.out.now) r)
+    c.from_residual.ensures.1
+    (surveys_want start _ _ c.args.machine.now c.args.machine.now c.args.found.now _ _
+    (surveys_none start _ _ c.args.machine.now c.args.found.now _ refl new is_start c.requires.none c.requires.none_refused c.requires.none_noted)
+    (pass_running c.args.machine.now c.requires.running))
+
 -- ---- an event with what is to be seen to
 
 pub tend_row-requires-clause-may : goal.tend_row-requires-clause-may
-tend_row-requires-clause-may g c = go_one (count_left c.parts.drawing + c.parts.later) c.parts.machine _ c.parts.invariant.may
-
-pub tend_row-requires-clause-has : goal.tend_row-requires-clause-has
-tend_row-requires-clause-has g c = c.parts.invariant.may.state
+tend_row-requires-clause-may g c =
+    go_tends (count_left c.parts.drawing + c.parts.later) (count_left c.parts.drawing) c.parts.machine _ (omega arith) c.parts.invariant.may
 
 pub returns-in_err-on : goal.returns-in_err-on
 returns-in_err-on g c = λ start new is_start.
     err_by _ Memory
     (λ r. Surveyed start (first_events c.args.events (g.S.EventSource.schedule c.args.source)) c.tend_row.new.machine c.tend_row.new.found
     (g.O.Sink.state c.args.out.now) (g.O.Sink.state c.parts.out) r)
-    c.from_residual.ensures.1
+    c.from_residual-in_err-on.ensures.1
     (surveys_want start _ _ c.parts.machine c.tend_row.new.machine c.parts.found _ _ (c.parts.invariant.on start new is_start) c.in_err-on.ensures.want)
 
 pub returns-then-not-on : goal.returns-then-not-on
@@ -161,6 +171,7 @@ parts-preserved g c =
           c.tend_row.new.found row.event _ _ is_start (c.parts.invariant.on start new is_start) (row.left c.parts.later) row.advances)
           c.in_ok-flush_or_pass.ensures.flushed)
           c.draw_on-later.ensures.left c.draw_on-later.ensures.sink);
+      spare = c.tend_row.ensures.spare;
       may = behind.over.may;
       some = behind.some;
     }

@@ -1,4 +1,4 @@
-use Rattle.std.proofs.Common.{◌≡◌, ◌+◌, true}
+use Rattle.std.proofs.Common.{◌≡◌, ◌+◌, [], true}
 use Rattle.sv_types.specs.Schedule.{first_events}
 use Rattle.spec_reference.specs.Start.{IsStart}
 use Rattle.spec_reference.specs.States.{State}
@@ -13,6 +13,7 @@ invariant-parts g l = record {
   on : (start : State) → IsNew l.initial.machine start → IsStart start →
       SurveysUp start (first_events l.events (g.S.EventSource.schedule l.fn.source)) (events_with l.later g.S.EventSource.schedule l.drawing)
       l.machine l.found (g.O.Sink.state l.initial.out) (g.O.Sink.state l.out);
+  spare : l.spare ≡ [];
   may : MayGoOn l.machine (count_left l.drawing + l.later) (g.O.Sink.state l.out);
   some : is_used_up l.drawing ≡ true → l.later ≡ 0;
 }

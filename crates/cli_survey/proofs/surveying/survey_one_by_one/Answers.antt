@@ -1,16 +1,15 @@
-use Rattle.std.proofs.Common.{◌≡◌, ◌-◌, ◌+◌, ap, inr, refl, subst, sym, ◌∙◌, length, arith, true, false}
+use Rattle.std.proofs.Common.{◌≡◌, ◌-◌, ◌+◌, ap, inr, refl, subst, ◌∙◌, length, arith}
 use Rattle.sv_types.specs.Limits.{max_events}
 use Rattle.sv_types.specs.Schedule.{first_events}
 use Rattle.host_io.specs.declared.trouble.Trouble.TheVariants.{Write, Memory}
 use Rattle.script.proofs.FirstEvents.{begun_none}
-use Rattle.machine.specs.Limits.{max_counts}
 use Rattle.machine.proofs.DrawnBatches.{none_left}
 use Rattle.machine.proofs.Repeated.{counts_within}
 use Rattle.secvisor_cli.proofs.ReadyLemmas.{err_by}
-use Rattle.cli_survey.specs.Advances.{Ends, GoesByOne, GoesOver, GoesToEnd, GoesWhile, MakesNext}
+use Rattle.cli_survey.specs.Advances.{GoesByOne, GoesOver, GoesToEnd, GoesWhile, MakesNext}
 use Rattle.cli_survey.specs.Surveys.{Surveyed}
-use Rattle.cli_survey.proofs.AdvanceLemmas.{go_advanced, go_one, go_told, room_advanced}
-use Rattle.cli_survey.proofs.SurveyLemmas.{surveys_break, surveys_flush, surveys_none, surveys_on, surveys_over, surveys_told, surveys_want}
+use Rattle.cli_survey.proofs.AdvanceLemmas.{go_advanced, go_tends, go_told, room_advanced}
+use Rattle.cli_survey.proofs.SurveyLemmas.{pass_running, surveys_break, surveys_flush, surveys_none, surveys_on, surveys_over, surveys_told, surveys_want}
 use Rattle.cli_survey.proofs.surveying.survey_one_by_one.Goals as goal
 
 pub parts-init : goal.parts-init
@@ -19,30 +18,40 @@ parts-init g c =
     let few = c.requires.run.few in
     record {
       on = λ start new is_start. surveys_none start _ _ c.args.machine.now c.args.found.now _
-          (ap (λ n. first_events n (g.S.EventSource.schedule c.args.source)) all) new is_start c.requires.none c.requires.none_refused;
+          (ap (λ n. first_events n (g.S.EventSource.schedule c.args.source)) all) new is_start c.requires.none c.requires.none_refused c.requires.none_noted;
+      spare = c.in_ok-spare.ensures;
       may = record {
         sink = c.requires.run.sink;
         few = omega (arith, all, few);
         state = c.requires.run.state;
         counts = counts_within max_events _ c.args.machine.now.journal.counts (omega (arith, all, few)) c.requires.run.counts;
         room = omega (arith, ap length c.requires.run.console);
+        kept = omega (arith, ap length c.requires.no_notes);
       };
     }
+
+-- no room for notes that are set apart
+pub returns-in_err-spare : goal.returns-in_err-spare
+returns-in_err-spare g c = λ start new is_start.
+    err_by _ Memory
+    (λ r. Surveyed start (first_events c.args.events (g.S.EventSource.schedule c.args.source)) c.args.machine.now c.args.found.now
+    (g.O.Sink.state c.args.out.now) (g.O.Sink.state c.args.out.now) r)
+    c.from_residual.ensures.1
+    (surveys_want start _ _ c.args.machine.now c.args.machine.now c.args.found.now _ _
+    (surveys_none start _ _ c.args.machine.now c.args.found.now _ refl new is_start c.requires.none c.requires.none_refused c.requires.none_noted)
+    (pass_running c.args.machine.now c.requires.running))
 
 -- ---- an event with what is to be seen to
 
 pub tend_one-requires-clause-may : goal.tend_one-requires-clause-may
-tend_one-requires-clause-may g c = go_one (c.parts.left.now + c.parts.left.later) c.parts.machine _ c.parts.invariant.may
-
-pub tend_one-requires-clause-has : goal.tend_one-requires-clause-has
-tend_one-requires-clause-has g c = c.parts.invariant.may.state
+tend_one-requires-clause-may g c = go_tends (c.parts.left.now + c.parts.left.later) 0 c.parts.machine _ (omega arith) c.parts.invariant.may
 
 pub returns-in_err-on : goal.returns-in_err-on
 returns-in_err-on g c = λ start new is_start.
     err_by _ Memory
     (λ r. Surveyed start (first_events c.args.events (g.S.EventSource.schedule c.args.source)) c.tend_one.new.machine c.tend_one.new.found
     (g.O.Sink.state c.args.out.now) (g.O.Sink.state c.goes_on.new.out) r)
-    c.from_residual.ensures.1
+    c.from_residual-in_err-on.ensures.1
     (surveys_want start _ _ c.parts.machine c.tend_one.new.machine c.parts.found _ _
     (surveys_told start _ _ c.parts.machine c.parts.found _ _ _ (c.parts.invariant.on start new is_start) c.goes_on.ensures.sink) c.in_err-on.ensures.want)
 
@@ -172,6 +181,7 @@ parts-preserved g c =
           (surveys_told start _ _ c.parts.machine c.parts.found _ _ _ (c.parts.invariant.on start new is_start) c.goes_on.ensures.sink)
           (ap (λ n. first_events n (g.S.EventSource.schedule c.parts.source)) count ∙ next.begins rest) next.advances)
           c.in_ok-flush_or_pass.ensures.flushed);
+      spare = c.tend_one.ensures.spare;
       may = over.may;
     }
 
@@ -195,7 +205,7 @@ pub returns-in_err-pass_write : goal.returns-in_err-pass_write
 returns-in_err-pass_write g c = λ start new is_start.
     err_by _ Memory
     (λ r. Surveyed start (first_events c.args.events (g.S.EventSource.schedule c.args.source)) c.pass_write.new.machine
-    (record { writes = c.pass_write.new.writes; loads = c.parts.found.loads }) (g.O.Sink.state c.args.out.now) (g.O.Sink.state c.goes_on.new.out) r)
+    (record { writes = c.pass_write.new.writes; loads = c.parts.found.loads; noted = c.parts.found.noted }) (g.O.Sink.state c.args.out.now) (g.O.Sink.state c.goes_on.new.out) r)
     c.from_residual-in_err-pass_write.ensures.1
     (surveys_want start _ _ c.parts.machine c.pass_write.new.machine c.parts.found _ _
     (surveys_told start _ _ c.parts.machine c.parts.found _ _ _ (c.parts.invariant.on start new is_start) c.goes_on.ensures.sink) c.pass_write.ensures.passed)
@@ -205,10 +215,11 @@ returns g c = λ start new is_start.
     let all = c.goes_on.ensures.all in
     let last = c.goes_on.ensures.none c.parts-test.false in
     let none : c.parts.left.now + c.parts.left.later ≡ 0 = omega (arith, all, last) in
-    surveys_over _ start _ _ c.parts.machine c.pass_write.new.machine c.parts.found (record { writes = c.pass_write.new.writes; loads = c.parts.found.loads }) _ _
+    surveys_over _ start _ _ c.parts.machine c.pass_write.new.machine c.parts.found (record { writes = c.pass_write.new.writes; loads = c.parts.found.loads; noted = c.parts.found.noted }) _ _
     (surveys_told start _ _ c.parts.machine c.parts.found _ _ _ (c.parts.invariant.on start new is_start) c.goes_on.ensures.sink)
     (record {
       passed = record { passed = c.pass_write.ensures.passed; kept = c.in_ok-pass_write.ensures.kept };
       same = refl;
+      noted = refl;
       over = inr (none_left (c.parts.left.now + c.parts.left.later) (g.S.EventSource.schedule c.parts.source) none);
     }) (λ end. end)

@@ -1,4 +1,4 @@
-use Rattle.std.proofs.Common.{◌+◌}
+use Rattle.std.proofs.Common.{◌≡◌, ◌+◌, []}
 use Rattle.sv_types.specs.Schedule.{first_events}
 use Rattle.spec_reference.specs.Start.{IsStart}
 use Rattle.spec_reference.specs.States.{State}
@@ -12,6 +12,7 @@ invariant-parts g l = record {
   on : (start : State) → IsNew l.initial.machine start → IsStart start →
       SurveysUp start (first_events l.events (g.S.EventSource.schedule l.fn.source)) (first_events (l.left.now + l.left.later) (g.S.EventSource.schedule l.source))
       l.machine l.found (g.O.Sink.state l.initial.out) (g.O.Sink.state l.out);
+  spare : l.spare ≡ [];
   may : MayGoOn l.machine (l.left.now + l.left.later) (g.O.Sink.state l.out);
 }
 

@@ -1,13 +1,19 @@
 use Rattle.std.proofs.Common.{◌∙◌, ap, inl, inr, refl, subst, sym, arith, ◌≡◌}
 use Rattle.script.specs.Runs.{BeginsWith}
+use Rattle.report.specs.Views.{loads_view, writes_view}
+use Rattle.cli_survey.specs.Advances.{IsRowMade, MayTend, TellsOn}
+use Rattle.spec_reference.specs.States.{State}
+use Rattle.spec_hardware.specs.StandsFor.{StandsFor}
+use Rattle.cli_survey.specs.Refusals.{refusals, with_loads}
 use Rattle.cli_survey.specs.Surveys.{is_running}
-use Rattle.cli_survey.proofs.AdvanceLemmas.{may_passed, state_passed}
+use Rattle.cli_survey.proofs.AdvanceLemmas.{tend_makes, tend_passed}
 use Rattle.cli_survey.proofs.surveying.tend_one.Goals as goal
 
 pub returns-then-not-is_running-clause-went : goal.returns-then-not-is_running-clause-went
 returns-then-not-is_running-clause-went g c = record {
   passed = record { passed = c.pass_write.ensures.passed; kept = c.in_ok-pass_write.ensures.kept };
   same = refl;
+  noted = refl;
   over = inl (ap is_running (sym c.verdict.ensures) ∙ sym c.is_running.ensures ∙ c.if-not-is_running.true);
 }
 
@@ -15,27 +21,46 @@ pub returns-in_default-clause-went : goal.returns-in_default-clause-went
 returns-in_default-clause-went g c = record {
   passed = record { passed = c.pass_write.ensures.passed; kept = c.in_ok-pass_write.ensures.kept };
   same = refl;
+  noted = refl;
   over = inr (sym c.in_default.ensures.event);
 }
 
 pub look_and_make-requires-clause-may : goal.look_and_make-requires-clause-may
-look_and_make-requires-clause-may g c = may_passed 1 c.args.machine.now c.pass_write.new.machine c.pass_write.ensures.passed c.requires.may
+look_and_make-requires-clause-may g c =
+    let may : MayTend c.pass_write.new.machine 0 = tend_passed 0 c.args.machine.now c.pass_write.new.machine c.pass_write.ensures.passed c.requires.may in
+    let one = c.once.ensures.count in
+    tend_makes 0 c.once.result.count c.pass_write.new.machine may (omega (arith, one)) (omega (arith, one))
 
 pub look_and_make-requires-clause-has : goal.look_and_make-requires-clause-has
-look_and_make-requires-clause-has g c = state_passed c.args.machine.now c.pass_write.new.machine c.requires.has c.pass_write.ensures.passed
+look_and_make-requires-clause-has g c =
+    let may : MayTend c.pass_write.new.machine 0 = tend_passed 0 c.args.machine.now c.pass_write.new.machine c.pass_write.ensures.passed c.requires.may in may.state
+
+pub look_and_make-requires-clause-kept : goal.look_and_make-requires-clause-kept
+look_and_make-requires-clause-kept g c =
+    let may : MayTend c.pass_write.new.machine 0 = tend_passed 0 c.args.machine.now c.pass_write.new.machine c.pass_write.ensures.passed c.requires.may in may.kept
 
 pub returns-clause-went : goal.returns-clause-went
 returns-clause-went g c =
     let one : c.in-Some.one.count ≡ 1 = omega (arith, c.in-Some.ensures.some, c.in-Some.ensures.most) in
+    let most = c.in_ok-look_and_make.ensures.most in
+    let some = c.in_ok-look_and_make.ensures.made.some in
+    let once : c.in_ok-look_and_make.field-0 ≡ 1 = omega (arith, most, some, c.once.ensures.count) in
     record {
       event = c.in-Some.one.event;
       begins = subst (λ n. BeginsWith (g.S.EventSource.schedule c.args.source.now) (record { event = c.in-Some.one.event; count = n })
           (g.S.EventSource.schedule c.draw.new.self)) one c.in-Some.ensures.first;
       advances = record {
         ready = c.pass_write.new.machine;
-        passed = record { passed = c.pass_write.ensures.passed; kept = c.in_ok-pass_write.ensures.kept };
+        passed = record { passed = c.pass_write.ensures.passed; kept = ap writes_view c.look_and_make.ensures.writes ∙ c.in_ok-pass_write.ensures.kept };
         running = ap is_running (sym c.verdict.ensures) ∙ sym c.is_running.ensures ∙ c.if-not-is_running.false;
-        looked = c.in_ok-look_and_make.ensures.looked;
-        made = c.in_ok-look_and_make.ensures.made;
+        looked = subst (λ e. (r : State) → StandsFor c.pass_write.new.machine r →
+            loads_view c.look_and_make.new.found.loads ≡ with_loads (loads_view c.args.found.now.loads) (refusals r e)) c.once.ensures.event
+            c.in_ok-look_and_make.ensures.looked;
+        made = subst (λ n. IsRowMade c.pass_write.new.machine c.in-Some.one.event n c.look_and_make.new.machine) once
+            (subst (λ e. IsRowMade c.pass_write.new.machine e c.in_ok-look_and_make.field-0 c.look_and_make.new.machine) c.once.ensures.event
+            c.in_ok-look_and_make.ensures.made);
+        told = subst (λ n. TellsOn c.pass_write.new.machine c.in-Some.one.event n c.look_and_make.new.machine c.args.found.now.noted c.look_and_make.new.found.noted) once
+            (subst (λ e. TellsOn c.pass_write.new.machine e c.in_ok-look_and_make.field-0 c.look_and_make.new.machine c.args.found.now.noted
+            c.look_and_make.new.found.noted) c.once.ensures.event c.in_ok-look_and_make.ensures.told);
       };
     }
