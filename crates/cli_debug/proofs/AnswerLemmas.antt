@@ -1,16 +1,14 @@
 -- From what was read to the answer of `debug`, and what follows of that.
-use Rattle.std.proofs.Common.{◌≡◌, ◌≢◌, ◌≤◌, ◌<◌, ◌⊎◌, ℕ, List, IsTrue, true, false, refl, sym, ◌∙◌, ap, subst, arith, inl, inr, Option, Some, None, Result, Ok, Err, IsErrOf}
+use Rattle.std.proofs.Common.{◌≡◌, ◌≤◌, ◌<◌, ◌⊎◌, ℕ, List, IsTrue, false, refl, sym, ◌∙◌, ap, subst, arith, inl, inr, Option, Some, None, Result, Ok, Err}
 use Rattle.std.specs.Result.{is_ok}
 use Rattle.sv_types.specs.Policies.{Rules}
 use Rattle.sv_types.specs.Schedule.{first_events}
-use Rattle.sv_types.specs.declared.event.Event.{Event}
 use Rattle.sv_types.specs.declared.status.Status.{Status}
 use Rattle.spec_reference.specs.Start.{boot_start}
-use Rattle.spec_reference.specs.States.{State}
 use Rattle.host_io.specs.Endings.{status_of_end}
 use Rattle.host_io.specs.Outside.{FilesState, SinkState, BreaksOff, after_taking}
 use Rattle.host_io.specs.declared.trouble.Trouble.{Trouble}
-use Rattle.host_io.specs.declared.trouble.Trouble.TheVariants.{Write, Memory}
+use Rattle.host_io.specs.declared.trouble.Trouble.TheVariants.{Memory}
 use Rattle.live_keys.specs.Keys.{KeysState, before_taking}
 use Rattle.debug_session.specs.Runs.{Run}
 use Rattle.debug_session.specs.Serving.{answered}
@@ -23,17 +21,19 @@ use Rattle.cli_plans.specs.Plans.{Due, Refuse, RunFrom, Make, run_plan, start_wi
 use Rattle.cli_plans.specs.Reading.{Follows, MayFollow}
 use Rattle.cli_plans.specs.Refusals.{refusal_line, refusal_status}
 use Rattle.cli_plans.proofs.FoundFaults.{run_found_faults}
-use Rattle.cli_plans.proofs.PlanLemmas.{HasFault, Keeps, follows_keeps, may_follow}
+use Rattle.cli_plans.proofs.PlanLemmas.{HasFault, Keeps, follows_keeps, keeps_same, may_follow}
 use Rattle.cli_plans.proofs.WordLemmas.{NoReadFault, debug_no_read_fault}
-use Rattle.secvisor_cli.specs.Ready.{IsReadyWhere, Prepares}
+use Rattle.secvisor_cli.specs.Ready.{Prepares}
+use Rattle.secvisor_cli.proofs.ReadyLemmas.{refused_follows, wanting_follows}
+use Rattle.secvisor_cli.proofs.TopLemmas.{wants_no_fault}
 use Rattle.secvisor_cli.specs.declared.ready.Stop.TheVariants.{Refused}
 use Rattle.secvisor_cli.specs.declared.ready.Stop.TheVariants as stop
 use Rattle.cli_trials.specs.Orders.{order_schedule}
 use Rattle.cli_trials.specs.Reading.{BeginsFrom, run_due}
 use Rattle.cli_trials.specs.Writing.{Refuses}
 use Rattle.cli_trials.specs.declared.parts.Parts.{Parts}
-use Rattle.cli_trials.proofs.WritingLemmas.{refused_fault, same_rises, written_no_fault, written_rises}
-use Rattle.cli_debug.specs.DebugAnswers.{AnswersDebug, AnswersDue, AnswersReached, DebugsFiles, DebugsRun, RefusesDebug, Wants, Wire, end_of_session, wire}
+use Rattle.cli_trials.proofs.WritingLemmas.{refused_fault, written_no_fault, written_rises}
+use Rattle.cli_debug.specs.DebugAnswers.{AnswersDebug, AnswersReached, DebugsFiles, DebugsRun, RefusesDebug, Wire, end_of_session, wire}
 use Rattle.cli_debug.specs.Debugged.{run_from}
 use Rattle.cli_debug.specs.Debugging.{Debugs}
 use Rattle.cli_debug.proofs.OneRun.{before_it}
@@ -69,31 +69,15 @@ debugged_files words parts files read old new result kind begins it = record {
   };
 }
 
-refused_where : (image : List ℕ) (files : FilesState) (reached : Option Due) (given : Refusal) (old new : Wire) (result : Result Status Trouble) → IsReadyWhere reached (Err (Refused given)) →
-    RefusesDebug given old new result → AnswersReached image files reached old new result
-refused_where image files None given old new result it refuses = absurd (cc it)
-refused_where image files (Some (Refuse refusal)) given old new result it refuses = subst (λ (r : Refusal). RefusesDebug r old new result) it refuses
-refused_where image files (Some (RunFrom start events save)) given old new result it refuses = absurd it
-refused_where image files (Some (Make name rules line)) given old new result it refuses = absurd it
-
 pub refused_files : (words : RunWords) (files read : FilesState) (given : Refusal) (keys : KeysState) (old new : SinkState) (result : Result Status Trouble) →
     Prepares (run_plan words) files read (Err (Refused given)) → Refuses given old new result → DebugsFiles words files read (wire keys old) (wire keys new) result
 refused_files words files read given keys old new result p refuses =
-    record { reached = p.reached; follows = p.follows; answers = refused_where words.image files p.reached given (wire keys old) (wire keys new) result p.ready (refl, refuses) }
-
-wants_where : (image : List ℕ) (files : FilesState) (reached : Option Due) (old : Wire) → IsReadyWhere reached (Err stop.Memory) → AnswersReached image files reached old old (Err Memory)
-wants_where image files None old it = (refl, refl)
-wants_where image files (Some (Refuse refusal)) old it = absurd it
-wants_where image files (Some (RunFrom start events save)) old it = absurd it
-wants_where image files (Some (Make name rules line)) old it = absurd it
+    record { reached = Some (Refuse given); follows = refused_follows (run_plan words) files read given p; answers = (refl, refuses) }
 
 pub wants_files : (words : RunWords) (files read : FilesState) (old : Wire) → Prepares (run_plan words) files read (Err stop.Memory) → DebugsFiles words files read old old (Err Memory)
-wants_files words files read old p = record { reached = p.reached; follows = p.follows; answers = wants_where words.image files p.reached old p.ready }
+wants_files words files read old p = record { reached = None; follows = wanting_follows (run_plan words) files read p; answers = (refl, refl) }
 
 -- ---- the words
-
-pub words_may : (judged : Result RunWords Refusal) (words : RunWords) (files : FilesState) → judged ≡ Ok words → MayFollow (survey_plan judged) files → MayFollow (run_plan words) files
-words_may judged words files is may = subst (λ (j : Result RunWords Refusal). MayFollow (survey_plan j) files) is may
 
 pub answers_ok : (judged : Result RunWords Refusal) (words : RunWords) (files read : FilesState) (old new : Wire) (result : Result Status Trouble) → judged ≡ Ok words →
     DebugsFiles words files read old new result → AnswersDebug judged files read old new result
@@ -109,16 +93,6 @@ answers_want (Ok words) files old good = inl (refl, refl, refl)
 answers_want (Err why) files old good = absurd (cc good)
 
 -- ---- what becomes of the files
-
-keeps_same : (files read : FilesState) → read ≡ files → Keeps files read
-keeps_same files read is =
-    let same : read.read_faults ≡ files.read_faults = ap (λ (f : FilesState). f.read_faults) is in
-    record {
-      tells = ap (λ (f : FilesState). f.tells) is;
-      held = ap (λ (f : FilesState). f.held) is;
-      reads = omega arith;
-      saves = ap (λ (f : FilesState). f.save_faults) is;
-    }
 
 pub keeps_files : (judged : Result RunWords Refusal) (files read : FilesState) (old new : Wire) (result : Result Status Trouble) → AnswersDebug judged files read old new result → Keeps files read
 keeps_files (Err why) files read old new result it = keeps_same files read it.0
@@ -184,11 +158,6 @@ rises (Ok words) files read old new result (inr it) = reached_rises words.image 
 -- a file's, or one of the bytes that come in
 abbrev pub FaultOf : RunWords → (files read : FilesState) (old new : Wire) → Type 0
 FaultOf words files read old new = HasFault (run_plan words) files read ⊎ (old.keys.faults < new.keys.faults)
-
-wants_no_fault : (result : Result Status Trouble) → IsErrOf result Memory → status_of_end result ≢ Status.ReadFault
-wants_no_fault (Ok status) it = absurd (cc it)
-wants_no_fault (Err Write) it = λ is. cc is
-wants_no_fault (Err Memory) it = λ is. cc is
 
 served_fault : (run : Run) (old new : Wire) (served : Result (Unit {0}) Breakdown) → Debugs run old.keys new.keys old.sink new.sink served →
     status_of_end (end_of_session served) ≡ Status.ReadFault → old.keys.faults < new.keys.faults

@@ -1,6 +1,8 @@
 -- Equal events of a machine in a row, and its console.
-use Rattle.std.proofs.Common.{◌≡◌, ℕ, zero, suc, ◌+◌, ◌-◌, ◌<◌, ◌≤◌, List, [], ◌∷◌, ◌++◌, take, drop, replicate, refl, sym, ◌∙◌, ap, subst, arith, if◌then◌else◌, Result, Ok, Err}
+use Rattle.std.proofs.Common.{◌≡◌, ℕ, zero, suc, ◌-◌, ◌<◌, List, [], ◌∷◌, ◌++◌, length, ◌==◌, take, drop, replicate, refl, sym, ◌∙◌, ap, subst, arith, if◌then◌else◌, true, Result, Ok, Err}
 use Rattle.std.specs.Prelude.{OnOk, is_ok}
+use Rattle.std.proofs.lemmas.Bool.{eqb-true}
+use Rattle.std.proofs.lemmas.List.{append-nil}
 use Rattle.sv_types.specs.declared.event.Event.{Event}
 use Rattle.sv_types.specs.declared.event.Verdict.TheVariants.{Running}
 use Rattle.spec_reference.specs.Counting.{CountsAtMost}
@@ -56,22 +58,30 @@ take_all_dropped zero bytes none = none
 take_all_dropped (suc n) [] none = refl
 take_all_dropped (suc n) (b ∷ bytes) none = ap (λ (rest : List ℕ). b ∷ rest) (take_all_dropped n bytes none)
 
-pub stands_after : (n : ℕ) (m next after : Machine) (r : State) (console more : List ℕ) (e : Event) → Repeats n m e next → Cleared next after → after.journal.printed ≡ [] →
-    more ≡ next.journal.printed → Stands m console r → Stands after (console ++ more) (run r (replicate n e))
-stands_after n m next after r console more e repeats cleared none is s =
-    stands_away next after (run r (replicate n e)) console more (stands_row n m next r console e s repeats)
+stands_after : (n : ℕ) (m next after : Machine) (r : State) (console : List ℕ) (e : Event) → Repeats n m e next → Cleared next after → after.journal.printed ≡ [] →
+    Stands m console r → Stands after (console ++ next.journal.printed) (run r (replicate n e))
+stands_after n m next after r console e repeats cleared none s =
+    stands_away next after (run r (replicate n e)) console next.journal.printed (stands_row n m next r console e s repeats)
     (record {
       cleared = cleared;
-      away = is ∙ take_all_dropped cleared.taken next.journal.printed (sym (ap (λ (x : Machine). x.journal.printed) cleared.same) ∙ none);
+      away = take_all_dropped cleared.taken next.journal.printed (sym (ap (λ (x : Machine). x.journal.printed) cleared.same) ∙ none);
     })
 
 pub counts_same : (n : ℕ) (next after : Machine) → Cleared next after → CountsAtMost n next.journal.counts → CountsAtMost n after.journal.counts
 counts_same n next after cleared most = subst (λ (x : Machine). CountsAtMost n x.journal.counts) (sym cleared.same) most
 
 -- where the console took the bytes
-pub told_stands : {A E : Type 0} (n : ℕ) (m next after : Machine) (console more now : List ℕ) (e : Event) (told : Result A E) → Repeats n m e next → Cleared next after →
-    after.journal.printed ≡ [] → more ≡ next.journal.printed → now ≡ (if is_ok told then console ++ more else console) →
+pub told_stands : {A E : Type 0} (n : ℕ) (m next after : Machine) (console now : List ℕ) (e : Event) (told : Result A E) → Repeats n m e next → Cleared next after →
+    after.journal.printed ≡ [] → now ≡ (if is_ok told then console ++ next.journal.printed else console) →
     OnOk told ((r : State) → Stands m console r → Stands after now (run r (replicate n e)))
-told_stands n m next after console more now e (Ok done) repeats cleared none is pushed = λ r s.
-    subst (λ xs. Stands after xs (run r (replicate n e))) (sym pushed) (stands_after n m next after r console more e repeats cleared none is s)
-told_stands n m next after console more now e (Err error) repeats cleared none is pushed = tt
+told_stands n m next after console now e (Ok done) repeats cleared none pushed = λ r s.
+    subst (λ xs. Stands after xs (run r (replicate n e))) (sym pushed) (stands_after n m next after r console e repeats cleared none s)
+told_stands n m next after console now e (Err error) repeats cleared none pushed = tt
+
+-- nothing was printed
+pub none_printed : (bytes printed : List ℕ) → bytes ≡ printed → (length bytes == 0) ≡ true → printed ≡ []
+none_printed [] printed is none = sym is
+none_printed (b ∷ bytes) printed is none = absurd (omega (arith, eqb-true (length (b ∷ bytes)) 0 none))
+
+pub none_taken : (console printed : List ℕ) → printed ≡ [] → console ≡ console ++ printed
+none_taken console printed none = sym (append-nil console) ∙ ap (λ xs. console ++ xs) (sym none)

@@ -1,12 +1,11 @@
 -- A machine that is debugged stands where a run is.
-use Rattle.std.proofs.Common.{◌≡◌, ℕ, zero, suc, ◌+◌, ◌-◌, ◌<◌, ◌≤◌, List, [], ◌∷◌, ◌++◌, length, take, drop, replicate}
-use Rattle.std.proofs.Common.{refl, sym, ◌∙◌, ap, Option, Some, None, Result, Ok, Err, Bool, true, false, arith, length-drop, drop-drop}
+use Rattle.std.proofs.Common.{◌≡◌, ℕ, ◌+◌, ◌-◌, ◌<◌, ◌≤◌, List, [], ◌∷◌, ◌++◌, length, take, drop, replicate}
+use Rattle.std.proofs.Common.{refl, sym, ◌∙◌, ap, Option, Some, None, Result, Ok, Err, true, arith, length-drop, drop-drop}
 use Rattle.std.proofs.Math.Seq.{take-add}
-use Rattle.std.specs.Prelude.{IfSome, OnOk, option_and_then, is_some, nat_lt, slice_get}
+use Rattle.std.specs.Prelude.{IfSome, OnOk, option_and_then, is_some, nat_lt}
 use Rattle.std.proofs.lemmas.Bool.{lt-ltb, le-ltb}
 use Rattle.sv_types.specs.Schedule.{Schedule, first_events}
 use Rattle.sv_types.specs.declared.event.Event.{Event}
-use Rattle.sv_types.specs.declared.event.Verdict.{Verdict}
 use Rattle.sv_types.specs.declared.event.Verdict.TheVariants.{Running}
 use Rattle.spec_reference.specs.Run as reference
 use Rattle.spec_reference.specs.States.{State, Hart}

@@ -181,6 +181,10 @@ pub free_change : (run : Run) (there : ℕ) (breaks : List ℕ) (watches : List 
 free_change run there breaks watches steps free =
     subst (λ ws. None ≡ last_change ws run there) (sym (has_none breaks watches steps free).watches_none) (none_changed run there)
 
+-- nothing is watched, so an event changes nothing of it
+pub unchanged : (watches : List Watch) (run : Run) (n : ℕ) → (length watches == 0) ≡ true → None ≡ change_at watches run n
+unchanged watches run n none = subst (λ ws. None ≡ change_at ws run n) (sym (none_in watches none)) (sym (no_change run n))
+
 -- ---- so many events, in rows
 
 -- so many are left to make, and as many as rows are made at least

@@ -1,5 +1,5 @@
 -- Words of memory that are watched. This project's own; GDB manual, "Packets" (Z2).
-use Rattle.std.specs.Prelude.{ℕ, ◌%◌, ◌&&◌, ◌==◌, not, if◌then◌else◌, List, [], ◌∷◌, ◌++◌, map, filter, Option, Some, None, option_and_then}
+use Rattle.std.specs.Prelude.{ℕ, ◌%◌, ◌==◌, not, if◌then◌else◌, List, [], ◌∷◌, ◌++◌, map, filter, Option, Some, None, option_and_then}
 use Rattle.spec_processor.specs.Bytes.{in_ram, ram_offset, word}
 use Rattle.gdb_protocol.specs.declared.packet.Range.{Range}
 use Rattle.spec_reference.specs.declared.saved_machine.harts.SavedHart.{SavedHart}

@@ -101,8 +101,27 @@ fn advance<T: Target>(target: &mut T) -> Result<(), AllocError>
 }
 
 // Makes one event more, and answers what it changed of what is watched.
-#[tactic(auto, unfolding(crate::specs::Runs::change_at))]
+#[inline(always)]
 fn advance_watching<T: Target>(
+    target: &mut T,
+    alloc: Global,
+    watches: &[Watch],
+) -> Result<Option<Change>, AllocError>
+    ensures moved { OnOk result ((run : spec.Run) → T.stands target.old run → run.made < length run.events →
+        T.stands target.new (spec.after run (run.made + 1))) }
+    ensures change { IfOk result (λ change. (run : spec.Run) → T.stands target.old run → run.made < length run.events →
+        change ≡ spec.change_at watches.now run run.made) }
+{
+    if watches.is_empty() {
+        advance(target)?;
+        return Ok(None);
+    }
+    advance_comparing(target, alloc, watches)
+}
+
+// The same, by the watched words before it and after it.
+#[tactic(auto, unfolding(crate::specs::Runs::change_at))]
+fn advance_comparing<T: Target>(
     target: &mut T,
     alloc: Global,
     watches: &[Watch],

@@ -153,9 +153,7 @@ impl<B: Beginning + Drop> Target for DebuggedMachine<B> {
         };
         let asked = row_asked(self.machine.verdict(), row.count, most);
         let (count, told) = make_row(&mut self.machine, row.event, asked, &mut self.console);
-        let (next, left) = after_row(&mut self.script, row, count, self.left);
-        self.next = next;
-        self.left = left;
+        after_row(&mut self.script, &mut self.next, &mut self.left, row, count);
         self.made += count;
         told?;
         Ok(count)

@@ -1,10 +1,11 @@
 // Equal events of a machine in a row, and its console.
-ghost use Rattle.std.specs.Prelude.{◌≡◌, ◌<◌, ◌≤◌, ◌-◌, ◌+◌, ℕ, [], OnOk, IfSome, Some, drop, replicate};
+ghost use Rattle.std.specs.Prelude.{◌≡◌, ◌<◌, ◌≤◌, ◌-◌, ◌+◌, ◌++◌, ℕ, [], OnOk, IfSome, Some, drop, if◌then◌else◌, is_ok, replicate};
 ghost use Rattle.sv_types.specs.Schedule.{first_events};
 ghost use Rattle.sv_types.specs.declared.event.Verdict.TheVariants.{Running};
 ghost use Rattle.spec_reference.specs.Counting.{CountsAtMost};
 ghost use Rattle.spec_reference.specs.Run.{run};
 ghost use Rattle.spec_reference.specs.States.{State};
+ghost use Rattle.spec_hardware.specs.Reaches.{Cleared};
 ghost use Rattle.spec_hardware.specs.StandsFor.{StandsFor};
 ghost use Rattle.machine.specs.Limits.{max_counts};
 ghost use Rattle.machine.specs.Standing.{Stands};
@@ -38,9 +39,23 @@ pub(crate) fn make_row(
     ensures most { result.0 ≤ count }
 {
     let made = machine.repeat(event, count);
-    let told = console.extend_from_slice(machine.printed());
-    machine.clear_printed();
+    let told = take_printed(machine, console);
     (made, told)
+}
+
+// Takes what was printed to the console's bytes. Mostly nothing was.
+fn take_printed(machine: &mut Machine, console: &mut Vec<u8>) -> Result<(), AllocError>
+    ensures cleared { Cleared machine.old machine.new }
+    ensures none { machine.new.journal.printed ≡ [] }
+    ensures taken { console.new.items ≡ (if is_ok result then console.old.items ++ machine.old.journal.printed else console.old.items) }
+{
+    let printed = machine.printed();
+    if printed.is_empty() {
+        return Ok(());
+    }
+    let told = console.extend_from_slice(printed);
+    machine.clear_printed();
+    told
 }
 
 /// How many of some equal events are asked of a machine at once: one, where the run has ended.
@@ -81,24 +96,27 @@ pub(crate) fn draw(script: &mut Script, left: u64) -> (Option<EventRun>, u64)
     (Some(row), left - row.count)
 }
 
-/// What is at hand after so many of the events at hand.
+/// What is at hand after so many of the events at hand takes their place.
 pub(crate) fn after_row(
     script: &mut Script,
+    next: &mut Option<EventRun>,
+    left: &mut u64,
     row: EventRun,
     made: u64,
-    left: u64,
-) -> (Option<EventRun>, u64)
+)
     requires { made ≤ row.count }
-    ensures same { upcoming result.0 result.1 script.new ≡ drop made (upcoming (Some row) left script.old) }
-    ensures fewer { most_upcoming result.0 result.1 + made ≤ row.count + left }
-    ensures some { IfSome result.0 (λ row. 0 < row.count) }
+    ensures same { upcoming next.new left.new script.new ≡ drop made (upcoming (Some row) left.old script.old) }
+    ensures fewer { most_upcoming next.new left.new + made ≤ row.count + left.old }
+    ensures some { IfSome next.new (λ row. 0 < row.count) }
 {
     if made == row.count {
-        return draw(script, left);
+        let (drawn, rest) = draw(script, *left);
+        *next = drawn;
+        *left = rest;
+        return;
     }
-    let rest = EventRun {
+    *next = Some(EventRun {
         event: row.event,
         count: row.count - made,
-    };
-    (Some(rest), left)
+    });
 }

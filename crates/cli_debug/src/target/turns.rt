@@ -50,9 +50,7 @@ pub(crate) fn last_turn_in(script: &mut Script, events: u64, hart: u8, made: u64
         let count = row.count.min(made - seen);
         seen += count;
         last = later_turn(last, row.event, hart, seen);
-        let (after, rest) = after_row(script, row, count, left);
-        next = after;
-        left = rest;
+        after_row(script, &mut next, &mut left, row, count);
     }
     last
 }

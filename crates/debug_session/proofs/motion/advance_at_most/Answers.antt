@@ -1,6 +1,6 @@
-use Rattle.std.proofs.Common.{rules, ◌≡◌, ◌+◌, ◌<◌, ◌≤◌, length, sym, ◌∙◌, subst, arith}
+use Rattle.std.proofs.Common.{rules, ◌≡◌, ◌<◌, ◌≤◌, length, sym, ◌∙◌, subst, arith}
 use Rattle.std.proofs.lemmas.Bool.{ltb-true, ltb-false}
-use Rattle.debug_session.specs.Runs.{Run, after, at_event}
+use Rattle.debug_session.specs.Runs.{Run, after}
 use Rattle.debug_session.proofs.Reaching.{all_made, as_many, begins}
 use Rattle.debug_session.proofs.motion.advance_at_most.Goals as goal
 

@@ -1,6 +1,6 @@
-use Rattle.std.proofs.Common.{rules, ◌≡◌, ◌+◌, ◌-◌, ◌<◌, ◌≤◌, length, true, false, sym, ◌∙◌, ap, arith}
+use Rattle.std.proofs.Common.{rules, ◌≡◌, ◌+◌, ◌<◌, ◌≤◌, length, true, false, sym, ◌∙◌, ap, arith}
 use Rattle.std.proofs.lemmas.Bool.{ltb-true, ltb-false}
-use Rattle.debug_session.specs.Runs.{Run, after, events_left, is_running, state}
+use Rattle.debug_session.specs.Runs.{after, events_left, is_running, state}
 use Rattle.debug_session.proofs.RowLemmas.{rows_begin, row_skipped, row_ends, rows_over}
 use Rattle.debug_session.proofs.motion.finish.Goals as goal
 

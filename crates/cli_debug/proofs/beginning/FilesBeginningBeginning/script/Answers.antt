@@ -1,8 +1,7 @@
-use Rattle.std.proofs.Common.{◌≡◌, List, ℕ, sym, ◌∙◌, ap, subst, Some}
+use Rattle.std.proofs.Common.{sym, ◌∙◌, ap}
 use Rattle.std.proofs.lemmas.Option.{same_Some}
 use Rattle.sv_types.specs.Policies.{rules_of}
 use Rattle.policy.specs.Text.{rules_of_text}
-use Rattle.cli_trials.specs.Orders.{order_schedule}
 use Rattle.cli_debug.proofs.Accepted.{is_accepted}
 use Rattle.cli_debug.proofs.beginning.FilesBeginningBeginning.script.Goals as goal
 

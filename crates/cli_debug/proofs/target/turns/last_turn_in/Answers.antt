@@ -28,7 +28,7 @@ rows-preserved c =
     let within : c.min-count.result ≤ c.in-Some.row.count = omega (arith, count) in
     let most : c.rows.seen + c.min-count.result ≤ c.args.made = omega (arith, few, count) in
     subst (λ (last : Option ℕ).
-    Turning events c.args.hart c.args.made c.after_row-after.result.0 c.after_row-after.result.1 c.after_row-after.new.script (c.rows.seen + c.min-count.result) (c.rows.counter + 1) last)
+    Turning events c.args.hart c.args.made c.after_row.new.next c.after_row.new.left c.after_row.new.script (c.rows.seen + c.min-count.result) (c.rows.counter + 1) last)
     (sym c.later_turn-last.ensures)
-    (row_seen events c.args.hart c.args.made row c.rows.left c.rows.script c.rows.seen c.rows.counter c.rows.last c.min-count.result c.after_row-after.result.0 c.after_row-after.result.1
-    c.after_row-after.new.script turning more within most c.after_row-after.ensures.same c.after_row-after.ensures.some)
+    (row_seen events c.args.hart c.args.made row c.rows.left c.rows.script c.rows.seen c.rows.counter c.rows.last c.min-count.result c.after_row.new.next c.after_row.new.left
+    c.after_row.new.script turning more within most c.after_row.ensures.same c.after_row.ensures.some)

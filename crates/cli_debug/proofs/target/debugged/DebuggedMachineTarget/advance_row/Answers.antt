@@ -1,6 +1,5 @@
-use Rattle.std.proofs.Common.{rules, ◌≡◌, ◌+◌, ◌<◌, ◌≤◌, length, drop, sym, ◌∙◌, ap, subst, arith, Some}
+use Rattle.std.proofs.Common.{rules, ◌≡◌, ◌+◌, ◌≤◌, length, drop, sym, ◌∙◌, ap, subst, arith, Some}
 use Rattle.machine.specs.Standing.{Stands}
-use Rattle.sv_types.specs.declared.event.Verdict.TheVariants.{Running}
 use Rattle.debug_session.specs.Runs.{state}
 use Rattle.cli_debug.specs.Upcoming.{most_upcoming, upcoming}
 use Rattle.cli_debug.proofs.Standings.{left_by, none_is_left, left_after, running_after, state_after, within_after, where_ok}
@@ -15,10 +14,10 @@ pub invariant_of-self : goal.invariant_of-self
 invariant_of-self g c =
     let was : c.args.self.now.made + (c.in-Some.row.count + c.args.self.now.left) ≤ c.args.self.now.events =
     subst (λ next. c.args.self.now.made + most_upcoming next c.args.self.now.left ≤ c.args.self.now.events) c.in-Some.is c.args.self.now.few in
-    let fewer : most_upcoming c.after_row-next.result.0 c.after_row-next.result.1 + c.make_row-count.result.0 ≤ c.in-Some.row.count + c.args.self.now.left = c.after_row-next.ensures.fewer in
+    let fewer : most_upcoming c.after_row.new.next c.after_row.new.left + c.make_row-count.result.0 ≤ c.in-Some.row.count + c.args.self.now.left = c.after_row.ensures.fewer in
     record {
       none = c.make_row-count.ensures.none;
-      some = c.after_row-next.ensures.some;
+      some = c.after_row.ensures.some;
       counts = c.make_row-count.ensures.counts c.args.self.now.made c.args.self.now.counts;
       few = omega (arith, was, fewer);
       limit = c.args.self.now.limit;
@@ -44,7 +43,7 @@ returns-clause-row g c = λ run at within.
         here =
             subst (λ s. Stands c.make_row-count.new.machine c.make_row-count.new.console.items s) (sym (state_after row c.args.self.now.left c.args.self.now.script run count is few))
             (stands (state run) at.here);
-        left_are = c.after_row-next.ensures.same ∙ left_after row c.args.self.now.left c.args.self.now.script run count is;
+        left_are = c.after_row.ensures.same ∙ left_after row c.args.self.now.left c.args.self.now.script run count is;
       };
       running = running_after row c.args.self.now.left c.args.self.now.script run count is few
           (λ k some below. c.make_row-count.ensures.running (state run) at.here.stands
