@@ -1,5 +1,5 @@
 #!/usr/bin/env python3
-"""Writes crates/test_instructions/data/text.txt: for each word of the other vectors that is an instruction the text that GNU objdump
+"""Writes crates/test_runs/data/text.txt: for each word of the other vectors that is an instruction the text that GNU objdump
 (riscv64-linux-gnu-objdump of binutils 2.40) prints of it, in the form of the crate rv64_encode::text. Run by hand, at the top of the repository.
 
 The two differ in four ways, which are evened out here: a tab parts mnemonic and operands; a target is an address; a fence has its
@@ -10,7 +10,7 @@ import subprocess
 import sys
 import tempfile
 
-DATA = "crates/test_instructions/data/"
+DATA = "crates/test_runs/data/"
 SUPERVISOR = {0x100: "sstatus", 0x104: "sie", 0x105: "stvec", 0x106: "scounteren", 0x140: "sscratch", 0x141: "sepc",
               0x142: "scause", 0x143: "stval", 0x144: "sip", 0x180: "satp", 0xC01: "time"}
 

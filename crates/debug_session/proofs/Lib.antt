@@ -1,4 +1,3 @@
-pub mod SeenBytes
 pub mod Watching
 pub mod Reaching
 pub mod Pairs
@@ -7,7 +6,5 @@ pub mod Threads
 pub mod ServingSteps
 pub mod ServingLoop
 pub mod RunLawsHold
-pub mod PageRuns
-pub mod WalkLines
 pub mod TextParts
 pub mod RowLemmas

@@ -1,13 +1,8 @@
-pub mod Memory
 pub mod Watches
-pub mod Looks
 pub mod Runs
 pub mod Rows
-pub mod Description
-pub mod Pages
 pub mod Places
 pub mod Reasons
-pub mod Walks
 pub mod Questions
 pub mod Sessions
 pub mod Desks

@@ -25,13 +25,13 @@ use Rattle.gdb_protocol.specs.declared.packet.Packet.{Packet}
 use Rattle.gdb_protocol.specs.declared.packet.Packet.TheVariants as asks
 use Rattle.gdb_protocol.specs.declared.stop.Stop.{Stop}
 use Rattle.gdb_protocol.specs.declared.stop.Stop.TheVariants as by
-use Rattle.debug_session.specs.Description.{description, supported_text}
-use Rattle.debug_session.specs.Looks.{error_text, hart_words, register_text, registers_text}
-use Rattle.debug_session.specs.Memory.{seen_bytes}
+use Rattle.debug_views.specs.Description.{description, supported_text}
+use Rattle.debug_views.specs.Looks.{error_text, hart_words, register_text, registers_text}
+use Rattle.debug_views.specs.Memory.{seen_bytes}
 use Rattle.debug_session.specs.Runs.{Run, state, ahead, behind, at_event, found_behind, last_change, meets_break, next_turn}
-use Rattle.debug_session.specs.Pages.{pages_text}
+use Rattle.debug_views.specs.Pages.{pages_text}
 use Rattle.debug_session.specs.Reasons.{reason_names, reason_text}
-use Rattle.debug_session.specs.Walks.{translation_text}
+use Rattle.debug_views.specs.Walks.{translation_text}
 use Rattle.debug_session.specs.Questions.{events_text, question_of, text_of, usage_text}
 use Rattle.debug_session.specs.declared.questions.Question.{Question}
 use Rattle.debug_session.specs.declared.questions.Question.TheVariants as question

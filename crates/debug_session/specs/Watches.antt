@@ -3,7 +3,7 @@ use Rattle.std.specs.Prelude.{ℕ, ◌%◌, ◌==◌, not, if◌then◌else◌, 
 use Rattle.spec_processor.specs.Bytes.{in_ram, ram_offset, word}
 use Rattle.gdb_protocol.specs.declared.packet.Range.{Range}
 use Rattle.spec_reference.specs.declared.saved_machine.harts.SavedHart.{SavedHart}
-use Rattle.debug_session.specs.Memory.{seen_address}
+use Rattle.debug_views.specs.Memory.{seen_address}
 use Rattle.debug_session.specs.declared.watches.Watch.{Watch}
 use Rattle.debug_session.specs.declared.watches.Width.{Width}
 use Rattle.debug_session.specs.declared.watches.Width.TheVariants.{One, Two, Four, Eight}

@@ -5,7 +5,7 @@ ghost use Rattle.gdb_protocol.specs.Framing.{frame};
 ghost use Rattle.gdb_protocol.specs.Packets.{packet_of};
 ghost use Rattle.gdb_protocol.specs.Words.{after as text_after, is_comma};
 ghost use Rattle.debug_session.specs.Halts.{halt_value};
-ghost use Rattle.debug_session.specs.Looks.{error_text};
+ghost use Rattle.debug_views.specs.Looks.{error_text};
 ghost use Rattle.debug_session.specs.Performing.{Performs};
 ghost use Rattle.debug_session.specs.Runs.{Run, ahead, behind};
 ghost use Rattle.debug_session.specs.Sessions as spec;
@@ -14,10 +14,10 @@ use crate::desk::Desk;
 use crate::host::Host;
 use crate::motion::{Found, go_ahead, go_back, go_to};
 use crate::questions::{Question, asked, asked_text};
-use crate::registers::ERROR;
 use crate::replies::{Halt, halt_of, hart_of, push_halt, push_reply, watch_in};
 use crate::target::Target;
 use crate::watches::Watch;
+use debug_views::ERROR;
 use gdb_protocol::{
     Arrival, Motion, Packet, Stop, Thread, packet_of, push_console, push_digits, push_frame,
 };

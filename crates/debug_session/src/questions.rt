@@ -4,12 +4,11 @@ ghost use Rattle.spec_reference.specs.States.{protections_of};
 ghost use Rattle.debug_session.specs.Questions as spec;
 ghost use Rattle.debug_session.specs.Runs.{Run, state};
 ghost use Rattle.debug_session.specs.Sessions as session;
-ghost use Rattle.debug_session.specs.Walks.{translation_text};
+ghost use Rattle.debug_views.specs.Walks.{translation_text};
 
-use crate::pages::pages_text;
 use crate::reasons::{push_names, reason_of};
 use crate::target::Target;
-use crate::walks::translation_text;
+use debug_views::{pages_text, translation_text};
 use gdb_protocol::number_of;
 use spec_reference::saved_machine::SavedHart;
 use std::alloc::{AllocError, Global};

@@ -1,19 +1,17 @@
 // Answers of packets that move nothing.
 ghost use Rattle.std.specs.Prelude.{◌≡◌, ◌++◌, ◌-◌, OnOk, codes, is_some, string_bytes};
 ghost use Rattle.gdb_protocol.specs.Digits.{byte_digits};
-ghost use Rattle.debug_session.specs.Looks as look;
+ghost use Rattle.debug_views.specs.Looks as look;
 ghost use Rattle.debug_session.specs.Halts.{halt_value};
 ghost use Rattle.debug_session.specs.Runs.{Run, state};
 ghost use Rattle.debug_session.specs.Sessions as spec;
 
-use crate::description::{SUPPORTED, description};
 use crate::desk::Desk;
-use crate::harts::hart_words;
-use crate::memory::push_seen_bytes;
 use crate::motion::{Change, meets_break};
-use crate::registers::{ERROR, push_register, push_registers};
 use crate::target::Target;
 use crate::watches::{Watch, watch_of};
+use debug_views::description::{SUPPORTED, description};
+use debug_views::{ERROR, hart_words, push_register, push_registers, push_seen_bytes};
 use gdb_protocol::{Packet, Range, Stop, Thread, push_digits, push_part, push_stop};
 use spec_processor::Lines;
 use spec_reference::saved_machine::SavedHart;

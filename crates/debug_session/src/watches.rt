@@ -3,7 +3,7 @@ ghost use Rattle.std.specs.Prelude.{◌≡◌, ◌==◌, not, IfOk, OnOk, Some};
 ghost use Rattle.spec_processor.specs.Regions.{IsWidth};
 ghost use Rattle.debug_session.specs.Watches as spec;
 
-use crate::memory::seen_address;
+use debug_views::seen_address;
 use gdb_protocol::Range;
 use host_mem::word_at;
 use spec_processor::{is_in_ram, ram_offset};

@@ -1,12 +1,15 @@
-//! Whole runs of the program over files and a sink in memory. It runs the stored guests, and prints of each its name, the
-//! status of its run and all that the run prints; it says of each stored policy whether it is what `measure` makes of its
-//! image. Then it follows the orders of the cases, a line each, and prints what each call leaves behind.
-//! `data/parts.cases` says what the orders are. At last it makes a call of each command over the files that lie in its folder,
-//! standard input and standard output.
+//! Instructions against results of other machines, then whole runs of the program over files and a sink in memory.
+//! First it prints of each file of vectors how many lines the decoder and the effects agree with (`instructions`). Then it runs
+//! the stored guests, and prints of each its name, the status of its run and all that the run prints; it says of each stored
+//! policy whether it is what `measure` makes of its image. Then it follows the orders of the cases, a line each, and prints what
+//! each call leaves behind. `data/parts.cases` says what the orders are. At last it makes a call of each command over the files
+//! that lie in its folder, standard input and standard output.
 #![tactic(auto)]
 
+mod instructions;
 mod real;
 
+use instructions::report_vectors;
 use real::call_real;
 use std::rt::Files;
 use std::sync::Wait;
@@ -31,6 +34,7 @@ static LISTS: [&str; 10] = [
 ];
 
 fn main(rt: HostRuntime) -> io::Result<()> {
+    report_vectors(&rt)?;
     run_guests(&rt, "runs.txt")?;
     compare_policies(&rt, "policies.txt")?;
     run_sessions(&rt, "sessions.txt")?;

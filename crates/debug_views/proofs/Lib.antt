@@ -1,0 +1,3 @@
+pub mod SeenBytes
+pub mod PageRuns
+pub mod WalkLines
