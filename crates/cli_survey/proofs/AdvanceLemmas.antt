@@ -17,12 +17,17 @@ use Rattle.spec_hardware.specs.StandsFor.{StandsFor}
 use Rattle.laws_simulation.specs.HwPassing.{hw_passed_over}
 use Rattle.laws_simulation.specs.Passing.{passed_over}
 use Rattle.laws_simulation.proofs.HwPassesHold.{hw_pass_law}
+use Rattle.script.specs.Runs.{BeginsWith}
+use Rattle.script.specs.declared.event_run.EventRun.{EventRun}
 use Rattle.host_io.specs.Outside.{SinkState, BreaksOff}
 use Rattle.machine.specs.Console.{Flushed}
+use Rattle.machine.specs.Drawing.{count_left, events_with}
 use Rattle.machine.specs.Limits.{max_counts}
 use Rattle.machine.specs.Repeats.{MayMake}
 use Rattle.machine.specs.Standing.{HasState, Stands}
+use Rattle.machine.specs.declared.drawing.Drawing.{Drawing}
 use Rattle.machine.proofs.ConsoleLemmas.{flushed_counts}
+use Rattle.machine.proofs.DrawnBatches.{none_left, one_drawn}
 use Rattle.laws_simulation.proofs.RunsReach.{clear_law}
 use Rattle.machine.proofs.Loadings.{none_seen}
 use Rattle.machine.proofs.Passes.{pass_rest}
@@ -33,9 +38,9 @@ use Rattle.report.specs.declared.findings.found.Found.{Found}
 use Rattle.report.specs.declared.findings.loads.RefusedLoad.{RefusedLoad}
 use Rattle.cli_survey.specs.Advances.{Advances, GoesOver, GoesToBreak, GoesToEnd, IsPassed, IsRepeated, IsRowMade, MayGoOn, MayTend}
 use Rattle.cli_survey.specs.Refusals.{refusals, with_loads}
-use Rattle.cli_survey.specs.Surveys.{has_room, is_clear, is_plain, is_running}
+use Rattle.cli_survey.specs.Surveys.{has_room, is_clear, is_running}
 use Rattle.cli_survey.proofs.LookLemmas.{none_refused}
-use Rattle.cli_survey.proofs.RowLemmas.{row_made, told_row}
+use Rattle.cli_survey.proofs.RowLemmas.{more_notes, row_made, told_row}
 use Rattle.cli_survey.proofs.SurveyLemmas.{keeps_writes, pass_counts, pass_notes, pass_running, running_is, surveys_break, surveys_flush, surveys_on, surveys_over}
 
 -- ---- over a pass
@@ -89,16 +94,22 @@ go_passed n m passed to is may = record {
 
 -- ---- over a row of events
 
-pub go_tends : (n k : ℕ) (m : Machine) (to : SinkState) → k ≤ n → MayGoOn m n to → MayTend m k
-go_tends n k m to within may =
+pub go_fewer : (n k : ℕ) (m : Machine) (to : SinkState) → k ≤ n → MayGoOn m n to → MayGoOn m k to
+go_fewer n k m to within may =
     let few = may.few in
     record {
+      sink = may.sink;
       few = omega (arith, few, within);
       state = may.state;
       counts = counts_within (max_counts - (n + 1)) (max_counts - (k + 1)) m.journal.counts (omega (arith, within)) may.counts;
       room = may.room;
       kept = may.kept;
     }
+
+pub go_tends : (n k : ℕ) (m : Machine) (to : SinkState) → k ≤ n → MayGoOn m n to → MayTend m k
+go_tends n k m to within may =
+    let fewer : MayGoOn m k to = go_fewer n k m to within may in
+    record { few = fewer.few; state = fewer.state; counts = fewer.counts; room = fewer.room; kept = fewer.kept }
 
 pub go_told : (n told : ℕ) (m : Machine) (to new : SinkState) → told ≡ n → new ≡ to → MayGoOn m n to → MayGoOn m told new
 go_told n told m to new count sink may = subst (λ (k : ℕ). MayGoOn m k new) (sym count) (subst (λ (s : SinkState). MayGoOn m n s) (sym sink) may)
@@ -145,36 +156,15 @@ room_advanced n left m next w after e now a may = go_room n left a.ready next e 
 
 -- ---- where nothing is to be seen to
 
-pub plain_running : (m : Machine) → is_plain m ≡ true → is_running m.journal.verdict ≡ true
-plain_running m plain =
-    and_first (is_running m.journal.verdict) (not (is_some m.loading))
-    (and_first (is_running m.journal.verdict && not (is_some m.loading)) (has_room m) plain)
+pub clear_running : (m : Machine) → is_clear m ≡ true → is_running m.journal.verdict ≡ true
+clear_running m clear = and_first (is_running m.journal.verdict) (not (is_some m.loading)) clear
 
 is_none : {A : Type 0} (x : Option A) → not (is_some x) ≡ true → x ≡ None
 is_none None is = refl
 is_none (Some x) is = absurd (cc is)
 
-pub plain_unloaded : (m : Machine) → is_plain m ≡ true → m.loading ≡ None
-plain_unloaded m plain =
-    is_none m.loading (and_second (is_running m.journal.verdict) (not (is_some m.loading))
-    (and_first (is_running m.journal.verdict && not (is_some m.loading)) (has_room m) plain))
-
-has_below : (a b : ℕ) → a < b → nat_lt a b ≡ true
-has_below a b is = grind (arith, nat_tests)
-
-both_true : (a b : Bool) → a ≡ true → b ≡ true → (a && b) ≡ true
-both_true true b first second = second
-both_true false b first second = absurd (cc first)
-
--- where so many events still fit
-pub plain_by : (m : Machine) (fit : ℕ) → is_clear m ≡ true → length m.journal.notes + fit ≤ max_notes → 0 < fit → is_plain m ≡ true
-plain_by m fit clear fits some = both_true (is_clear m) (has_room m) clear (has_below (length m.journal.notes) max_notes (omega (arith, fits, some)))
-
-below_by : (a b : ℕ) → nat_lt a b ≡ true → a < b
-below_by a b is = grind (arith, nat_tests)
-
-pub room_below : (m : Machine) → has_room m ≡ true → length m.journal.notes < max_notes
-room_below m room = below_by (length m.journal.notes) max_notes room
+pub clear_unloaded : (m : Machine) → is_clear m ≡ true → m.loading ≡ None
+clear_unloaded m clear = is_none m.loading (and_second (is_running m.journal.verdict) (not (is_some m.loading)) clear)
 
 above_by : (a b : ℕ) → a ≤ b → nat_lt a b ≡ false → a ≡ b
 above_by a b few is = grind (arith, nat_tests)
@@ -182,33 +172,35 @@ above_by a b few is = grind (arith, nat_tests)
 pub no_room : (m : Machine) → length m.journal.notes ≤ max_notes → has_room m ≡ false → length m.journal.notes ≡ max_notes
 no_room m few full = above_by (length m.journal.notes) max_notes few full
 
-pub plain_has_room : (m : Machine) → is_plain m ≡ true → has_room m ≡ true
-plain_has_room m plain = and_second (is_running m.journal.verdict && not (is_some m.loading)) (has_room m) plain
+below_by : (a b : ℕ) → nat_lt a b ≡ true → a < b
+below_by a b is = grind (arith, nat_tests)
 
-pub plain_room : (m : Machine) → is_plain m ≡ true → length m.journal.notes < max_notes
-plain_room m plain = room_below m (plain_has_room m plain)
+pub room_below : (m : Machine) → has_room m ≡ true → length m.journal.notes < max_notes
+room_below m room = below_by (length m.journal.notes) max_notes room
 
-plain_passed : (m : Machine) (w : Found) → is_plain m ≡ true → IsPassed m w m w
-plain_passed m w plain =
-    let running : m.journal.verdict ≡ Running = running_is m.journal.verdict (plain_running m plain) in
+clear_passed : (m : Machine) (w : Found) → is_clear m ≡ true → IsPassed m w m w
+clear_passed m w clear =
+    let running : m.journal.verdict ≡ Running = running_is m.journal.verdict (clear_running m clear) in
     record { passed = pass_running m running; kept = keeps_writes (writes_view w.writes) m.journal.verdict running }
 
 unrefused : (m : Machine) (r : State) (e : Event) (l : RefusedLoads) → StandsFor m r → m.loading ≡ None → l ≡ with_loads l (refusals r e)
 unrefused m r e l stands none = sym (ap (λ (xs : List RefusedLoad). with_loads l xs) (none_refused r e (none_seen m r stands none)))
 
 -- the row that a chain made
-pub plain_made : (n : ℕ) (m next : Machine) (e : Event) → HasState m → is_plain m ≡ true → IsRepeated m e n next → IsRowMade m e n next
-plain_made n m next e has plain it = row_made n m next e has (running_is m.journal.verdict (plain_running m plain)) it
+pub clear_made : (n : ℕ) (m next : Machine) (e : Event) → HasState m → is_clear m ≡ true → IsRepeated m e n next → IsRowMade m e n next
+clear_made n m next e has clear it = row_made n m next e has (running_is m.journal.verdict (clear_running m clear)) it
 
-plain_advances : (m next : Machine) (w : Found) (e : Event) (n : ℕ) → is_plain m ≡ true → length m.journal.notes + n ≤ max_notes → IsRowMade m e n next → Advances m w e n next w
-plain_advances m next w e n plain fits made = record {
-  ready = m;
-  passed = plain_passed m w plain;
-  running = plain_running m plain;
-  looked = λ r stands. unrefused m r e (loads_view w.loads) stands (plain_unloaded m plain);
-  made = made;
-  told = told_row n m next e w.noted (plain_room m plain) fits made;
-}
+clear_advances : (m next : Machine) (w : Found) (e : Event) (n : ℕ) → is_clear m ≡ true → length m.journal.notes + n ≤ max_notes → IsRowMade m e n next → Advances m w e n next w
+clear_advances m next w e n clear fits made =
+    let some = made.some in
+    record {
+      ready = m;
+      passed = clear_passed m w clear;
+      running = clear_running m clear;
+      looked = λ r stands. unrefused m r e (loads_view w.loads) stands (clear_unloaded m clear);
+      made = made;
+      told = told_row n m next e w.noted (omega (arith, some, fits)) fits made;
+    }
 
 -- ---- the events of a loop before which nothing is to be seen to
 
@@ -224,29 +216,64 @@ over_told many n told before script m next now to new over count sink =
 
 -- a row more
 pub over_made : (n many left rest : ℕ) (before mid after : List Event) (m at next flushed : Machine) (e : Event) (now to new : SinkState) →
-    GoesOver many left before mid m at now to → is_plain at ≡ true → mid ≡ replicate n e ++ after → rest + n ≡ left →
+    GoesOver many left before mid m at now to → is_clear at ≡ true → mid ≡ replicate n e ++ after → rest + n ≡ left →
     length at.journal.notes + n ≤ max_notes → IsRowMade at e n next → Flushed next flushed to new → length flushed.journal.printed < max_printed → GoesOver many rest before after m flushed now new
-over_made n many left rest before mid after m at next flushed e now to new over plain parts split fits made f room =
+over_made n many left rest before mid after m at next flushed e now to new over clear parts split fits made f room =
     let fewer = over.fewer in
     record {
       fewer = omega (arith, fewer, split);
       on = λ start all found old is_start up.
           surveys_flush start all after next flushed found old to new
-          (surveys_on n start all mid after at next found found e old to is_start (over.on start all found old is_start up) parts (plain_advances at next found e n plain fits made)) f;
+          (surveys_on n start all mid after at next found found e old to is_start (over.on start all found old is_start up) parts (clear_advances at next found e n clear fits made)) f;
       may = go_made n left rest at next flushed e to new split made over.may f room;
     }
 
 -- a write of the console failed after it
 pub over_broke : (n many left : ℕ) (before mid after : List Event) (m at next passed : Machine) (e : Event) (now to new : SinkState) →
-    GoesOver many left before mid m at now to → is_plain at ≡ true → mid ≡ replicate n e ++ after → length at.journal.notes + n ≤ max_notes → IsRowMade at e n next →
+    GoesOver many left before mid m at now to → is_clear at ≡ true → mid ≡ replicate n e ++ after → length at.journal.notes + n ≤ max_notes → IsRowMade at e n next →
     passed ≡ hw_passed_over next → BreaksOff to new next.journal.printed → GoesToBreak before m passed now new
-over_broke n many left before mid after m at next passed e now to new over plain parts fits made is broke = λ start all found old is_start up.
+over_broke n many left before mid after m at next passed e now to new over clear parts fits made is broke = λ start all found old is_start up.
     surveys_break start all after next passed found old to new
-    (surveys_on n start all mid after at next found found e old to is_start (over.on start all found old is_start up) parts (plain_advances at next found e n plain fits made)) is broke
+    (surveys_on n start all mid after at next found found e old to is_start (over.on start all found old is_start up) parts (clear_advances at next found e n clear fits made)) is broke
 
 -- none is left
-pub over_all : (many left : ℕ) (before mid : List Event) (m at : Machine) (now to : SinkState) → GoesOver many left before mid m at now to → is_plain at ≡ true → mid ≡ [] →
+pub over_all : (many left : ℕ) (before mid : List Event) (m at : Machine) (now to : SinkState) → GoesOver many left before mid m at now to → is_clear at ≡ true → mid ≡ [] →
     GoesToEnd before m at now to
-over_all many left before mid m at now to over plain none = λ start all found old is_start up.
+over_all many left before mid m at now to over clear none = λ start all found old is_start up.
     surveys_over (mid ≡ []) start all mid at at found found old to (over.on start all found old is_start up)
-    (record { passed = plain_passed at found plain; same = refl; noted = refl; over = inr none }) (λ last. last)
+    (record { passed = clear_passed at found clear; same = refl; noted = refl; over = inr none }) (λ last. last)
+
+-- ---- room for notes
+
+few_flushed : (n : ℕ) (m next flushed : Machine) (e : Event) (now new : SinkState) → HasState m → is_clear m ≡ true → IsRepeated m e n next →
+    length m.journal.notes ≤ max_notes → Flushed next flushed now new → length flushed.journal.notes ≤ length m.journal.notes + n
+few_flushed n m next flushed e now new has clear row few f =
+    let more = more_notes n m next e has (running_is m.journal.verdict (clear_running m clear)) row few in
+    let same : length flushed.journal.notes ≡ length next.journal.notes = ap (λ (x : Machine). length x.journal.notes) f.away.cleared.same in
+    omega (arith, same, more)
+
+-- so many events fewer are left, of each of which a note is kept
+pub fits_on : (n left rest : ℕ) (m next flushed : Machine) (e : Event) (now new : SinkState) → HasState m → is_clear m ≡ true → IsRepeated m e n next →
+    length m.journal.notes + left ≤ max_notes → rest + n ≡ left → Flushed next flushed now new → length flushed.journal.notes + rest ≤ max_notes
+fits_on n left rest m next flushed e now new has clear row fits split f =
+    let few = few_flushed n m next flushed e now new has clear row (omega (arith, fits)) f in
+    omega (arith, few, fits, split)
+
+-- ---- none is left of rows
+
+pub none_drawn : {S : Type 0} (schedule : S → Schedule) (d : Drawing S) (later : ℕ) → count_left d + later ≡ 0 → events_with later schedule d ≡ []
+none_drawn schedule d later none =
+    let row : d.batch.count ≡ 0 = omega (arith, none) in
+    let rest : d.undrawn + later ≡ 0 = omega (arith, none) in
+    ap (λ (n : ℕ). replicate n d.batch.event ++ first_events (d.undrawn + later) (schedule d.source)) row ∙ none_left (d.undrawn + later) (schedule d.source) rest
+
+-- ---- the first of several events of a source
+
+pub drawn_one : (fit rest later : ℕ) (one : EventRun) (before behind : Schedule) → 0 < fit → one.count ≡ 1 → BeginsWith before one behind →
+    first_events (fit + rest + later) before ≡ replicate 1 one.event ++ first_events (fit - 1 + rest + later) behind
+drawn_one fit rest later one before behind some once first =
+    let sum : fit + rest + later ≡ fit + (rest + later) = omega arith in
+    let less : fit - 1 + (rest + later) ≡ fit - 1 + rest + later = omega (arith, some) in
+    ap (λ (n : ℕ). first_events n before) sum
+    ∙ one_drawn (fit + (rest + later)) fit (rest + later) 1 one before behind refl some once refl first
+    ∙ ap (λ (n : ℕ). replicate 1 one.event ++ first_events n behind) less

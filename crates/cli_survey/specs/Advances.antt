@@ -14,7 +14,8 @@ use Rattle.spec_hardware.specs.Machine.{Machine}
 use Rattle.spec_hardware.specs.StandsFor.{StandsFor}
 use Rattle.laws_simulation.specs.HwPassing.{hw_passed_over}
 use Rattle.laws_simulation.specs.Passes.{pass_of}
-use Rattle.host_io.specs.Outside.{MayWrite, SinkState}
+use Rattle.host_io.specs.Outside.{BreaksOff, MayWrite, SinkState}
+use Rattle.machine.specs.Console.{Flushed}
 use Rattle.machine.specs.Drawing.{count_left, events_with, is_used_up}
 use Rattle.machine.specs.Limits.{max_counts}
 use Rattle.machine.specs.Repeats.{Repeats}
@@ -139,16 +140,34 @@ abbrev pub GoesToBreak : (before : List Event) (m next : Machine) (now new : Sin
 GoesToBreak before m next now new = (start : State) (all : List Event) (found : Found) (old : SinkState) → IsStart start →
     SurveysUp start all before m found old now → SurveyBroke start all next old new
 
--- so it is with the events of a source, of which so many are left,
-abbrev pub GoesWhile : (old new : Schedule) (many few : ℕ) (m next : Machine) (now to : SinkState) → Bool → Type 0
-GoesWhile old new many few m next now to on =
-    OneOf (GoesOver many few (first_events many old) (first_events few new) m next now to) (GoesToEnd (first_events many old) m next now to) on
+-- so it is with the first of a source's events, of which so many are left, whatever is to be drawn after them
+abbrev pub GoesWhile : (old new : Schedule) (many : ℕ) (m next : Machine) (now to : SinkState) → Option ℕ → Type 0
+GoesWhile old new many m next now to None = (later : ℕ) → MayGoOn m (many + later) now → GoesToEnd (first_events (many + later) old) m next now to
+GoesWhile old new many m next now to (Some few) = (later : ℕ) → MayGoOn m (many + later) now →
+    GoesOver (many + later) (few + later) (first_events (many + later) old) (first_events (few + later) new) m next now to
 
--- and with rows, where so many are to be drawn later, none once those before them are used up
-pub record LeavesLater {S : Type 0} (schedule : S → Schedule) (old new : Drawing S) (later rest : ℕ) (m next : Machine) (now to : SinkState) : Type 0 where
-  pub over : GoesOver (count_left old + later) (count_left new + rest) (events_with later schedule old) (events_with rest schedule new) m next now to
-  pub some : is_used_up new ≡ true → rest ≡ 0
+abbrev pub BreaksWhile : (old : Schedule) (many : ℕ) (m next : Machine) (now to : SinkState) → Type 0
+BreaksWhile old many m next now to = (later : ℕ) → MayGoOn m (many + later) now → GoesToBreak (first_events (many + later) old) m next now to
 
-abbrev pub GoesByRows : {S : Type 0} → (schedule : S → Schedule) → (old new : Drawing S) (later : ℕ) (m next : Machine) (now to : SinkState) → Option ℕ → Type 0
-GoesByRows schedule old new later m next now to None = GoesToEnd (events_with later schedule old) m next now to
-GoesByRows schedule old new later m next now to (Some rest) = LeavesLater schedule old new later rest m next now to
+-- an event was made, and the console written where it was due
+pub record IsOneMade (m : Machine) (e : Event) (after : Machine) (now new : SinkState) : Type 0 where
+  pub next : Machine
+  pub made : IsRepeated m e 1 next
+  pub flushed : Flushed next after now new
+  pub room : length after.journal.printed < max_printed
+
+-- a write of the console failed after it
+pub record BreaksAtOne (m : Machine) (e : Event) (passed : Machine) (now new : SinkState) : Type 0 where
+  pub next : Machine
+  pub made : IsRepeated m e 1 next
+  pub is_passed : passed ≡ hw_passed_over next
+  pub broke : BreaksOff now new next.journal.printed
+
+-- and with rows
+abbrev pub GoesByRows : {S : Type 0} → (schedule : S → Schedule) → (old new : Drawing S) → (m next : Machine) (now to : SinkState) → Bool → Type 0
+GoesByRows schedule old new m next now to on = (later : ℕ) → MayGoOn m (count_left old + later) now →
+    OneOf (GoesOver (count_left old + later) (count_left new + later) (events_with later schedule old) (events_with later schedule new) m next now to)
+    (GoesToEnd (events_with later schedule old) m next now to) on
+
+abbrev pub BreaksInRows : {S : Type 0} → (schedule : S → Schedule) → (old : Drawing S) → (m next : Machine) (now to : SinkState) → Type 0
+BreaksInRows schedule old m next now to = (later : ℕ) → MayGoOn m (count_left old + later) now → GoesToBreak (events_with later schedule old) m next now to

@@ -49,10 +49,6 @@ has_room m = nat_lt (length m.journal.notes) max_notes
 abbrev pub is_clear : Machine → Bool
 is_clear m = is_running m.journal.verdict && not (is_some m.loading)
 
--- nothing is to be seen to before an event: besides, a note would be kept
-abbrev pub is_plain : Machine → Bool
-is_plain m = is_clear m && has_room m
-
 -- ---- a survey so far
 
 -- The machine stands where the survey is after these events, but for console bytes that the sink took, the writes are those that

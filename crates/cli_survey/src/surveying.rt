@@ -1,29 +1,32 @@
 // A machine's survey, with its console.
-ghost use Rattle.std.specs.Prelude.{◌≡◌, ◌+◌, ◌<◌, ◌≤◌, [], length, true, IfOk, OnOk, OnErr};
+ghost use Rattle.std.specs.Prelude.{◌≡◌, ◌+◌, ◌<◌, ◌≤◌, ◌^◌, ◌-◌, [], length, true, false, IfOk, OnOk, OnErr};
 ghost use Rattle.sv_types.specs.Limits.{max_notes, max_printed};
 ghost use Rattle.sv_types.specs.Schedule.{first_events};
 ghost use Rattle.laws_simulation.specs.HwPassing.{hw_passed_over};
 ghost use Rattle.laws_simulation.specs.Passes.{pass_of};
+ghost use Rattle.spec_reference.specs.Counting.{CountsAtMost};
 ghost use Rattle.spec_reference.specs.States.{State};
 ghost use Rattle.spec_hardware.specs.StandsFor.{StandsFor};
 ghost use Rattle.host_io.specs.Outside.{BreaksOff, MayWrite};
 ghost use Rattle.machine.specs.Console.{Flushed};
 ghost use Rattle.machine.specs.Drawing.{count_left, events_with, is_used_up};
+ghost use Rattle.machine.specs.Limits.{max_counts};
 ghost use Rattle.machine.specs.Repeats.{MayMake};
 ghost use Rattle.machine.specs.Standing.{HasState};
 ghost use Rattle.report.specs.Views.{loads_view, writes_view};
-ghost use Rattle.cli_survey.specs.Advances.{GoesByOne, GoesByRow, GoesByRows, GoesToBreak, GoesWhile, IsRepeated, IsRowMade, MayGoOn, MayTend, TellsOn};
+ghost use Rattle.cli_survey.specs.Advances.{BreaksAtOne, BreaksInRows, BreaksWhile, GoesByOne, GoesByRow, GoesByRows, GoesWhile};
+ghost use Rattle.cli_survey.specs.Advances.{IsOneMade, IsRepeated, IsRowMade, MayGoOn, MayTend, TellsOn};
 ghost use Rattle.cli_survey.specs.Refusals.{refusals, with_loads};
-ghost use Rattle.cli_survey.specs.Surveys.{MaySurvey, SurveyedFromStart, has_room, is_clear, is_plain, is_running, with_passes};
+ghost use Rattle.cli_survey.specs.Surveys.{MaySurvey, SurveyedFromStart, has_room, is_clear, is_running, with_passes};
 
 use crate::looking::look;
 use crate::noting::make_noted;
 use host_io::{Failed, Sink, Trouble};
-use machine::{Drawing, Left, Machine, Notes, draw_on, flush_due};
+use machine::{Drawing, Left, Machine, Notes, flush_due};
 use report::findings::{Found, NotesFound, Occurrence, Writes, add_write};
 use script::{EventRun, EventSource, Script, Source};
 use std::alloc::{AllocError, Global};
-use sv_types::{MAX_NOTES, Rule, Verdict};
+use sv_types::{Event, MAX_NOTES, Rule, Verdict};
 
 // A write that stopped the machine is passed over, and kept.
 #[inline(never)]
@@ -87,14 +90,6 @@ fn is_clear(machine: &Machine) -> bool
     ensures { result ≡ is_clear machine.now }
 {
     is_running(machine.verdict()) && !machine.is_loading()
-}
-
-// Whether nothing is to be seen to before an event: besides, a note would be kept.
-#[inline(always)]
-fn is_plain(machine: &Machine) -> bool
-    ensures { result ≡ is_plain machine.now }
-{
-    is_clear(machine) && has_room(machine)
 }
 
 // The first event of a row is made where its note would be kept, and else some of them with their notes set apart.
@@ -222,58 +217,99 @@ fn flush_or_pass<O: Sink>(machine: &mut Machine, out: &mut O) -> Result<(), Fail
     }
 }
 
-// So many events may be made before there is no room for a note of each.
+// So many events of these may be made before there is no room for a note of each.
 #[inline(always)]
-fn fitting(machine: &Machine, row: &EventRun) -> u64
-    requires { has_room machine.now ≡ true }
-    ensures most { result ≤ row.now.count }
+fn room_for(machine: &Machine, events: u64) -> u64
+    requires { length machine.now.journal.notes ≤ max_notes }
+    ensures most { result ≤ events }
     ensures fits { length machine.now.journal.notes + result ≤ max_notes }
-    ensures some { 0 < row.now.count → 0 < result }
 {
-    row.count.min((MAX_NOTES - machine.journal().len()) as u64)
+    events.min((MAX_NOTES - machine.journal().len()) as u64)
 }
 
-// A row of equal events, up to one after which a load is under way, or no room is left for a note. Answers how many were made. One alone
-// needs no row. It has an instance for each kind of source: LLVM builds in what has one caller, and this is too large for it otherwise.
-fn make_row<S>(machine: &mut Machine, row: &EventRun) -> u64
-    requires may { MayMake machine.old row.now.count }
-    requires plain { is_plain machine.old ≡ true }
-    ensures made { IsRepeated machine.old row.now.event result machine.new }
-    ensures most { result ≤ row.now.count }
-    ensures fits { length machine.old.journal.notes + result ≤ max_notes }
+// A row of equal events, up to one after which a load is under way. Answers how many were made. One alone needs no row. It has an
+// instance for each kind of source: LLVM builds in what has one caller, and this is too large for it otherwise.
+fn make_row<S>(machine: &mut Machine, event: Event, count: u64) -> u64
+    requires may { MayMake machine.old count }
+    requires clear { is_clear machine.old ≡ true }
+    ensures made { IsRepeated machine.old event result machine.new }
+    ensures most { result ≤ count }
 {
-    if row.count == 1 {
-        return machine.repeat(row.event, 1);
+    if count == 1 {
+        return machine.repeat(event, 1);
     }
-    let most = fitting(machine, row);
-    machine.repeat_to_load(row.event, most)
+    machine.repeat_to_load(event, count)
 }
 
-// Rows of equal events, up to where something is to be seen to. Answers how many events are to be drawn later; none where no row is
-// left.
-#[inline(always)]
+// Rows of equal events, up to where something is to be seen to or none is to be made now; none where a note of each might not be
+// kept. Answers whether the source may have more.
+#[inline(never)]
 fn make_rows<S: EventSource, O: Sink>(
     machine: &mut Machine,
     drawing: &mut Drawing<S>,
-    later: u64,
     out: &mut O,
-) -> Result<Option<u64>, Failed>
-    requires may { MayGoOn machine.old (count_left drawing.old + later) (O.state out.old) }
-    requires some { is_used_up drawing.old ≡ true → later ≡ 0 }
-    ensures went { IfOk result (GoesByRows S.schedule drawing.old drawing.new later machine.old machine.new (O.state out.old) (O.state out.new)) }
-    ensures broke { OnErr result (GoesToBreak (events_with later S.schedule drawing.old) machine.old machine.new (O.state out.old) (O.state out.new)) }
+) -> Result<bool, Failed>
+    requires { MayGoOn machine.old (count_left drawing.old) (O.state out.old) }
+    ensures went { IfOk result (GoesByRows S.schedule drawing.old drawing.new machine.old machine.new (O.state out.old) (O.state out.new)) }
+    ensures broke { OnErr result (BreaksInRows S.schedule drawing.old machine.old machine.new (O.state out.old) (O.state out.new)) }
 {
-    let mut later = later;
-    'events: while is_plain(machine) {
+    let left = drawing.count_left();
+    if room_for(machine, left) < left {
+        return Ok(true);
+    }
+    'events: while is_clear(machine) {
+        if drawing.is_used_up() {
+            return Ok(true);
+        }
         let Some(batch) = drawing.draw() else {
-            return Ok(None);
+            return Ok(false);
         };
-        let made = make_row::<S>(machine, &batch);
+        let made = make_row::<S>(machine, batch.event, batch.count);
         drawing.count_down(made);
         flush_or_pass(machine, out)?;
-        later = draw_on(machine, drawing, later, out);
     }
-    Ok(Some(later))
+    Ok(true)
+}
+
+// So many of these events are drawn at once: those of which each note is kept, or as many as the notes that are set apart.
+fn drawn_at_once(machine: &Machine, events: u64) -> u64
+    requires { length machine.now.journal.notes ≤ max_notes }
+    ensures most { result ≤ events }
+    ensures some { 0 < events → 0 < result }
+{
+    let room = room_for(machine, events);
+    if room == 0 {
+        return events.min(MAX_NOTES as u64);
+    }
+    room
+}
+
+// Whether events are left. Where none is at hand more are drawn.
+#[inline(always)]
+fn has_more<S: EventSource, O: Sink>(
+    machine: &Machine,
+    drawing: &mut Drawing<S>,
+    left: &mut Left,
+    out: &mut O,
+) -> bool
+    requires kept { length machine.now.journal.notes ≤ max_notes }
+    requires few { count_left drawing.old + (left.old.now + left.old.later) < 2 ^ 64 }
+    ensures all { events_with (left.new.now + left.new.later) S.schedule drawing.new ≡ events_with (left.old.now + left.old.later) S.schedule drawing.old }
+    ensures count { count_left drawing.new + (left.new.now + left.new.later) ≡ count_left drawing.old + (left.old.now + left.old.later) }
+    ensures some { result ≡ true → is_used_up drawing.new ≡ false }
+    ensures none { result ≡ false → count_left drawing.old + (left.old.now + left.old.later) ≡ 0 }
+    ensures sink { O.state out.new ≡ O.state out.old }
+{
+    if !drawing.is_used_up() {
+        return true;
+    }
+    if !left.goes_on(machine, out) {
+        return false;
+    }
+    let more = drawn_at_once(machine, left.now);
+    drawing.ask(more);
+    left.now -= more;
+    true
 }
 
 // Surveys a machine over the first events of a source, of which equal ones come in rows: again and again one event is made, or
@@ -289,62 +325,68 @@ fn survey_in_batches<S: EventSource + Drop, O: Sink>(
     requires { MaySurvey machine.old events found.old (O.state out.old) }
     ensures { SurveyedFromStart machine.old (first_events events (S.schedule source)) machine.new found.new (O.state out.old) (O.state out.new) result }
 {
-    let left = Left::of(events);
     let mut spare = Notes::new(*found.writes.findings.allocator())?;
-    let mut drawing = Drawing::new(source, left.now);
-    let mut later = left.later;
-    'parts: loop {
+    let mut drawing = Drawing::new(source, 0);
+    let mut left = Left::of(events);
+    'parts: while has_more(machine, &mut drawing, &mut left, out) {
         let on = tend_row(machine, &mut drawing, found, &mut spare)?;
         if !on {
             return Ok(());
         }
         flush_or_pass(machine, out)?;
-        later = draw_on(machine, &mut drawing, later, out);
-        let Some(rest) = make_rows(machine, &mut drawing, later, out)? else {
+        let more = make_rows(machine, &mut drawing, out)?;
+        if !more {
             return Ok(());
-        };
-        later = rest;
+        }
     }
+    pass_write(machine, &mut found.writes)?;
+    Ok(())
 }
 
-// So many events of these may be made before there is no room for a note of each.
+// An event, and the console written where it is due. After a turn of a stopped hart none is.
 #[inline(always)]
-fn room_for(machine: &Machine, events: u64) -> u64
-    requires { length machine.now.journal.notes ≤ max_notes }
-    ensures most { result ≤ events }
-    ensures fits { length machine.now.journal.notes + result ≤ max_notes }
+fn make_one<O: Sink>(machine: &mut Machine, event: Event, out: &mut O) -> Result<(), Failed>
+    requires sink { MayWrite (O.state out.old) }
+    requires has { HasState machine.old }
+    requires room { length machine.old.journal.printed < max_printed }
+    requires counts { CountsAtMost (max_counts - 1) machine.old.journal.counts }
+    ensures made { OnOk result (IsOneMade machine.old event machine.new (O.state out.old) (O.state out.new)) }
+    ensures broke { OnErr result (BreaksAtOne machine.old event machine.new (O.state out.old) (O.state out.new)) }
 {
-    events.min((MAX_NOTES - machine.journal().len()) as u64)
+    if machine.idles(event) {
+        return Ok(());
+    }
+    machine.repeat(event, 1);
+    flush_or_pass(machine, out)?;
+    Ok(())
 }
 
-// Events one by one, up to where something may be to be seen to, or none is to be made now. Answers whether the source may have more.
+// Events one by one, up to where something may be to be seen to; none where a note of it might not be kept. Answers how many are left
+// of them, and none where the source is at its end.
 #[inline(always)]
 fn make_events<S: EventSource, O: Sink>(
     machine: &mut Machine,
     source: &mut S,
-    left: &mut Left,
+    events: u64,
     out: &mut O,
-) -> Result<bool, Failed>
-    requires { MayGoOn machine.old (left.old.now + left.old.later) (O.state out.old) }
-    ensures went { IfOk result (GoesWhile (S.schedule source.old) (S.schedule source.new)
-        (left.old.now + left.old.later) (left.new.now + left.new.later) machine.old machine.new (O.state out.old) (O.state out.new)) }
-    ensures broke { OnErr result (GoesToBreak (first_events (left.old.now + left.old.later) (S.schedule source.old))
-        machine.old machine.new (O.state out.old) (O.state out.new)) }
+) -> Result<Option<u64>, Failed>
+    requires { MayGoOn machine.old events (O.state out.old) }
+    ensures went { IfOk result (GoesWhile (S.schedule source.old) (S.schedule source.new) events machine.old machine.new (O.state out.old) (O.state out.new)) }
+    ensures broke { OnErr result (BreaksWhile (S.schedule source.old) events machine.old machine.new (O.state out.old) (O.state out.new)) }
 {
-    let mut fit = room_for(machine, left.now);
+    let mut fit = room_for(machine, events);
+    let rest = events - fit;
     'events: while fit > 0 {
         if !is_clear(machine) {
-            return Ok(true);
+            return Ok(Some(fit + rest));
         }
         let Some(one) = source.draw(1) else {
-            return Ok(false);
+            return Ok(None);
         };
-        machine.repeat(one.event, 1);
-        left.now -= 1;
         fit -= 1;
-        flush_or_pass(machine, out)?;
+        make_one(machine, one.event, out)?;
     }
-    Ok(true)
+    Ok(Some(fit + rest))
 }
 
 // The same for a source whose equal events seldom come in a row: they are made one by one, and nothing counts a row.
@@ -369,10 +411,10 @@ fn survey_one_by_one<S: EventSource + Drop, O: Sink>(
         }
         left.now -= 1;
         flush_or_pass(machine, out)?;
-        let more = make_events(machine, &mut source, &mut left, out)?;
-        if !more {
+        let Some(rest) = make_events(machine, &mut source, left.now, out)? else {
             return Ok(());
-        }
+        };
+        left.now = rest;
     }
     pass_write(machine, &mut found.writes)?;
     Ok(())

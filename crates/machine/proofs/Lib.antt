@@ -12,6 +12,7 @@ pub mod Batches
 pub mod Resuming
 pub mod Behind
 pub mod Reservations
+pub mod QuietTurns
 pub mod Standing
 pub mod DrawnBatches
 pub mod ConsoleLemmas

@@ -53,7 +53,7 @@ hart_by [] h hw e = absurd (cc)
 hart_by (x ∷ harts) zero hw e = cc
 hart_by (x ∷ harts) (suc h) hw e = hart_by harts h hw e
 
-stopped_turn : (m after : Machine) (h : ℕ) (x : Option HwHart) → slice_get m.harts h ≡ x → (hart_in m.harts h).started ≡ false
+pub stopped_turn : (m after : Machine) (h : ℕ) (x : Option HwHart) → slice_get m.harts h ≡ x → (hart_in m.harts h).started ≡ false
     → TurnServed (with_count_raised m count_turn) h x after → after ≡ with_count_raised m count_turn
 stopped_turn m after h None e stopped served = served
 stopped_turn m after h (Some hw) e stopped served =

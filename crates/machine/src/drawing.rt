@@ -73,6 +73,15 @@ impl<S: EventSource> Drawing<S> {
         self.batch.count == 0 && self.undrawn == 0
     }
 
+    /// How many events are left at most: those at hand, and those that are still to be drawn.
+    #[inline(always)]
+    pub fn count_left(&self) -> u64
+        requires { count_left self.now < 2 ^ 64 }
+        ensures { result ≡ count_left self.now }
+    {
+        self.batch.count + self.undrawn
+    }
+
     /// So many events more are to be drawn.
     #[inline(always)]
     pub fn ask(&mut self, more: u64)

@@ -24,4 +24,4 @@ pub use machine::Machine;
 pub use machine_journal::Notes;
 pub use machine_start::Booted;
 pub use resume::ResumeFailure;
-pub use running::{Left, draw_on, flush_due, run};
+pub use running::{Left, flush_due, run};

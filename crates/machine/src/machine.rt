@@ -1,6 +1,6 @@
 // The machine.
 
-ghost use Rattle.std.specs.Prelude.{◌≡◌, ◌&&◌, ℕ, ◌+◌, ◌-◌, ◌<◌, ◌≤◌, [], length, replicate, true};
+ghost use Rattle.std.specs.Prelude.{◌≡◌, ◌&&◌, ℕ, ◌+◌, ◌-◌, ◌<◌, ◌≤◌, [], length, replicate, true, false};
 ghost use Rattle.sv_types.specs.Limits.{max_printed};
 ghost use Rattle.sv_types.specs.declared.event.Event.TheVariants.{Turn};
 ghost use Rattle.sv_types.specs.declared.event.Verdict.TheVariants.{Running};
@@ -11,11 +11,12 @@ ghost use Rattle.spec_reference.specs.States.{State};
 ghost use Rattle.spec_hardware.specs.HardwareEvent.{IsEvent};
 ghost use Rattle.spec_hardware.specs.Reaches.{Cleared};
 ghost use Rattle.spec_hardware.specs.StandsFor.{StandsFor};
+ghost use Rattle.spec_hardware.specs.Steps.{IsStep};
 ghost use Rattle.laws_simulation.specs.HwPassing.{hw_passed_over};
 ghost use Rattle.laws_simulation.specs.Passing.{passed_over};
 ghost use Rattle.machine.specs.Limits.{max_counts};
 ghost use Rattle.machine.specs.Noting.{hw_noting, noting};
-ghost use Rattle.machine.specs.Repeats.{Made, MadeInBatch, MadeRow, Makes, MayMake, Repeats};
+ghost use Rattle.machine.specs.Repeats.{Made, MadeInBatch, MadeRow, Makes, MayMake, Repeats, StaysUnloaded};
 ghost use Rattle.hw_platform.specs.Batches.{AreFree};
 ghost use Rattle.machine.specs.Batches.{MayBatch, reserves_nothing};
 ghost use Rattle.hw_fast_path.specs.Ends.{turns_of};
@@ -92,14 +93,45 @@ impl Machine {
         let mut made = 0;
         'events: while made < count {
             made += self.round(event, count - made);
-            if self.printed().len() != shown || self.verdict() != Verdict::Running {
-                return made;
-            }
-            if self.is_loading() {
+            if made == count
+                || self.printed().len() != shown
+                || self.verdict() != Verdict::Running
+                || self.is_loading()
+            {
                 return made;
             }
         }
         made
+    }
+
+    /// A turn of a hart that is stopped, or isn't there, which is only counted. Answers whether the event was one, and makes none else.
+    #[inline(always)]
+    pub fn idles(&mut self, event: Event) -> bool
+        requires room { length self.old.journal.printed < max_printed }
+        requires counts { CountsAtMost (max_counts - 1) self.old.journal.counts }
+        ensures made { result ≡ true → MadeRow 1 1 self.old event self.new }
+        ensures quiet { result ≡ true → StaysUnloaded self.old self.new }
+        ensures same { result ≡ false → self.new ≡ self.old }
+    {
+        if let Event::Turn(hart) = event {
+            return self.idles_at(hart);
+        }
+        false
+    }
+
+    #[inline(always)]
+    fn idles_at(&mut self, hart: u8) -> bool
+        requires room { length self.old.journal.printed < max_printed }
+        requires counts { CountsAtMost (max_counts - 1) self.old.journal.counts }
+        ensures made { result ≡ true → MadeRow 1 1 self.old (Turn hart) self.new }
+        ensures quiet { result ≡ true → StaysUnloaded self.old self.new }
+        ensures same { result ≡ false → self.new ≡ self.old }
+    {
+        if !self.system.is_stopped(hart) {
+            return false;
+        }
+        self.make(Event::Turn(hart));
+        true
     }
 
     // Rounds of one event, up to `count` times.
@@ -215,6 +247,7 @@ impl Machine {
         requires room { length self.old.journal.printed < max_printed }
         requires counts { CountsAtMost (max_counts - 1) self.old.journal.counts }
         ensures makes { Makes self.old event self.new }
+        ensures step { IsStep self.old event self.new }
         ensures counts { (n : ℕ) → CountsAtMost n self.old.journal.counts → CountsAtMost (n + 1) self.new.journal.counts }
     {
         self.none_reserved = stays_unreserved(self.none_reserved, &self.system, event);

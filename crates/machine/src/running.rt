@@ -104,10 +104,10 @@ impl Left {
     }
 }
 
-/// Goes on to the events after those that were to be drawn first, once these are made; then the sink is told. Answers how many
-/// are left after those that are to be drawn now.
+// Goes on to the events after those that were to be drawn first, once these are made; then the sink is told. Answers how many
+// are left after those that are to be drawn now.
 #[inline(always)]
-pub fn draw_on<S: EventSource, O: Sink>(
+fn draw_on<S: EventSource, O: Sink>(
     machine: &Machine,
     drawing: &mut Drawing<S>,
     later: u64,

@@ -1,122 +1,87 @@
-use Rattle.std.proofs.Common.{◌≡◌, ◌≤◌, ◌-◌, ◌+◌, ◌∙◌, length, refl, sym, ap, arith, true}
+use Rattle.std.proofs.Common.{◌≡◌, ◌-◌, ◌+◌, ◌∙◌, subst, sym, arith, true}
 use Rattle.sv_types.specs.Schedule.{first_events}
 use Rattle.host_io.proofs.SinkLemmas.{on_err}
 use Rattle.script.proofs.FirstEvents.{begun_none}
-use Rattle.spec_hardware.specs.Machine.{Machine}
-use Rattle.machine.proofs.DrawnBatches.{one_drawn}
 use Rattle.machine.proofs.Repeated.{counts_within}
 use Rattle.machine.specs.Limits.{max_counts}
-use Rattle.cli_survey.specs.Advances.{GoesToBreak, IsRepeated, IsRowMade}
-use Rattle.cli_survey.specs.Surveys.{is_plain}
-use Rattle.cli_survey.proofs.LookLemmas.{one_refuses}
-use Rattle.cli_survey.proofs.RowLemmas.{more_notes}
-use Rattle.cli_survey.proofs.SurveyLemmas.{running_is}
-use Rattle.cli_survey.proofs.AdvanceLemmas.{go_room, over_all, over_broke, over_made, over_none, plain_by, plain_made, plain_room, plain_running}
+use Rattle.cli_survey.specs.Advances.{BreaksAtOne, BreaksWhile, GoesOver, IsOneMade, MayGoOn}
+use Rattle.cli_survey.specs.Surveys.{is_clear}
+use Rattle.cli_survey.proofs.AdvanceLemmas.{clear_made, drawn_one, fits_on, go_made, over_all, over_broke, over_made, over_none}
 use Rattle.cli_survey.proofs.surveying.make_events.Goals as goal
 
 pub room_for-fit-requires : goal.room_for-fit-requires
 room_for-fit-requires g c = c.requires.kept
 
 pub events-init : goal.events-init
-events-init g c = record { over = over_none _ _ _ _ c.requires; fits = c.room_for-fit.ensures.fits; within = c.room_for-fit.ensures.most }
+events-init g c =
+    let most = c.room_for-fit.ensures.most in
+    let sum : c.args.events ≡ c.room_for-fit.result + (c.args.events - c.room_for-fit.result) = omega (arith, most) in
+    record {
+      over = λ later may. subst (λ k. GoesOver (c.args.events + later) (k + later) (first_events (c.args.events + later) (g.S.EventSource.schedule c.args.source.now))
+          (first_events (k + later) (g.S.EventSource.schedule c.args.source.now)) c.args.machine.now c.args.machine.now (g.O.Sink.state c.args.out.now)
+          (g.O.Sink.state c.args.out.now)) sum (over_none _ _ _ _ may);
+      may = subst (λ k. MayGoOn c.args.machine.now k (g.O.Sink.state c.args.out.now)) sum c.requires;
+      fits = c.room_for-fit.ensures.fits;
+    }
 
 pub returns-then-not-is_clear-clause-went : goal.returns-then-not-is_clear-clause-went
-returns-then-not-is_clear-clause-went g c = c.events.invariant.over
+returns-then-not-is_clear-clause-went g c = λ later may. c.events.invariant.over later may
 
 pub returns-in_default-clause-went : goal.returns-in_default-clause-went
-returns-in_default-clause-went g c =
-    over_all _ _ _ _ _ c.events.machine _ _ c.events.invariant.over
-    (plain_by c.events.machine c.events.fit (sym c.is_clear.ensures ∙ c.if-not-is_clear.false) c.events.invariant.fits (let some = c.events-test.true in omega (arith, some)))
+returns-in_default-clause-went g c = λ later may.
+    over_all _ _ _ _ _ c.events.machine _ _ (c.events.invariant.over later may) (sym c.is_clear.ensures ∙ c.if-not-is_clear.false)
     (begun_none _ (g.S.EventSource.schedule c.events.source) (sym c.in_default.ensures.event))
 
-pub repeat-requires-clause-room : goal.repeat-requires-clause-room
-repeat-requires-clause-room g c = c.events.invariant.over.may.room
+pub make_one-requires-clause-sink : goal.make_one-requires-clause-sink
+make_one-requires-clause-sink g c = c.events.invariant.may.sink
 
-pub repeat-requires-clause-counts : goal.repeat-requires-clause-counts
-repeat-requires-clause-counts g c =
-    counts_within (max_counts - (c.events.left.now + c.events.left.later + 1)) (max_counts - 1) c.events.machine.journal.counts (omega arith) c.events.invariant.over.may.counts
+pub make_one-requires-clause-has : goal.make_one-requires-clause-has
+make_one-requires-clause-has g c = c.events.invariant.may.state
 
-pub flush_or_pass-requires-clause-sink : goal.flush_or_pass-requires-clause-sink
-flush_or_pass-requires-clause-sink g c = c.events.invariant.over.may.sink
+pub make_one-requires-clause-room : goal.make_one-requires-clause-room
+make_one-requires-clause-room g c = c.events.invariant.may.room
 
-pub flush_or_pass-requires-clause-room : goal.flush_or_pass-requires-clause-room
-flush_or_pass-requires-clause-room g c =
-    let some = c.events-test.true in
-    let plain : is_plain c.events.machine ≡ true =
-    plain_by c.events.machine c.events.fit (sym c.is_clear.ensures ∙ c.if-not-is_clear.false) c.events.invariant.fits (omega (arith, some)) in
-    go_room c.repeat.result (c.events.left.now + c.events.left.later) c.events.machine c.repeat.new.self c.in-Some.one.event (g.O.Sink.state c.events.out)
-    (plain_made c.repeat.result c.events.machine c.repeat.new.self c.in-Some.one.event c.events.invariant.over.may.state plain
-    (record {
-      some = c.repeat.ensures.some;
-      chain = c.repeat.ensures.chain;
-      refuses = λ r stands. one_refuses c.repeat.result c.in-Some.one.event r (omega (arith, c.repeat.ensures.some, c.repeat.ensures.most));
-      counts = c.repeat.ensures.counts;
-    })) c.events.invariant.over.may
+pub make_one-requires-clause-counts : goal.make_one-requires-clause-counts
+make_one-requires-clause-counts g c =
+    counts_within (max_counts - (c.events.fit + (c.args.events - c.room_for-fit.result) + 1)) (max_counts - 1) c.events.machine.journal.counts (omega arith) c.events.invariant.may.counts
 
-pub returns-in_err-flush_or_pass-clause-broke : goal.returns-in_err-flush_or_pass-clause-broke
-returns-in_err-flush_or_pass-clause-broke g c =
+pub returns-in_err-make_one-clause-broke : goal.returns-in_err-make_one-clause-broke
+returns-in_err-make_one-clause-broke g c =
     let test = c.events-test.true in
-    let within = c.events.invariant.within in
+    let fits = c.events.invariant.fits in
     let one : c.in-Some.one.count ≡ 1 = omega (arith, c.in-Some.ensures.some, c.in-Some.ensures.most) in
-    let once : c.repeat.result ≡ 1 = omega (arith, c.repeat.ensures.some, c.repeat.ensures.most) in
-    let now = c.events.left.now in
-    let later = c.events.left.later in
-    let all : now + later ≡ c.events.left.now + c.events.left.later = refl in
-    let plain : is_plain c.events.machine ≡ true =
-    plain_by c.events.machine c.events.fit (sym c.is_clear.ensures ∙ c.if-not-is_clear.false) c.events.invariant.fits (omega (arith, test)) in
-    let room = plain_room c.events.machine plain in
-    let made : IsRowMade c.events.machine c.in-Some.one.event c.repeat.result c.repeat.new.self =
-    plain_made c.repeat.result c.events.machine c.repeat.new.self c.in-Some.one.event c.events.invariant.over.may.state plain
-    (record {
-      some = c.repeat.ensures.some;
-      chain = c.repeat.ensures.chain;
-      refuses = λ r stands. one_refuses c.repeat.result c.in-Some.one.event r once;
-      counts = c.repeat.ensures.counts;
-    }) in
-    let broke : GoesToBreak (first_events (c.args.left.now.now + c.args.left.now.later) (g.S.EventSource.schedule c.args.source.now)) c.args.machine.now c.flush_or_pass.new.machine
-    (g.O.Sink.state c.args.out.now) (g.O.Sink.state c.flush_or_pass.new.out) =
-    over_broke c.repeat.result _ _ _ _ (first_events (now - 1 + later) (g.S.EventSource.schedule c.draw.new.self)) _ c.events.machine c.repeat.new.self _ c.in-Some.one.event _ _ _
-    c.events.invariant.over plain
-    (one_drawn (now + later) now later c.repeat.result c.in-Some.one (g.S.EventSource.schedule c.events.source) (g.S.EventSource.schedule c.draw.new.self) all
-    (omega (arith, test, within)) one once c.in-Some.ensures.first)
-    (omega (arith, once, room)) made c.in_err-flush_or_pass.ensures.passed c.in_err-flush_or_pass.ensures.failed in
+    let clear : is_clear c.events.machine ≡ true = sym c.is_clear.ensures ∙ c.if-not-is_clear.false in
+    let at : BreaksAtOne c.events.machine c.in-Some.one.event c.make_one.new.machine (g.O.Sink.state c.events.out) (g.O.Sink.state c.make_one.new.out) = c.in_err-make_one.ensures.broke in
+    let broke : BreaksWhile (g.S.EventSource.schedule c.args.source.now) c.args.events c.args.machine.now c.make_one.new.machine
+    (g.O.Sink.state c.args.out.now) (g.O.Sink.state c.make_one.new.out) = λ later may.
+    over_broke 1 _ _ _ _ (first_events (c.events.fit - 1 + (c.args.events - c.room_for-fit.result) + later) (g.S.EventSource.schedule c.draw.new.self)) _ c.events.machine at.next _
+    c.in-Some.one.event _ _ _ (c.events.invariant.over later may) clear
+    (drawn_one c.events.fit (c.args.events - c.room_for-fit.result) later c.in-Some.one (g.S.EventSource.schedule c.events.source) (g.S.EventSource.schedule c.draw.new.self)
+    (omega (arith, test)) one c.in-Some.ensures.first)
+    (omega (arith, test, fits)) (clear_made 1 c.events.machine at.next c.in-Some.one.event c.events.invariant.may.state clear at.made) at.is_passed at.broke in
     on_err _ _ broke
 
 pub events-preserved : goal.events-preserved
 events-preserved g c =
     let test = c.events-test.true in
-    let within = c.events.invariant.within in
     let fits = c.events.invariant.fits in
     let one : c.in-Some.one.count ≡ 1 = omega (arith, c.in-Some.ensures.some, c.in-Some.ensures.most) in
-    let once : c.repeat.result ≡ 1 = omega (arith, c.repeat.ensures.some, c.repeat.ensures.most) in
-    let now = c.events.left.now in
-    let later = c.events.left.later in
-    let all : now + later ≡ c.events.left.now + c.events.left.later = refl in
-    let plain : is_plain c.events.machine ≡ true =
-    plain_by c.events.machine c.events.fit (sym c.is_clear.ensures ∙ c.if-not-is_clear.false) c.events.invariant.fits (omega (arith, test)) in
-    let room = plain_room c.events.machine plain in
-    let row : IsRepeated c.events.machine c.in-Some.one.event c.repeat.result c.repeat.new.self = record {
-      some = c.repeat.ensures.some;
-      chain = c.repeat.ensures.chain;
-      refuses = λ r stands. one_refuses c.repeat.result c.in-Some.one.event r once;
-      counts = c.repeat.ensures.counts;
-    } in
-    let made : IsRowMade c.events.machine c.in-Some.one.event c.repeat.result c.repeat.new.self =
-    plain_made c.repeat.result c.events.machine c.repeat.new.self c.in-Some.one.event c.events.invariant.over.may.state plain row in
-    let more : length c.repeat.new.self.journal.notes ≤ length c.events.machine.journal.notes + c.repeat.result =
-    more_notes c.repeat.result c.events.machine c.repeat.new.self c.in-Some.one.event c.events.invariant.over.may.state
-    (running_is c.events.machine.journal.verdict (plain_running c.events.machine plain)) row c.events.invariant.over.may.kept in
-    let same : length c.flush_or_pass.new.machine.journal.notes ≡ length c.repeat.new.self.journal.notes =
-    ap (λ (x : Machine). length x.journal.notes) c.in_ok-flush_or_pass.ensures.flushed.away.cleared.same in
+    let clear : is_clear c.events.machine ≡ true = sym c.is_clear.ensures ∙ c.if-not-is_clear.false in
+    let it : IsOneMade c.events.machine c.in-Some.one.event c.make_one.new.machine (g.O.Sink.state c.events.out) (g.O.Sink.state c.make_one.new.out) = c.in_ok-make_one.ensures.made in
     record {
-      over = over_made c.repeat.result _ (now + later) (now - 1 + later) _ _ (first_events (now - 1 + later) (g.S.EventSource.schedule c.draw.new.self)) _ c.events.machine
-          c.repeat.new.self c.flush_or_pass.new.machine c.in-Some.one.event _ _ _ c.events.invariant.over plain
-          (one_drawn (now + later) now later c.repeat.result c.in-Some.one (g.S.EventSource.schedule c.events.source) (g.S.EventSource.schedule c.draw.new.self) all
-          (omega (arith, test, within)) one once c.in-Some.ensures.first)
-          (omega (arith, test, within, once)) (omega (arith, once, room)) made c.in_ok-flush_or_pass.ensures.flushed c.in_ok-flush_or_pass.ensures.room;
-      fits = omega (arith, same, more, once, fits, test);
-      within = omega (arith, test, within);
+      over = λ later may. over_made 1 _ (c.events.fit + (c.args.events - c.room_for-fit.result) + later) (c.events.fit - 1 + (c.args.events - c.room_for-fit.result) + later) _ _
+          (first_events (c.events.fit - 1 + (c.args.events - c.room_for-fit.result) + later) (g.S.EventSource.schedule c.draw.new.self)) _ c.events.machine
+          it.next c.make_one.new.machine c.in-Some.one.event _ _ _ (c.events.invariant.over later may) clear
+          (drawn_one c.events.fit (c.args.events - c.room_for-fit.result) later c.in-Some.one (g.S.EventSource.schedule c.events.source) (g.S.EventSource.schedule c.draw.new.self)
+          (omega (arith, test)) one c.in-Some.ensures.first)
+          (omega (arith, test)) (omega (arith, test, fits))
+          (clear_made 1 c.events.machine it.next c.in-Some.one.event c.events.invariant.may.state clear it.made) it.flushed it.room;
+      may = go_made 1 (c.events.fit + (c.args.events - c.room_for-fit.result)) (c.events.fit - 1 + (c.args.events - c.room_for-fit.result)) c.events.machine
+          it.next c.make_one.new.machine c.in-Some.one.event _ _ (omega (arith, test))
+          (clear_made 1 c.events.machine it.next c.in-Some.one.event c.events.invariant.may.state clear it.made) c.events.invariant.may it.flushed it.room;
+      fits = fits_on 1 c.events.fit (c.events.fit - 1) c.events.machine it.next c.make_one.new.machine c.in-Some.one.event _ _
+          c.events.invariant.may.state clear it.made fits (omega (arith, test)) it.flushed;
     }
 
 pub returns-clause-went : goal.returns-clause-went
-returns-clause-went g c = c.events.invariant.over
+returns-clause-went g c = λ later may. c.events.invariant.over later may

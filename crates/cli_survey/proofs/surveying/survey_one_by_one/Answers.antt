@@ -6,9 +6,9 @@ use Rattle.script.proofs.FirstEvents.{begun_none}
 use Rattle.machine.proofs.DrawnBatches.{none_left}
 use Rattle.machine.proofs.Repeated.{counts_within}
 use Rattle.secvisor_cli.proofs.ReadyLemmas.{err_by}
-use Rattle.cli_survey.specs.Advances.{GoesByOne, GoesOver, GoesToEnd, GoesWhile, MakesNext}
+use Rattle.cli_survey.specs.Advances.{GoesByOne, GoesOver, GoesToEnd, GoesWhile, MakesNext, MayGoOn}
 use Rattle.cli_survey.specs.Surveys.{Surveyed}
-use Rattle.cli_survey.proofs.AdvanceLemmas.{go_advanced, go_tends, go_told, room_advanced}
+use Rattle.cli_survey.proofs.AdvanceLemmas.{go_advanced, go_fewer, go_tends, go_told, room_advanced}
 use Rattle.cli_survey.proofs.SurveyLemmas.{pass_running, surveys_break, surveys_flush, surveys_none, surveys_on, surveys_over, surveys_told, surveys_want}
 use Rattle.cli_survey.proofs.surveying.survey_one_by_one.Goals as goal
 
@@ -97,7 +97,7 @@ returns-in_err-flush_or_pass g c = λ start new is_start.
     (ap (λ n. first_events n (g.S.EventSource.schedule c.parts.source)) count ∙ next.begins rest) next.advances)
     c.in_err-flush_or_pass.ensures.passed c.in_err-flush_or_pass.ensures.failed)
 
--- ---- the events behind it
+-- ---- the events after it
 
 pub make_events-requires : goal.make_events-requires
 make_events-requires g c =
@@ -106,13 +106,17 @@ make_events-requires g c =
     subst (λ b. GoesByOne (g.S.EventSource.schedule c.parts.source) (g.S.EventSource.schedule c.tend_one.new.source) c.parts.machine c.parts.found
     c.tend_one.new.machine c.tend_one.new.found b) c.if-not-on.false c.in_ok-on.ensures.went in
     let some = c.goes_on.ensures.some c.parts-test.true in
-    go_advanced 1 (c.goes_on.new.self.now + c.goes_on.new.self.later) (c.goes_on.new.self.now - 1 + c.goes_on.new.self.later) c.parts.machine c.tend_one.new.machine
+    let all = c.goes_on.ensures.all in
+    let rest = c.goes_on.new.self.now - 1 + c.goes_on.new.self.later in
+    let may : MayGoOn c.flush_or_pass.new.machine rest (g.O.Sink.state c.flush_or_pass.new.out) =
+    go_advanced 1 (c.goes_on.new.self.now + c.goes_on.new.self.later) rest c.parts.machine c.tend_one.new.machine
     c.flush_or_pass.new.machine c.parts.found c.tend_one.new.found next.event _ _ (omega (arith, some)) next.advances
     (go_told _ _ c.parts.machine _ _ c.goes_on.ensures.all c.goes_on.ensures.sink c.parts.invariant.may)
-    c.in_ok-flush_or_pass.ensures.flushed c.in_ok-flush_or_pass.ensures.room
+    c.in_ok-flush_or_pass.ensures.flushed c.in_ok-flush_or_pass.ensures.room in
+    go_fewer rest (c.goes_on.new.self.now - 1) c.flush_or_pass.new.machine _ (omega arith) may
 
-pub returns-in_err-more : goal.returns-in_err-more
-returns-in_err-more g c = λ start new is_start.
+pub returns-in_err-rest : goal.returns-in_err-rest
+returns-in_err-rest g c = λ start new is_start.
     let next : MakesNext (g.S.EventSource.schedule c.parts.source) (g.S.EventSource.schedule c.tend_one.new.source) c.parts.machine c.parts.found
     c.tend_one.new.machine c.tend_one.new.found =
     subst (λ b. GoesByOne (g.S.EventSource.schedule c.parts.source) (g.S.EventSource.schedule c.tend_one.new.source) c.parts.machine c.parts.found
@@ -120,8 +124,13 @@ returns-in_err-more g c = λ start new is_start.
     let some = c.goes_on.ensures.some c.parts-test.true in
     let all = c.goes_on.ensures.all in
     let rest = c.goes_on.new.self.now - 1 + c.goes_on.new.self.later in
+    let may : MayGoOn c.flush_or_pass.new.machine rest (g.O.Sink.state c.flush_or_pass.new.out) =
+    go_advanced 1 (c.goes_on.new.self.now + c.goes_on.new.self.later) rest c.parts.machine c.tend_one.new.machine
+    c.flush_or_pass.new.machine c.parts.found c.tend_one.new.found next.event _ _ (omega (arith, some)) next.advances
+    (go_told _ _ c.parts.machine _ _ c.goes_on.ensures.all c.goes_on.ensures.sink c.parts.invariant.may)
+    c.in_ok-flush_or_pass.ensures.flushed c.in_ok-flush_or_pass.ensures.room in
     let count : c.parts.left.now + c.parts.left.later ≡ 1 + rest = omega (arith, some, all) in
-    let on = surveys_flush start _ (first_events rest (g.S.EventSource.schedule c.tend_one.new.source)) c.tend_one.new.machine c.flush_or_pass.new.machine c.tend_one.new.found _ _ _
+    let up = surveys_flush start _ (first_events rest (g.S.EventSource.schedule c.tend_one.new.source)) c.tend_one.new.machine c.flush_or_pass.new.machine c.tend_one.new.found _ _ _
     (surveys_on 1 start _ _ (first_events rest (g.S.EventSource.schedule c.tend_one.new.source)) c.parts.machine c.tend_one.new.machine c.parts.found c.tend_one.new.found
     next.event _ _ is_start
     (surveys_told start _ _ c.parts.machine c.parts.found _ _ _ (c.parts.invariant.on start new is_start) c.goes_on.ensures.sink)
@@ -130,11 +139,11 @@ returns-in_err-more g c = λ start new is_start.
     err_by _ Write
     (λ r. Surveyed start (first_events c.args.events (g.S.EventSource.schedule c.args.source)) c.make_events.new.machine c.tend_one.new.found
     (g.O.Sink.state c.args.out.now) (g.O.Sink.state c.make_events.new.out) r)
-    c.from_residual-in_err-more.ensures.1
-    (c.in_err-more.ensures.broke start _ c.tend_one.new.found _ is_start on)
+    c.from_residual-in_err-rest.ensures.1
+    (c.in_err-rest.ensures.broke c.goes_on.new.self.later may start _ c.tend_one.new.found _ is_start up)
 
-pub returns-then-not-more : goal.returns-then-not-more
-returns-then-not-more g c = λ start new is_start.
+pub returns-in_default : goal.returns-in_default
+returns-in_default g c = λ start new is_start.
     let next : MakesNext (g.S.EventSource.schedule c.parts.source) (g.S.EventSource.schedule c.tend_one.new.source) c.parts.machine c.parts.found
     c.tend_one.new.machine c.tend_one.new.found =
     subst (λ b. GoesByOne (g.S.EventSource.schedule c.parts.source) (g.S.EventSource.schedule c.tend_one.new.source) c.parts.machine c.parts.found
@@ -142,8 +151,13 @@ returns-then-not-more g c = λ start new is_start.
     let some = c.goes_on.ensures.some c.parts-test.true in
     let all = c.goes_on.ensures.all in
     let rest = c.goes_on.new.self.now - 1 + c.goes_on.new.self.later in
+    let may : MayGoOn c.flush_or_pass.new.machine rest (g.O.Sink.state c.flush_or_pass.new.out) =
+    go_advanced 1 (c.goes_on.new.self.now + c.goes_on.new.self.later) rest c.parts.machine c.tend_one.new.machine
+    c.flush_or_pass.new.machine c.parts.found c.tend_one.new.found next.event _ _ (omega (arith, some)) next.advances
+    (go_told _ _ c.parts.machine _ _ c.goes_on.ensures.all c.goes_on.ensures.sink c.parts.invariant.may)
+    c.in_ok-flush_or_pass.ensures.flushed c.in_ok-flush_or_pass.ensures.room in
     let count : c.parts.left.now + c.parts.left.later ≡ 1 + rest = omega (arith, some, all) in
-    let on = surveys_flush start _ (first_events rest (g.S.EventSource.schedule c.tend_one.new.source)) c.tend_one.new.machine c.flush_or_pass.new.machine c.tend_one.new.found _ _ _
+    let up = surveys_flush start _ (first_events rest (g.S.EventSource.schedule c.tend_one.new.source)) c.tend_one.new.machine c.flush_or_pass.new.machine c.tend_one.new.found _ _ _
     (surveys_on 1 start _ _ (first_events rest (g.S.EventSource.schedule c.tend_one.new.source)) c.parts.machine c.tend_one.new.machine c.parts.found c.tend_one.new.found
     next.event _ _ is_start
     (surveys_told start _ _ c.parts.machine c.parts.found _ _ _ (c.parts.invariant.on start new is_start) c.goes_on.ensures.sink)
@@ -151,10 +165,10 @@ returns-then-not-more g c = λ start new is_start.
     c.in_ok-flush_or_pass.ensures.flushed in
     let ends : GoesToEnd (first_events rest (g.S.EventSource.schedule c.tend_one.new.source)) c.flush_or_pass.new.machine c.make_events.new.machine
     (g.O.Sink.state c.flush_or_pass.new.out) (g.O.Sink.state c.make_events.new.out) =
-    subst (λ b. GoesWhile (g.S.EventSource.schedule c.tend_one.new.source) (g.S.EventSource.schedule c.make_events.new.source) rest
-    (c.make_events.new.left.now + c.make_events.new.left.later) c.flush_or_pass.new.machine c.make_events.new.machine
-    (g.O.Sink.state c.flush_or_pass.new.out) (g.O.Sink.state c.make_events.new.out) b) c.if-not-more.true c.in_ok-more.ensures.went in
-    ends start _ c.tend_one.new.found _ is_start on
+    subst (λ o. GoesWhile (g.S.EventSource.schedule c.tend_one.new.source) (g.S.EventSource.schedule c.make_events.new.source) (c.goes_on.new.self.now - 1)
+    c.flush_or_pass.new.machine c.make_events.new.machine
+    (g.O.Sink.state c.flush_or_pass.new.out) (g.O.Sink.state c.make_events.new.out) o) c.in_default.is c.in_ok-rest.ensures.went c.goes_on.new.self.later may in
+    ends start _ c.tend_one.new.found _ is_start up
 
 pub parts-preserved : goal.parts-preserved
 parts-preserved g c =
@@ -165,37 +179,51 @@ parts-preserved g c =
     let some = c.goes_on.ensures.some c.parts-test.true in
     let all = c.goes_on.ensures.all in
     let rest = c.goes_on.new.self.now - 1 + c.goes_on.new.self.later in
-    let count : c.parts.left.now + c.parts.left.later ≡ 1 + rest = omega (arith, some, all) in
-    let over : GoesOver rest (c.make_events.new.left.now + c.make_events.new.left.later) (first_events rest (g.S.EventSource.schedule c.tend_one.new.source))
-    (first_events (c.make_events.new.left.now + c.make_events.new.left.later) (g.S.EventSource.schedule c.make_events.new.source))
+    let may : MayGoOn c.flush_or_pass.new.machine rest (g.O.Sink.state c.flush_or_pass.new.out) =
+    go_advanced 1 (c.goes_on.new.self.now + c.goes_on.new.self.later) rest c.parts.machine c.tend_one.new.machine
+    c.flush_or_pass.new.machine c.parts.found c.tend_one.new.found next.event _ _ (omega (arith, some)) next.advances
+    (go_told _ _ c.parts.machine _ _ c.goes_on.ensures.all c.goes_on.ensures.sink c.parts.invariant.may)
+    c.in_ok-flush_or_pass.ensures.flushed c.in_ok-flush_or_pass.ensures.room in
+    let over : GoesOver rest (c.in-Some.rest + c.goes_on.new.self.later) (first_events rest (g.S.EventSource.schedule c.tend_one.new.source))
+    (first_events (c.in-Some.rest + c.goes_on.new.self.later) (g.S.EventSource.schedule c.make_events.new.source))
     c.flush_or_pass.new.machine c.make_events.new.machine (g.O.Sink.state c.flush_or_pass.new.out) (g.O.Sink.state c.make_events.new.out) =
-    subst (λ b. GoesWhile (g.S.EventSource.schedule c.tend_one.new.source) (g.S.EventSource.schedule c.make_events.new.source) rest
-    (c.make_events.new.left.now + c.make_events.new.left.later) c.flush_or_pass.new.machine c.make_events.new.machine
-    (g.O.Sink.state c.flush_or_pass.new.out) (g.O.Sink.state c.make_events.new.out) b) c.if-not-more.false c.in_ok-more.ensures.went in
+    subst (λ o. GoesWhile (g.S.EventSource.schedule c.tend_one.new.source) (g.S.EventSource.schedule c.make_events.new.source) (c.goes_on.new.self.now - 1)
+    c.flush_or_pass.new.machine c.make_events.new.machine
+    (g.O.Sink.state c.flush_or_pass.new.out) (g.O.Sink.state c.make_events.new.out) o) c.in-Some.is c.in_ok-rest.ensures.went c.goes_on.new.self.later may in
     record {
       on = λ start new is_start.
-          over.on start _ c.tend_one.new.found _ is_start
-          (surveys_flush start _ (first_events rest (g.S.EventSource.schedule c.tend_one.new.source)) c.tend_one.new.machine c.flush_or_pass.new.machine c.tend_one.new.found _ _ _
+          let count : c.parts.left.now + c.parts.left.later ≡ 1 + rest = omega (arith, some, all) in
+          let up = surveys_flush start _ (first_events rest (g.S.EventSource.schedule c.tend_one.new.source)) c.tend_one.new.machine c.flush_or_pass.new.machine c.tend_one.new.found _ _ _
           (surveys_on 1 start _ _ (first_events rest (g.S.EventSource.schedule c.tend_one.new.source)) c.parts.machine c.tend_one.new.machine c.parts.found c.tend_one.new.found
           next.event _ _ is_start
           (surveys_told start _ _ c.parts.machine c.parts.found _ _ _ (c.parts.invariant.on start new is_start) c.goes_on.ensures.sink)
           (ap (λ n. first_events n (g.S.EventSource.schedule c.parts.source)) count ∙ next.begins rest) next.advances)
-          c.in_ok-flush_or_pass.ensures.flushed);
+          c.in_ok-flush_or_pass.ensures.flushed in
+          over.on start _ c.tend_one.new.found _ is_start up;
       spare = c.tend_one.ensures.spare;
       may = over.may;
     }
 
 pub parts-smaller : goal.parts-smaller
 parts-smaller g c =
+    let next : MakesNext (g.S.EventSource.schedule c.parts.source) (g.S.EventSource.schedule c.tend_one.new.source) c.parts.machine c.parts.found
+    c.tend_one.new.machine c.tend_one.new.found =
+    subst (λ b. GoesByOne (g.S.EventSource.schedule c.parts.source) (g.S.EventSource.schedule c.tend_one.new.source) c.parts.machine c.parts.found
+    c.tend_one.new.machine c.tend_one.new.found b) c.if-not-on.false c.in_ok-on.ensures.went in
     let some = c.goes_on.ensures.some c.parts-test.true in
     let all = c.goes_on.ensures.all in
     let rest = c.goes_on.new.self.now - 1 + c.goes_on.new.self.later in
-    let over : GoesOver rest (c.make_events.new.left.now + c.make_events.new.left.later) (first_events rest (g.S.EventSource.schedule c.tend_one.new.source))
-    (first_events (c.make_events.new.left.now + c.make_events.new.left.later) (g.S.EventSource.schedule c.make_events.new.source))
+    let may : MayGoOn c.flush_or_pass.new.machine rest (g.O.Sink.state c.flush_or_pass.new.out) =
+    go_advanced 1 (c.goes_on.new.self.now + c.goes_on.new.self.later) rest c.parts.machine c.tend_one.new.machine
+    c.flush_or_pass.new.machine c.parts.found c.tend_one.new.found next.event _ _ (omega (arith, some)) next.advances
+    (go_told _ _ c.parts.machine _ _ c.goes_on.ensures.all c.goes_on.ensures.sink c.parts.invariant.may)
+    c.in_ok-flush_or_pass.ensures.flushed c.in_ok-flush_or_pass.ensures.room in
+    let over : GoesOver rest (c.in-Some.rest + c.goes_on.new.self.later) (first_events rest (g.S.EventSource.schedule c.tend_one.new.source))
+    (first_events (c.in-Some.rest + c.goes_on.new.self.later) (g.S.EventSource.schedule c.make_events.new.source))
     c.flush_or_pass.new.machine c.make_events.new.machine (g.O.Sink.state c.flush_or_pass.new.out) (g.O.Sink.state c.make_events.new.out) =
-    subst (λ b. GoesWhile (g.S.EventSource.schedule c.tend_one.new.source) (g.S.EventSource.schedule c.make_events.new.source) rest
-    (c.make_events.new.left.now + c.make_events.new.left.later) c.flush_or_pass.new.machine c.make_events.new.machine
-    (g.O.Sink.state c.flush_or_pass.new.out) (g.O.Sink.state c.make_events.new.out) b) c.if-not-more.false c.in_ok-more.ensures.went in
+    subst (λ o. GoesWhile (g.S.EventSource.schedule c.tend_one.new.source) (g.S.EventSource.schedule c.make_events.new.source) (c.goes_on.new.self.now - 1)
+    c.flush_or_pass.new.machine c.make_events.new.machine
+    (g.O.Sink.state c.flush_or_pass.new.out) (g.O.Sink.state c.make_events.new.out) o) c.in-Some.is c.in_ok-rest.ensures.went c.goes_on.new.self.later may in
     let fewer = over.fewer in
     omega (arith, some, all, fewer)
 

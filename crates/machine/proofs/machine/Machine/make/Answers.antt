@@ -36,6 +36,9 @@ invariant_of-self c =
       printed = bounded.printed;
     }
 
+pub returns-clause-step : goal.returns-clause-step
+returns-clause-step c = subst (λ (m : Machine). IsStep m c.args.event c.step.new.self) c.self.view_is c.step.ensures.step
+
 pub returns-clause-makes : goal.returns-clause-makes
 returns-clause-makes c =
     let steps : IsStep c.args.self.now c.args.event c.step.new.self = subst (λ (m : Machine). IsStep m c.args.event c.step.new.self) c.self.view_is c.step.ensures.step in

@@ -13,14 +13,8 @@ round-made-requires c = record {
       (c.events.invariant.counts (max_counts - c.args.count) c.requires.counts);
 }
 
-pub returns-then-printed-shown : goal.returns-then-printed-shown
-returns-then-printed-shown c =
-    row_made c.events.made c.round-made.result c.args.count c.args.self.now c.events.self c.round-made.new.self c.args.event c.events.invariant.chain
-    (record { on = record { quiet = c.events.invariant.quiet; running = c.events.invariant.running }; loading = c.events.invariant.loading })
-    c.events.invariant.counts c.events-test.true c.round-made.ensures
-
-pub returns-then-is_loading : goal.returns-then-is_loading
-returns-then-is_loading c =
+pub returns-then-made-count : goal.returns-then-made-count
+returns-then-made-count c =
     row_made c.events.made c.round-made.result c.args.count c.args.self.now c.events.self c.round-made.new.self c.args.event c.events.invariant.chain
     (record { on = record { quiet = c.events.invariant.quiet; running = c.events.invariant.running }; loading = c.events.invariant.loading })
     c.events.invariant.counts c.events-test.true c.round-made.ensures
