@@ -8,7 +8,8 @@ use Rattle.sv_types.specs.Schedule.{Schedule, first_events}
 use Rattle.sv_types.specs.declared.event.Counts.{Counts}
 use Rattle.sv_types.specs.declared.event.Event.{Event}
 use Rattle.sv_types.specs.declared.event.Note.{Note}
-use Rattle.sv_types.specs.declared.event.Verdict.TheVariants.{Running}
+use Rattle.sv_types.specs.declared.event.Verdict.{Verdict}
+use Rattle.sv_types.specs.declared.event.Verdict.TheVariants.{Running, Shutdown, Stopped}
 use Rattle.spec_reference.specs.Counting.{CountsAtMost}
 use Rattle.spec_reference.specs.Run.{run}
 use Rattle.spec_reference.specs.States.{State}
@@ -23,7 +24,7 @@ use Rattle.host_io.specs.Outside.{SinkState, BreaksOff}
 use Rattle.machine.specs.Console.{Flushed}
 use Rattle.machine.specs.Drawing.{count_left, events_with}
 use Rattle.machine.specs.Limits.{max_counts}
-use Rattle.machine.specs.Repeats.{MayMake}
+use Rattle.machine.specs.Repeats.{MayMake, StaysUnloaded}
 use Rattle.machine.specs.Standing.{HasState, Stands}
 use Rattle.machine.specs.declared.drawing.Drawing.{Drawing}
 use Rattle.machine.proofs.ConsoleLemmas.{flushed_counts}
@@ -165,6 +166,17 @@ is_none (Some x) is = absurd (cc is)
 
 pub clear_unloaded : (m : Machine) → is_clear m ≡ true → m.loading ≡ None
 clear_unloaded m clear = is_none m.loading (and_second (is_running m.journal.verdict) (not (is_some m.loading)) clear)
+
+-- it stays so over events that change neither
+clear_by : {A : Type 0} (v : Verdict) (x : Option A) → v ≡ Running → x ≡ None → (is_running v && not (is_some x)) ≡ true
+clear_by Running None runs none = refl
+clear_by Running (Some x) runs none = absurd (cc none)
+clear_by Shutdown x runs none = absurd (cc runs)
+clear_by (Stopped rule h turn) x runs none = absurd (cc runs)
+
+pub clear_stays : (m next : Machine) → is_clear m ≡ true → StaysUnloaded m next → is_clear next ≡ true
+clear_stays m next clear stays =
+    clear_by next.journal.verdict next.loading (stays.on.running (running_is m.journal.verdict (clear_running m clear))) (stays.loading (clear_unloaded m clear))
 
 above_by : (a b : ℕ) → a ≤ b → nat_lt a b ≡ false → a ≡ b
 above_by a b few is = grind (arith, nat_tests)

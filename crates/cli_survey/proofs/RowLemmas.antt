@@ -1,13 +1,14 @@
 -- Rows of equal events that were made, and what is told of their notes.
-use Rattle.std.proofs.Common.{◌≡◌, ℕ, zero, suc, ◌+◌, ◌<◌, ◌≤◌, List, [], ◌∷◌, ◌++◌, length, replicate, refl, sym, ◌∙◌, ap, subst, take, arith}
+use Rattle.std.proofs.Common.{◌≡◌, ℕ, zero, suc, false, ◌+◌, ◌<◌, ◌≤◌, List, [], ◌∷◌, ◌++◌, length, replicate, refl, sym, ◌∙◌, ap, subst, take, arith}
 use Rattle.std.specs.Prelude.{Option, Some, None}
 use Rattle.sv_types.specs.Limits.{max_notes}
 use Rattle.sv_types.specs.declared.event.Event.{Event}
+use Rattle.sv_types.specs.declared.event.Event.TheVariants.{Turn, Beat, Key, Tick, Poke}
 use Rattle.sv_types.specs.declared.event.Note.{Note}
 use Rattle.sv_types.specs.declared.event.Verdict.{Verdict}
-use Rattle.sv_types.specs.declared.event.Verdict.TheVariants.{Running}
+use Rattle.sv_types.specs.declared.event.Verdict.TheVariants.{Running, Shutdown, Stopped}
 use Rattle.spec_reference.specs.Run.{run, step}
-use Rattle.spec_hardware.specs.HardwareEvent.{IsEvent}
+use Rattle.spec_hardware.specs.HardwareEvent.{Happens, HappensUnder, IsEvent, Written, with_bytes_at}
 use Rattle.spec_reference.specs.States.{State}
 use Rattle.spec_reference.proofs.Runs.{run_on}
 use Rattle.spec_hardware.specs.Machine.{Machine}
@@ -16,7 +17,7 @@ use Rattle.laws_simulation.specs.SurveyLaws.{IsNoWrite}
 use Rattle.laws_simulation.specs.Passes.{IsRow}
 use Rattle.laws_simulation.proofs.RowsHold.{row_law}
 use Rattle.machine.specs.Noting.{hw_noting, noting}
-use Rattle.machine.specs.Repeats.{MayMake, Repeats}
+use Rattle.machine.specs.Repeats.{MayMake, Repeats, StaysUnloaded}
 use Rattle.machine.specs.Standing.{HasState, Stands}
 use Rattle.machine.proofs.ConsoleLemmas.{room_again}
 use Rattle.machine.proofs.Noted.{noted_stands}
@@ -28,6 +29,7 @@ use Rattle.report.specs.declared.findings.findings.Finding.{Finding}
 use Rattle.cli_survey.specs.Advances.{IsRepeated, IsRowMade, TellsOn}
 use Rattle.cli_survey.specs.Noted.{Tells, noted}
 use Rattle.cli_survey.specs.Rows.{GoesAsRow}
+use Rattle.cli_survey.specs.Surveys.{is_turn}
 use Rattle.cli_survey.proofs.LookLemmas.{one_refuses}
 use Rattle.cli_survey.proofs.NotedLemmas.{apart_notes, refusals_same, refused_full, row_few, row_full, row_more, row_notes, run_full}
 
@@ -94,6 +96,60 @@ step_made m next e has stands event = record {
   refuses = λ r s. one_refuses 1 e r refl;
   counts = λ k counts. step_counts k m next has.state e has.stands (stands has.state has.stands) counts;
 }
+
+-- ---- a row of other events than turns
+
+stays_written : (m : Machine) (w : Option Written) → StaysUnloaded m (with_bytes_at m w)
+stays_written m None = record { on = record { quiet = refl; running = λ running. running }; loading = λ none. none }
+stays_written m (Some w) = record { on = record { quiet = refl; running = λ running. running }; loading = λ none. none }
+
+-- so what keeps journal and load stays, too
+stays_with : (m by after : Machine) → StaysUnloaded m by → after.journal.printed ≡ by.journal.printed → after.journal.verdict ≡ by.journal.verdict →
+    after.loading ≡ by.loading → StaysUnloaded m after
+stays_with m by after stays printed verdict loading = record {
+  on = record {
+    quiet = ap (λ (p : List ℕ). length p) printed ∙ stays.on.quiet;
+    running = λ running. verdict ∙ stays.on.running running;
+  };
+  loading = λ none. loading ∙ stays.loading none;
+}
+
+stays_same : (m : Machine) → StaysUnloaded m m
+stays_same m = stays_written m None
+
+other_stays : (m after : Machine) (e : Event) → is_turn e ≡ false → Happens m e after → StaysUnloaded m after
+other_stays m after (Turn h) other it = absurd (cc other)
+other_stays m after Beat other it =
+    stays_with m (with_bytes_at m it.bytes) after (stays_written m it.bytes) (ap (λ (x : Machine). x.journal.printed) it.same)
+    (ap (λ (x : Machine). x.journal.verdict) it.same) (ap (λ (x : Machine). x.loading) it.same)
+other_stays m after (Key byte) other it =
+    stays_with m m after (stays_same m) (ap (λ (x : Machine). x.journal.printed) it.same)
+    (ap (λ (x : Machine). x.journal.verdict) it.same) (ap (λ (x : Machine). x.loading) it.same)
+other_stays m after (Tick n) other it =
+    stays_with m m after (stays_same m) (ap (λ (x : Machine). x.journal.printed) it.same)
+    (ap (λ (x : Machine). x.journal.verdict) it.same) (ap (λ (x : Machine). x.loading) it.same)
+other_stays m after (Poke gpa value) other it =
+    stays_with m (with_bytes_at m it.bytes) after (stays_written m it.bytes) (ap (λ (x : Machine). x.journal.printed) it.same)
+    (ap (λ (x : Machine). x.journal.verdict) it.same) (ap (λ (x : Machine). x.loading) it.same)
+
+under_stays : (v : Verdict) (m after : Machine) (e : Event) → is_turn e ≡ false → HappensUnder v m e after → StaysUnloaded m after
+under_stays Running m after e other it = other_stays m after e other it
+under_stays Shutdown m after e other same = subst (λ (x : Machine). StaysUnloaded m x) (sym same) (stays_same m)
+under_stays (Stopped rule hart at) m after e other same = subst (λ (x : Machine). StaysUnloaded m x) (sym same) (stays_same m)
+
+event_stays : (m after : Machine) (e : Event) → is_turn e ≡ false → IsEvent m e after → StaysUnloaded m after
+unfolding IsEvent
+event_stays m after e other it = under_stays m.journal.verdict m after e other it
+
+pub row_stays : (n : ℕ) (m next : Machine) (e : Event) → is_turn e ≡ false → Repeats n m e next → StaysUnloaded m next
+row_stays zero m next e other same = subst (λ (x : Machine). StaysUnloaded m x) (sym same) (stays_same m)
+row_stays (suc k) m next e other (before, (those, (on, makes))) =
+    let first : StaysUnloaded m before = row_stays k m before e other those in
+    let last : StaysUnloaded before next = event_stays before next e other makes.event in
+    record {
+      on = record { quiet = last.on.quiet ∙ first.on.quiet; running = λ running. last.on.running (first.on.running running) };
+      loading = λ none. last.loading (first.loading none);
+    }
 
 -- ---- a row whose machine's notes were set apart
 

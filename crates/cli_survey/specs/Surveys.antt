@@ -2,6 +2,7 @@
 use Rattle.std.specs.Prelude.{◌≡◌, ℕ, List, [], ◌∷◌, ◌++◌, length, nat_lt, Bool, true, false, ◌&&◌, not, is_some, None, Result, Ok, Err}
 use Rattle.sv_types.specs.Limits.{max_notes}
 use Rattle.sv_types.specs.declared.event.Event.{Event}
+use Rattle.sv_types.specs.declared.event.Event.TheVariants.{Turn, Beat, Key, Tick, Poke}
 use Rattle.sv_types.specs.declared.event.Verdict.{Verdict}
 use Rattle.sv_types.specs.declared.event.Verdict.TheVariants.{Running, Shutdown, Stopped}
 use Rattle.spec_reference.specs.States.{State}
@@ -48,6 +49,14 @@ has_room m = nat_lt (length m.journal.notes) max_notes
 -- the machine runs, and no load is under way
 abbrev pub is_clear : Machine → Bool
 is_clear m = is_running m.journal.verdict && not (is_some m.loading)
+
+-- an event is a hart's turn: no other prints, ends the run or begins a load
+abbrev pub is_turn : Event → Bool
+is_turn (Turn hart) = true
+is_turn Beat = false
+is_turn (Key byte) = false
+is_turn (Tick n) = false
+is_turn (Poke gpa value) = false
 
 -- ---- a survey so far
 

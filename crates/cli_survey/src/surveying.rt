@@ -17,7 +17,7 @@ ghost use Rattle.report.specs.Views.{loads_view, writes_view};
 ghost use Rattle.cli_survey.specs.Advances.{BreaksAtOne, BreaksInRows, BreaksWhile, GoesByOne, GoesByRow, GoesByRows, GoesWhile};
 ghost use Rattle.cli_survey.specs.Advances.{IsOneMade, IsRepeated, IsRowMade, MayGoOn, MayTend, TellsOn};
 ghost use Rattle.cli_survey.specs.Refusals.{refusals, with_loads};
-ghost use Rattle.cli_survey.specs.Surveys.{MaySurvey, SurveyedFromStart, has_room, is_clear, is_running, with_passes};
+ghost use Rattle.cli_survey.specs.Surveys.{MaySurvey, SurveyedFromStart, has_room, is_clear, is_running, is_turn, with_passes};
 
 use crate::looking::look;
 use crate::noting::make_noted;
@@ -217,6 +217,36 @@ fn flush_or_pass<O: Sink>(machine: &mut Machine, out: &mut O) -> Result<(), Fail
     }
 }
 
+#[inline(always)]
+fn is_turn(event: Event) -> bool
+    ensures { result ≡ is_turn event }
+{
+    match event {
+        Event::Turn(_) => true,
+        Event::Beat | Event::Key(_) | Event::Tick(_) | Event::Poke { gpa: _, value: _ } => false,
+    }
+}
+
+// The same after equal events of a clear machine: after others than turns none are due. Answers whether it is clear still.
+#[inline(always)]
+fn flush_after<O: Sink>(machine: &mut Machine, event: Event, out: &mut O) -> Result<bool, Failed>
+    requires sink { MayWrite (O.state out.old) }
+    requires room { length machine.old.journal.printed ≤ max_printed }
+    requires quiet { is_turn event ≡ false → length machine.old.journal.printed < max_printed }
+    requires clear { is_turn event ≡ false → is_clear machine.old ≡ true }
+    ensures clear { IfOk result (λ on. on ≡ is_clear machine.new) }
+    ensures flushed { OnOk result (Flushed machine.old machine.new (O.state out.old) (O.state out.new)) }
+    ensures room { OnOk result (length machine.new.journal.printed < max_printed) }
+    ensures passed { OnErr result (machine.new ≡ hw_passed_over machine.old) }
+    ensures failed { OnErr result (BreaksOff (O.state out.old) (O.state out.new) machine.old.journal.printed) }
+{
+    if !is_turn(event) {
+        return Ok(true);
+    }
+    flush_or_pass(machine, out)?;
+    Ok(is_clear(machine))
+}
+
 // So many events of these may be made before there is no room for a note of each.
 #[inline(always)]
 fn room_for(machine: &Machine, events: u64) -> u64
@@ -257,16 +287,19 @@ fn make_rows<S: EventSource, O: Sink>(
     if room_for(machine, left) < left {
         return Ok(true);
     }
-    'events: while is_clear(machine) {
-        if drawing.is_used_up() {
-            return Ok(true);
-        }
+    if !is_clear(machine) {
+        return Ok(true);
+    }
+    'events: while !drawing.is_used_up() {
         let Some(batch) = drawing.draw() else {
             return Ok(false);
         };
         let made = make_row::<S>(machine, batch.event, batch.count);
         drawing.count_down(made);
-        flush_or_pass(machine, out)?;
+        let clear = flush_after(machine, batch.event, out)?;
+        if !clear {
+            return Ok(true);
+        }
     }
     Ok(true)
 }
