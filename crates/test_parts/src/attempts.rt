@@ -1,4 +1,4 @@
-// Attempts on 16 pages of RAM after two trees of tables, with page 0 approved.
+// Attempts on 16 pages of RAM after two trees of tables, with page 0 approved: the exits that they make, by the standard.
 
 ghost use Rattle.std.specs.Prelude.{◌≡◌, ◌*◌, [], length, IfOk};
 ghost use Rattle.sv_types.specs.Views.{AreViews, protect, all_free};
@@ -7,7 +7,7 @@ ghost use Rattle.gstage_tables.specs.Layout.{table_size};
 
 use crate::modes::{hypervisor_registers, registers_after};
 use gstage_tables::Trees;
-use hart::{Core, Cpu, Outcome, Wrote};
+use hart::{Core, Cpu, Outcome};
 use host_mem::HostMem;
 use hw_tlb::gstage_cache::Cache;
 use spec_processor::{Cause, Exit, ExitCause, Interrupt, Lines, Mode};
@@ -22,398 +22,150 @@ const KERNEL_PC: u64 = 0x8000_0000;
 
 const USER_PC: u64 = 0x8000_4000;
 
-// Where the table part ends: its tables take twelve pages, and a block of RAM begins at a multiple of 2 MiB.
-const TABLES: u64 = 0x20_0000;
+const VIRTUAL: ExitCause = ExitCause::Exception(Cause::Virtual);
 
-const LOADED: u64 = 0x1122_3344_5566_7780;
+const GUEST_FETCH: ExitCause = ExitCause::Exception(Cause::GuestFetch);
 
-// An instruction at a pc in a mode, with its address in x1, and what comes of it.
-struct Attempt {
-    mode: Mode,
-    pc: u64,
-    word: u64,
-    address: u64,
-    status: u64,
-    satp: u64,
-    timer: bool,
-    outcome: Outcome,
-    x3: u64,
-    // the reservation does
-    stands: bool,
-    // the cache has the translation of its fetch
-    held: bool,
-}
+const GUEST_LOAD: ExitCause = ExitCause::Exception(Cause::GuestLoad);
 
-const DONE: Outcome = Outcome::Retired { wrote: None };
+const GUEST_STORE: ExitCause = ExitCause::Exception(Cause::GuestStore);
 
-const WROTE: Outcome = Outcome::Retired {
-    wrote: Some(Wrote {
-        hpa: TABLES + 0x2000,
-        width: 8,
-    }),
-};
+const CALL_OF_KERNEL: ExitCause = ExitCause::Exception(Cause::GuestCall);
 
-const KERNEL_EXIT: Exit = Exit {
-    cause: ExitCause::Exception(Cause::Virtual),
-    pc: KERNEL_PC,
-    stval: 0,
-    htval: 0,
-    htinst: 0,
-};
+const CALL_OF_USER: ExitCause = ExitCause::Exception(Cause::UserCall);
 
-const USER_EXIT: Exit = Exit {
-    pc: USER_PC,
-    ..KERNEL_EXIT
-};
+const BREAKPOINT: ExitCause = ExitCause::Exception(Cause::Breakpoint);
 
-const IN_KERNEL: Attempt = Attempt {
-    mode: Mode::Kernel,
-    pc: KERNEL_PC,
-    word: 0,
-    address: 0,
-    status: 0,
-    satp: 0,
-    timer: false,
-    outcome: DONE,
-    x3: 0,
-    stands: true,
-    held: true,
-};
+const MISALIGNED_STORE: ExitCause = ExitCause::Exception(Cause::StoreMisaligned);
 
-const IN_USER: Attempt = Attempt {
-    mode: Mode::User,
-    pc: USER_PC,
-    ..IN_KERNEL
-};
+const MISALIGNED_JUMP: ExitCause = ExitCause::Exception(Cause::InstrMisaligned);
 
-static ATTEMPTS: [Attempt; 37] = [
-    // addi
-    Attempt {
-        word: 0x0050_0193,
-        x3: 5,
-        ..IN_KERNEL
-    },
-    // lb, ld
-    Attempt {
-        word: 0x0000_8183,
-        address: 0x8000_2000,
-        x3: 0xFFFF_FFFF_FFFF_FF80,
-        ..IN_KERNEL
-    },
-    Attempt {
-        word: 0x0000_B183,
-        address: 0x8000_2000,
-        x3: LOADED,
-        ..IN_KERNEL
-    },
-    Attempt {
-        word: 0x0000_B183,
-        address: 0x8000_2001,
-        outcome: Outcome::GuestTrap,
-        stands: false,
-        ..IN_KERNEL
-    },
-    Attempt {
-        word: 0x0000_B183,
-        address: 0x200_0000_0000,
-        outcome: Outcome::Exit(Exit {
-            cause: ExitCause::Exception(Cause::GuestLoad),
-            stval: 0x200_0000_0000,
-            htval: 0x80_0000_0000,
-            htinst: 0x3183,
-            ..KERNEL_EXIT
-        }),
-        ..IN_KERNEL
-    },
-    // sd
-    Attempt {
-        word: 0x0020_B023,
-        address: 0x8000_3000,
-        outcome: Outcome::Retired {
-            wrote: Some(Wrote {
-                hpa: TABLES + 0x3000,
-                width: 8,
-            }),
-        },
-        ..IN_KERNEL
-    },
-    Attempt {
-        word: 0x0020_B023,
-        address: 0x8000_2000,
-        outcome: WROTE,
-        stands: false,
-        ..IN_KERNEL
-    },
-    Attempt {
-        word: 0x0020_B023,
-        address: 0x8000_0008,
-        outcome: Outcome::Exit(Exit {
-            cause: ExitCause::Exception(Cause::GuestStore),
-            stval: 0x8000_0008,
-            htval: 0x2000_0002,
-            htinst: 0x0020_3023,
-            ..KERNEL_EXIT
-        }),
-        ..IN_KERNEL
-    },
-    Attempt {
-        word: 0x0020_B023,
-        address: 0x8000_0001,
-        outcome: Outcome::Exit(Exit {
-            cause: ExitCause::Exception(Cause::StoreMisaligned),
-            stval: 0x8000_0001,
-            ..USER_EXIT
-        }),
-        ..IN_USER
-    },
-    // lr.d, sc.d
-    Attempt {
-        word: 0x1000_B1AF,
-        address: 0x8000_2000,
-        x3: LOADED,
-        ..IN_KERNEL
-    },
-    Attempt {
-        word: 0x1820_B1AF,
-        address: 0x8000_2000,
-        outcome: WROTE,
-        stands: false,
-        ..IN_KERNEL
-    },
-    Attempt {
-        word: 0x1820_B1AF,
-        address: 0x8000_3000,
-        x3: 1,
-        stands: false,
-        ..IN_KERNEL
-    },
-    Attempt {
-        word: 0x1820_B1AF,
-        address: 0x8000_0008,
-        outcome: Outcome::Exit(Exit {
-            cause: ExitCause::Exception(Cause::GuestStore),
-            stval: 0x8000_0008,
-            htval: 0x2000_0002,
-            htinst: 0x1820_31AF,
-            ..KERNEL_EXIT
-        }),
-        ..IN_KERNEL
-    },
-    // amoadd.d, amoadd.w
-    Attempt {
-        word: 0x0020_B1AF,
-        address: 0x8000_2000,
-        outcome: WROTE,
-        x3: LOADED,
-        stands: false,
-        ..IN_KERNEL
-    },
-    Attempt {
-        word: 0x0020_A1AF,
-        address: 0x1000_0000,
-        outcome: Outcome::Exit(Exit {
-            cause: ExitCause::Exception(Cause::GuestStore),
-            stval: 0x1000_0000,
-            htval: 0x400_0000,
-            htinst: 0x0020_21AF,
-            ..KERNEL_EXIT
-        }),
-        ..IN_KERNEL
-    },
-    // csrrs of sstatus, csrrw of time
-    Attempt {
-        word: 0x1000_21F3,
-        x3: 0x2_0000_0000,
-        ..IN_KERNEL
-    },
-    Attempt {
-        word: 0x1000_21F3,
-        outcome: Outcome::Exit(Exit {
-            cause: ExitCause::Exception(Cause::Virtual),
-            stval: 0x1000_21F3,
-            ..USER_EXIT
-        }),
-        ..IN_USER
-    },
-    Attempt {
-        word: 0xC010_91F3,
-        outcome: Outcome::GuestTrap,
-        stands: false,
-        ..IN_KERNEL
-    },
-    // ecall, ebreak
-    Attempt {
-        word: 0x0000_0073,
-        outcome: Outcome::Exit(Exit {
-            cause: ExitCause::Exception(Cause::GuestCall),
-            ..KERNEL_EXIT
-        }),
-        ..IN_KERNEL
-    },
-    Attempt {
-        word: 0x0000_0073,
-        outcome: Outcome::Exit(Exit {
-            cause: ExitCause::Exception(Cause::UserCall),
-            ..USER_EXIT
-        }),
-        ..IN_USER
-    },
-    Attempt {
-        word: 0x0010_0073,
-        outcome: Outcome::GuestTrap,
-        stands: false,
-        ..IN_KERNEL
-    },
-    Attempt {
-        word: 0x0010_0073,
-        outcome: Outcome::Exit(Exit {
-            cause: ExitCause::Exception(Cause::Breakpoint),
-            stval: USER_PC,
-            ..USER_EXIT
-        }),
-        ..IN_USER
-    },
-    // wfi, sret, sfence.vma, fence, hlv.b, jalr, no instruction
-    Attempt {
-        word: 0x1050_0073,
-        ..IN_KERNEL
-    },
-    Attempt {
-        word: 0x1050_0073,
-        outcome: Outcome::Exit(Exit {
-            cause: ExitCause::Exception(Cause::Virtual),
-            stval: 0x1050_0073,
-            ..USER_EXIT
-        }),
-        ..IN_USER
-    },
-    Attempt {
-        word: 0x1020_0073,
-        outcome: Outcome::Exit(Exit {
-            cause: ExitCause::Exception(Cause::Virtual),
-            stval: 0x1020_0073,
-            ..KERNEL_EXIT
-        }),
-        ..IN_KERNEL
-    },
-    Attempt {
-        word: 0x1200_0073,
-        outcome: Outcome::Exit(Exit {
-            cause: ExitCause::Exception(Cause::Virtual),
-            stval: 0x1200_0073,
-            ..USER_EXIT
-        }),
-        ..IN_USER
-    },
-    Attempt {
-        word: 0x0FF0_000F,
-        ..IN_KERNEL
-    },
-    Attempt {
-        word: 0x6000_C1F3,
-        outcome: Outcome::Exit(Exit {
-            cause: ExitCause::Exception(Cause::Virtual),
-            stval: 0x6000_C1F3,
-            ..KERNEL_EXIT
-        }),
-        ..IN_KERNEL
-    },
-    Attempt {
-        word: 0x0000_81E7,
-        address: 0x8000_0002,
-        outcome: Outcome::Exit(Exit {
-            cause: ExitCause::Exception(Cause::InstrMisaligned),
-            stval: 0x8000_0002,
-            ..USER_EXIT
-        }),
-        ..IN_USER
-    },
-    Attempt {
-        word: 0,
-        outcome: Outcome::Exit(Exit {
-            cause: ExitCause::Exception(Cause::Illegal),
-            ..USER_EXIT
-        }),
-        ..IN_USER
-    },
-    // An interrupt goes to the guest in kernel mode where SIE is set.
-    Attempt {
-        word: 0x0050_0193,
-        timer: true,
-        x3: 5,
-        ..IN_KERNEL
-    },
-    Attempt {
-        word: 0x0050_0193,
-        status: 2,
-        timer: true,
-        outcome: Outcome::GuestTrap,
-        stands: false,
-        held: false,
-        ..IN_KERNEL
-    },
-    Attempt {
-        word: 0x0050_0193,
-        pc: 0x8000_1000,
-        status: 2,
-        timer: true,
-        outcome: Outcome::GuestTrap,
-        stands: false,
-        held: false,
-        ..IN_KERNEL
-    },
-    Attempt {
-        word: 0x0050_0193,
-        timer: true,
-        outcome: Outcome::Exit(Exit {
-            cause: ExitCause::Interrupt(Interrupt::Timer),
-            ..USER_EXIT
-        }),
-        held: false,
-        ..IN_USER
-    },
-    // A fetch asks the mode's view; a first stage whose root lies outside RAM is an implicit fault.
-    Attempt {
-        word: 0x0050_0193,
-        pc: 0x8000_1000,
-        status: 2,
-        outcome: Outcome::Exit(Exit {
-            cause: ExitCause::Exception(Cause::GuestFetch),
-            pc: 0x8000_1000,
-            stval: 0x8000_1000,
-            htval: 0x2000_0400,
-            ..KERNEL_EXIT
-        }),
-        held: false,
-        ..IN_KERNEL
-    },
-    Attempt {
-        word: 0x0050_0193,
-        pc: KERNEL_PC,
-        status: 2,
-        outcome: Outcome::Exit(Exit {
-            cause: ExitCause::Exception(Cause::GuestFetch),
-            pc: KERNEL_PC,
-            stval: KERNEL_PC,
-            htval: 0x2000_0000,
-            ..USER_EXIT
-        }),
-        held: false,
-        ..IN_USER
-    },
-    Attempt {
-        word: 0x0050_0193,
-        satp: 0x8000_0000_0010_0000,
-        outcome: Outcome::Exit(Exit {
-            cause: ExitCause::Exception(Cause::GuestFetch),
-            stval: USER_PC,
-            htval: 0x4000_0004,
-            htinst: 0x3000,
-            ..USER_EXIT
-        }),
-        held: false,
-        ..IN_USER
-    },
+const TIMER: ExitCause = ExitCause::Interrupt(Interrupt::Timer);
+
+// An instruction at a pc in a mode, with its address in x1, satp, and the timer's wire.
+type Tried = (Mode, u64, u64, u64, u64, bool);
+
+// The exit that it makes, with its stval, htval and htinst, and whether the cache has the translation of its fetch.
+type Row = (Tried, ExitCause, (u64, u64, u32), bool);
+
+const KERNEL: Mode = Mode::Kernel;
+
+const USER: Mode = Mode::User;
+
+// addi
+const PLAIN: u64 = 0x0050_0193;
+
+// A root that lies outside RAM.
+const NO_ROOT: u64 = 0x8000_0000_0010_0000;
+
+static ROWS: [Row; 18] = [
+    // ld, sd, sc.d and amoadd.w where the view has nothing, or where it may not be written
+    (
+        (KERNEL, KERNEL_PC, 0x0000_B183, 0x200_0000_0000, 0, false),
+        GUEST_LOAD,
+        (0x200_0000_0000, 0x80_0000_0000, 0x3183),
+        true,
+    ),
+    (
+        (KERNEL, KERNEL_PC, 0x0020_B023, 0x8000_0008, 0, false),
+        GUEST_STORE,
+        (0x8000_0008, 0x2000_0002, 0x0020_3023),
+        true,
+    ),
+    (
+        (KERNEL, KERNEL_PC, 0x1820_B1AF, 0x8000_0008, 0, false),
+        GUEST_STORE,
+        (0x8000_0008, 0x2000_0002, 0x1820_31AF),
+        true,
+    ),
+    (
+        (KERNEL, KERNEL_PC, 0x0020_A1AF, 0x1000_0000, 0, false),
+        GUEST_STORE,
+        (0x1000_0000, 0x400_0000, 0x0020_21AF),
+        true,
+    ),
+    // sret and hlv.b in kernel mode; csrrs of sstatus, wfi and sfence.vma in user mode
+    (
+        (KERNEL, KERNEL_PC, 0x1020_0073, 0, 0, false),
+        VIRTUAL,
+        (0x1020_0073, 0, 0),
+        true,
+    ),
+    (
+        (KERNEL, KERNEL_PC, 0x6000_C1F3, 0, 0, false),
+        VIRTUAL,
+        (0x6000_C1F3, 0, 0),
+        true,
+    ),
+    (
+        (USER, USER_PC, 0x1000_21F3, 0, 0, false),
+        VIRTUAL,
+        (0x1000_21F3, 0, 0),
+        true,
+    ),
+    (
+        (USER, USER_PC, 0x1050_0073, 0, 0, false),
+        VIRTUAL,
+        (0x1050_0073, 0, 0),
+        true,
+    ),
+    (
+        (USER, USER_PC, 0x1200_0073, 0, 0, false),
+        VIRTUAL,
+        (0x1200_0073, 0, 0),
+        true,
+    ),
+    // ecall in both modes; ebreak, sd and jalr in user mode
+    (
+        (KERNEL, KERNEL_PC, 0x0000_0073, 0, 0, false),
+        CALL_OF_KERNEL,
+        (0, 0, 0),
+        true,
+    ),
+    (
+        (USER, USER_PC, 0x0000_0073, 0, 0, false),
+        CALL_OF_USER,
+        (0, 0, 0),
+        true,
+    ),
+    (
+        (USER, USER_PC, 0x0010_0073, 0, 0, false),
+        BREAKPOINT,
+        (USER_PC, 0, 0),
+        true,
+    ),
+    (
+        (USER, USER_PC, 0x0020_B023, 0x8000_0001, 0, false),
+        MISALIGNED_STORE,
+        (0x8000_0001, 0, 0),
+        true,
+    ),
+    (
+        (USER, USER_PC, 0x0000_81E7, 0x8000_0002, 0, false),
+        MISALIGNED_JUMP,
+        (0x8000_0002, 0, 0),
+        true,
+    ),
+    // An interrupt; a fetch asks the mode's view; a first stage whose root lies outside RAM is an implicit fault.
+    ((USER, USER_PC, PLAIN, 0, 0, true), TIMER, (0, 0, 0), false),
+    (
+        (KERNEL, 0x8000_1000, PLAIN, 0, 0, false),
+        GUEST_FETCH,
+        (0x8000_1000, 0x2000_0400, 0),
+        false,
+    ),
+    (
+        (USER, KERNEL_PC, PLAIN, 0, 0, false),
+        GUEST_FETCH,
+        (KERNEL_PC, 0x2000_0000, 0),
+        false,
+    ),
+    (
+        (USER, USER_PC, PLAIN, 0, NO_ROOT, false),
+        GUEST_FETCH,
+        (USER_PC, 0x4000_0004, 0x3000),
+        false,
+    ),
 ];
 
 // Both views, in which page 0 is approved.
@@ -427,17 +179,17 @@ fn draw_views(mem: &mut HostMem)
     trees.set(mem, 0, Protection::Approved);
 }
 
-// RAM with these words at their places, under both views.
-fn region(rt: &impl Abort, alloc: Global, words: &[(usize, u64)]) -> Result<HostMem, AllocError>
+// RAM in which a word lies where either mode fetches, under both views.
+fn region(rt: &impl Abort, alloc: Global, word: u64) -> Result<HostMem, AllocError>
     ensures views { IfOk result (λ m. AreViews m.tables 16 [] (protect all_free 0 Approved)) }
     ensures ram { IfOk result (λ m. length m.ram ≡ 4096 * 16) }
 {
     let mut mem = HostMem::new(alloc, Trees::table_bytes(PAGES, 0), PAGES)?;
-    for (place, word) in words {
-        assert!(rt; *place < 0x1_0000);
-        let at = mem.table_bytes() + *place;
+    for place in [0, 0x4000] {
+        assert!(rt; place < 0x1_0000);
+        let at = mem.table_bytes() + place;
         assert!(rt; at.is_multiple_of(8) && at + 8 <= mem.table_bytes() + 4096 * mem.ram_pages());
-        mem.write(at, 8, *word);
+        mem.write(at, 8, word);
     }
     assert!(rt; mem.ram_pages() == PAGES);
     assert!(rt; mem.table_bytes() == Trees::table_bytes(PAGES, 0));
@@ -445,63 +197,59 @@ fn region(rt: &impl Abort, alloc: Global, words: &[(usize, u64)]) -> Result<Host
     Ok(mem)
 }
 
-// A core whose x2 is 7, with a reservation at place 0x2000 of RAM and every interrupt enabled.
-fn core_of(row: &Attempt) -> Core {
+// A core whose x1 is an address, with every interrupt enabled.
+fn core_at(pc: u64, address: u64, satp: u64) -> Core {
     let mut core = Core::at_boot();
-    core.regs.set(1, row.address);
-    core.regs.set(2, 7);
-    core.csrs = registers_after(&[
-        (0x105, 0x8000_0100),
-        (0x104, 0x222),
-        (0x100, row.status),
-        (0x180, row.satp),
-    ]);
-    core.reservation = Some(0x20_2000);
-    core.pc = row.pc;
+    core.regs.set(1, address);
+    core.csrs = registers_after(&[(0x104, 0x222), (0x180, satp)]);
+    core.pc = pc;
     core
 }
 
-// What comes of the attempt of a row, and whether the cache then has the translation of its fetch.
+// What comes of an attempt, and whether the cache then has the translation of its fetch.
 fn attempt_once(
     rt: &impl Abort,
     alloc: Global,
-    core: &mut Core,
-    row: &Attempt,
+    tried: Tried,
 ) -> Result<(Outcome, bool), AllocError> {
-    let words = [(0, row.word), (0x4000, row.word), (0x2000, LOADED)];
-    let mut mem = region(rt, alloc, &words)?;
-    let regs = hypervisor_registers(row.mode);
+    let (mode, pc, word, address, satp, timer) = tried;
+    let mut mem = region(rt, alloc, word)?;
+    let regs = hypervisor_registers(mode);
     let mut cache = Cache::new();
     let mut cpu = Cpu::new(alloc)?;
     let lines = Lines {
         time: 0,
         external: false,
-        timer: row.timer,
+        timer,
     };
+    let mut core = core_at(pc, address, satp);
     assert!(rt; core.pc.is_multiple_of(4));
-    let outcome = cpu.attempt(core, &regs, &mut cache, &mut mem, &lines);
-    Ok((outcome, cache.holds(regs.hgatp, row.pc)))
+    let outcome = cpu.attempt(&mut core, &regs, &mut cache, &mut mem, &lines);
+    Ok((outcome, cache.holds(regs.hgatp, pc)))
 }
 
 fn check_attempt(
     rt: &impl Abort,
     alloc: Global,
     number: usize,
-    row: &Attempt,
+    row: &Row,
 ) -> Result<(), AllocError> {
-    let mut core = core_of(row);
-    let (outcome, held) = attempt_once(rt, alloc, &mut core, row)?;
-    let left = (outcome, held, core.regs.get(3), core.reservation.is_some());
-    assert!(rt;
-        left == (row.outcome, row.held, row.x3, row.stands),
-        "row {number}"
-    );
+    let (tried, cause, (stval, htval, htinst), is_held) = *row;
+    let exit = Exit {
+        cause,
+        pc: tried.1,
+        stval,
+        htval,
+        htinst,
+    };
+    let found = attempt_once(rt, alloc, tried)?;
+    assert!(rt; found == (Outcome::Exit(exit), is_held), "row {number}");
     Ok(())
 }
 
 #[test]
-fn each_instruction_has_its_outcome(rt: HostRuntime) -> Result<(), AllocError> {
-    for (number, row) in ATTEMPTS.iter().enumerate() {
+fn exits_of_instructions(rt: HostRuntime) -> Result<(), AllocError> {
+    for (number, row) in ROWS.iter().enumerate() {
         check_attempt(&rt, rt.alloc(), number, row)?;
     }
     Ok(())

@@ -5,6 +5,4 @@ mod keys;
 #[cfg(test)]
 mod outputs;
 #[cfg(test)]
-mod real;
-#[cfg(test)]
 mod saves;

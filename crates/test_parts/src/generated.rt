@@ -1,11 +1,9 @@
 // The guest for some numbers of calls.
 
-use guest_gen::*;
+use crate::measures::check_digest;
+use guest_gen::generate;
 use page_measure::page_digest;
-use std::alloc::{AllocError, Global};
-use std::process::Abort;
 use std::test::Fail;
-use sv_types::Digest;
 
 // Calls, and the digests of the file and of its text.
 static GUESTS: [(u64, &str, &str); 4] = [
@@ -31,36 +29,14 @@ static GUESTS: [(u64, &str, &str); 4] = [
     ),
 ];
 
-fn check_digest(
-    rt: &impl Abort,
-    alloc: Global,
-    calls: u64,
-    found: Digest,
-    wanted: &str,
-) -> Result<(), AllocError> {
-    let text = hex::encode(alloc, found)?;
-    assert!(rt; text.as_str() == wanted, "of {calls} calls");
-    Ok(())
-}
-
-fn check_guest(
-    rt: &impl Abort,
-    alloc: Global,
-    calls: u64,
-    digest: &str,
-    measure: &str,
-) -> Result<(), AllocError> {
-    let (file, policy) = generate(alloc, calls.clamp(1, 1_000_000))?;
-    check_digest(rt, alloc, calls, page_digest(&file), digest)?;
-    check_digest(rt, alloc, calls, policy.kernel, measure)?;
-    Ok(())
-}
-
 // The words are those of LLVM's assembler, and the digests those of Python's hashlib.
 #[test]
 fn files_and_measures(rt: HostRuntime) -> Result<(), Fail> {
+    let alloc = rt.alloc();
     for &(calls, digest, measure) in &GUESTS {
-        check_guest(&rt, rt.alloc(), calls, digest, measure)?;
+        let (file, policy) = generate(alloc, calls.clamp(1, 1_000_000))?;
+        check_digest(&rt, alloc, calls, page_digest(&file), digest)?;
+        check_digest(&rt, alloc, calls, policy.kernel, measure)?;
     }
     Ok(())
 }

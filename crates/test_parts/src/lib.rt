@@ -1,19 +1,13 @@
 //! Tests of parts that stand in several crates: registers, traps, walks and attempts of a hart, and requests of the virtio block
-//! device, by rows of their standards; measures, kernel images, names of addresses and module objects, the generated guest, the
-//! events of scripts, and scripts made small; packets of gdb, and what a debugger is answered.
+//! device, by rows of their standards; measures and names of addresses, module objects, the generated guest, the events of
+//! scripts, and the lines of surveys; and packets of gdb.
 #![tactic(auto)]
 
 #[cfg(test)]
 mod attempts;
-#[cfg(test)]
-mod debugged;
 pub mod edges;
 #[cfg(test)]
-mod fields;
-#[cfg(test)]
 mod generated;
-#[cfg(test)]
-mod images;
 #[cfg(test)]
 mod loading;
 #[cfg(test)]
@@ -30,8 +24,6 @@ mod packets;
 mod registers;
 #[cfg(test)]
 mod scripts;
-#[cfg(test)]
-mod shrunk;
 #[cfg(test)]
 mod surveys;
 #[cfg(test)]

@@ -3,7 +3,6 @@
 use crate::modes::hypervisor_registers;
 use csr_file::{CsrFault, Csrs};
 use spec_processor::{Lines, Mode};
-use std::process::Abort;
 
 static LINES: Lines = Lines {
     time: 7000,
@@ -11,179 +10,76 @@ static LINES: Lines = Lines {
     timer: false,
 };
 
+const KERNEL: Mode = Mode::Kernel;
+
+const USER: Mode = Mode::User;
+
+const ONES: Option<u64> = Some(u64::MAX);
+
+const ILLEGAL: Result<u64, CsrFault> = Err(CsrFault::Illegal);
+
+const VIRTUAL: Result<u64, CsrFault> = Err(CsrFault::Virtual);
+
 // A read in a mode, after a write if there is one, and its answer.
-struct Access {
-    mode: Mode,
-    number: u16,
-    written: Option<u64>,
-    answer: Result<u64, CsrFault>,
-}
-
-const READ: Access = Access {
-    mode: Mode::Kernel,
-    number: 0,
-    written: None,
-    answer: Err(CsrFault::Virtual),
-};
-
-const USER_READ: Access = Access {
-    mode: Mode::User,
-    ..READ
-};
-
-const ONES: Access = Access {
-    written: Some(u64::MAX),
-    answer: Ok(u64::MAX),
-    ..READ
-};
+type Access = (Mode, u16, Option<u64>, Result<u64, CsrFault>);
 
 static ACCESSES: [Access; 25] = [
     // Reads at boot.
-    Access {
-        number: 0x200,
-        ..READ
-    },
-    Access {
-        number: 0x680,
-        ..READ
-    },
-    Access {
-        number: 0xC00,
-        answer: Err(CsrFault::Illegal),
-        ..READ
-    },
-    Access {
-        number: 0xC01,
-        answer: Ok(7000),
-        ..READ
-    },
-    Access {
-        number: 0x144,
-        answer: Ok(0x200),
-        ..READ
-    },
-    Access {
-        number: 0x100,
-        ..USER_READ
-    },
-    Access {
-        number: 0x604,
-        ..USER_READ
-    },
-    Access {
-        number: 0x300,
-        answer: Err(CsrFault::Illegal),
-        ..USER_READ
-    },
-    Access {
-        number: 0xC01,
-        ..USER_READ
-    },
+    (KERNEL, 0x200, None, VIRTUAL),
+    (KERNEL, 0x680, None, VIRTUAL),
+    (KERNEL, 0xC00, None, ILLEGAL),
+    (KERNEL, 0xC01, None, Ok(7000)),
+    (KERNEL, 0x144, None, Ok(0x200)),
+    (USER, 0x100, None, VIRTUAL),
+    (USER, 0x604, None, VIRTUAL),
+    (USER, 0x300, None, ILLEGAL),
+    (USER, 0xC01, None, VIRTUAL),
     // Writes that are refused.
-    Access {
-        number: 0xC01,
-        written: Some(1),
-        answer: Err(CsrFault::Illegal),
-        ..READ
-    },
-    Access {
-        number: 0xC01,
-        written: Some(1),
-        answer: Err(CsrFault::Illegal),
-        ..USER_READ
-    },
-    Access {
-        number: 0x180,
-        written: Some(0),
-        ..USER_READ
-    },
+    (KERNEL, 0xC01, Some(1), ILLEGAL),
+    (USER, 0xC01, Some(1), ILLEGAL),
+    (USER, 0x180, Some(0), VIRTUAL),
     // The bits that may stand.
-    Access {
-        number: 0x100,
-        answer: Ok(0x2000C0122),
-        ..ONES
-    },
-    Access {
-        number: 0x104,
-        answer: Ok(0x222),
-        ..ONES
-    },
-    Access {
-        number: 0x105,
-        answer: Ok(0xFFFFFFFFFFFFFFFD),
-        ..ONES
-    },
-    Access {
-        number: 0x106,
-        answer: Ok(2),
-        ..ONES
-    },
-    Access {
-        number: 0x140,
-        ..ONES
-    },
-    Access {
-        number: 0x141,
-        answer: Ok(0xFFFFFFFFFFFFFFFC),
-        ..ONES
-    },
-    Access {
-        number: 0x142,
-        ..ONES
-    },
-    Access {
-        number: 0x143,
-        ..ONES
-    },
-    Access {
-        number: 0x144,
-        answer: Ok(0x202),
-        ..ONES
-    },
-    Access {
-        number: 0x180,
-        written: Some(0x8FFFFFFFFFFFFFFF),
-        answer: Ok(0x80000FFFFFFFFFFF),
-        ..READ
-    },
-    Access {
-        number: 0x180,
-        written: Some(0x9000000000000000),
-        answer: Ok(0x80000FFFFFFFFFFF),
-        ..READ
-    },
-    Access {
-        number: 0x180,
-        written: Some(5),
-        answer: Ok(5),
-        ..READ
-    },
+    (KERNEL, 0x100, ONES, Ok(0x2000C0122)),
+    (KERNEL, 0x104, ONES, Ok(0x222)),
+    (KERNEL, 0x105, ONES, Ok(0xFFFFFFFFFFFFFFFD)),
+    (KERNEL, 0x106, ONES, Ok(2)),
+    (KERNEL, 0x140, ONES, Ok(u64::MAX)),
+    (KERNEL, 0x141, ONES, Ok(0xFFFFFFFFFFFFFFFC)),
+    (KERNEL, 0x142, ONES, Ok(u64::MAX)),
+    (KERNEL, 0x143, ONES, Ok(u64::MAX)),
+    (KERNEL, 0x144, ONES, Ok(0x202)),
+    (
+        KERNEL,
+        0x180,
+        Some(0x8FFFFFFFFFFFFFFF),
+        Ok(0x80000FFFFFFFFFFF),
+    ),
+    (
+        KERNEL,
+        0x180,
+        Some(0x9000000000000000),
+        Ok(0x80000FFFFFFFFFFF),
+    ),
+    (KERNEL, 0x180, Some(5), Ok(5)),
     // Time is let through by what was written into 0x106.
-    Access {
-        number: 0xC01,
-        answer: Ok(7000),
-        ..USER_READ
-    },
+    (USER, 0xC01, None, Ok(7000)),
 ];
 
 fn answer_to(csrs: &mut Csrs, row: &Access) -> Result<u64, CsrFault> {
-    let regs = hypervisor_registers(row.mode);
-    if let Some(value) = row.written {
-        csrs.write(&regs, row.number, value)?;
+    let (mode, number, written, _) = *row;
+    let regs = hypervisor_registers(mode);
+    if let Some(value) = written {
+        csrs.write(&regs, number, value)?;
     }
-    csrs.read(&regs, &LINES, row.number)
-}
-
-fn check_access(rt: &impl Abort, csrs: &mut Csrs, row: &Access) {
-    let number = row.number;
-    assert!(rt; answer_to(csrs, row) == row.answer, "access to {number:x}");
+    csrs.read(&regs, &LINES, number)
 }
 
 #[test]
 fn accesses_one_after_another(rt: HostRuntime) {
     let mut csrs = Csrs::at_boot();
-    for row in &ACCESSES {
-        check_access(&rt, &mut csrs, row);
+    for (number, row) in ACCESSES.iter().enumerate() {
+        let answer = answer_to(&mut csrs, row);
+        assert!(rt; answer == row.3, "row {number}");
     }
     assert_eq!(rt; (csrs.hie, csrs.hvip), (0x444, 4));
 }

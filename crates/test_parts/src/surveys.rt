@@ -3,7 +3,7 @@
 use elf64_load::symbols::KernelNames;
 use page_measure::fields::WrongField;
 use report::findings::{
-    Found, NotesFound, Occurrence, RefusedLoad, add_load, add_write, nothing_found, survey_lines,
+    Found, Occurrence, RefusedLoad, add_load, add_write, nothing_found, survey_lines,
 };
 use std::alloc::{AllocError, Global};
 use std::process::Abort;
@@ -43,12 +43,6 @@ load a\\x5cb measure hart 0 turn 18
 load a\\x5cb field 0x0000000000000010 holds 0x0000000012300000 due 0x0000000045600000 hart 1 turn 19
 loads 2
 denied gpa 0x0000000080001000 times 1
-";
-
-/// The lines of the same notes 5,000 times.
-const LINES_OF_MANY: &str =
-    "fetch gpa 0x0000000080003000 times 10000 hart 0 turn 20 pc 0x0000000080003004 by -
-denied gpa 0x0000000080001000 times 5000
 ";
 
 /// A module whose text isn't the one that was measured, and one with a wrong field.
@@ -122,30 +116,5 @@ fn lines_of_a_survey(rt: HostRuntime) -> Result<(), Fail> {
     };
     let lines = survey_lines(alloc, &names, &policy, &found, &NOTES)?;
     assert!(rt; lines.as_slice() == LINES.as_bytes());
-    Ok(())
-}
-
-// What is found by more notes than a journal keeps.
-fn found_by_many(alloc: Global) -> Result<Found, AllocError> {
-    let mut noted = NotesFound::of(alloc, &NOTES)?;
-    for _ in 1..5_000 {
-        noted.add(&NOTES);
-    }
-    let mut found = nothing_found(alloc);
-    found.noted = Some(noted);
-    Ok(found)
-}
-
-#[test]
-fn lines_by_more_notes_than_are_kept(rt: HostRuntime) -> Result<(), Fail> {
-    let alloc = rt.alloc();
-    let policy = policy(&rt, alloc)?;
-    let found = found_by_many(alloc)?;
-    let names = KernelNames {
-        tables: None,
-        segments: &[],
-    };
-    let lines = survey_lines(alloc, &names, &policy, &found, &[])?;
-    assert!(rt; lines.as_slice() == LINES_OF_MANY.as_bytes());
     Ok(())
 }

@@ -3,87 +3,42 @@
 use crate::modes::{hypervisor_registers, registers_after};
 use csr_file::{Csrs, into_guest, pending, return_to_guest};
 use spec_processor::{ExitCause, Interrupt, Lines, Mode};
-use std::process::Abort;
 
-// What is enabled and what waits, and the first that a mode takes.
-struct Waiting {
-    mode: Mode,
-    status: u64,
-    enabled: u64,
-    software: u64,
-    external: bool,
-    timer: bool,
-    first: Option<Interrupt>,
-}
+// A mode, the registers sstatus, sie and sip, the external and the timer's wire, and the first interrupt that is taken.
+type Waiting = (Mode, u64, u64, u64, bool, bool, Option<Interrupt>);
 
-// Where only the timer is enabled and SIE isn't set, user mode takes it.
-const TIMER_ALONE: Waiting = Waiting {
-    mode: Mode::User,
-    status: 0,
-    enabled: 1 << 5,
-    software: 0,
-    external: false,
-    timer: true,
-    first: Some(Interrupt::Timer),
-};
+const TIMER: Option<Interrupt> = Some(Interrupt::Timer);
 
-const ALL_ENABLED: Waiting = Waiting {
-    mode: Mode::Kernel,
-    status: 2,
-    enabled: 0x222,
-    ..TIMER_ALONE
-};
+const SOFTWARE: Option<Interrupt> = Some(Interrupt::Software);
+
+const EXTERNAL: Option<Interrupt> = Some(Interrupt::External);
 
 static WAITING: [Waiting; 7] = [
-    TIMER_ALONE,
-    Waiting {
-        external: true,
-        timer: false,
-        first: None,
-        ..TIMER_ALONE
-    },
-    Waiting {
-        mode: Mode::Kernel,
-        first: None,
-        ..TIMER_ALONE
-    },
-    Waiting {
-        timer: false,
-        first: None,
-        ..ALL_ENABLED
-    },
-    ALL_ENABLED,
-    Waiting {
-        software: 2,
-        first: Some(Interrupt::Software),
-        ..ALL_ENABLED
-    },
-    Waiting {
-        software: 2,
-        external: true,
-        first: Some(Interrupt::External),
-        ..ALL_ENABLED
-    },
+    // Where only the timer is enabled and SIE isn't set, user mode takes it.
+    (Mode::User, 0, 1 << 5, 0, false, true, TIMER),
+    (Mode::User, 0, 1 << 5, 0, true, false, None),
+    (Mode::Kernel, 0, 1 << 5, 0, false, true, None),
+    (Mode::Kernel, 2, 0x222, 0, false, false, None),
+    (Mode::Kernel, 2, 0x222, 0, false, true, TIMER),
+    (Mode::Kernel, 2, 0x222, 2, false, true, SOFTWARE),
+    (Mode::Kernel, 2, 0x222, 2, true, true, EXTERNAL),
 ];
 
-fn first(row: &Waiting) -> Option<Interrupt> {
-    let csrs = registers_after(&[
-        (0x100, row.status),
-        (0x104, row.enabled),
-        (0x144, row.software),
-    ]);
+fn first_taken(row: &Waiting) -> Option<Interrupt> {
+    let (mode, status, enabled, software, external, timer, _) = *row;
+    let csrs = registers_after(&[(0x100, status), (0x104, enabled), (0x144, software)]);
     let lines = Lines {
         time: 0,
-        external: row.external,
-        timer: row.timer,
+        external,
+        timer,
     };
-    pending(&csrs, &hypervisor_registers(row.mode), &lines)
+    pending(&csrs, &hypervisor_registers(mode), &lines)
 }
 
 #[test]
 fn the_first_that_is_deliverable(rt: HostRuntime) {
     for (number, row) in WAITING.iter().enumerate() {
-        assert!(rt; first(row) == row.first, "row {number}");
+        assert!(rt; first_taken(row) == row.6, "row {number}");
     }
 }
 

@@ -1,11 +1,11 @@
 // Standard output over writers that take little, or nothing.
 
 use host_io::os_files::StdSink;
-use host_io::{Failed, Sink, write_all};
-use std::alloc::AllocError;
+use host_io::{Sink, write_all};
 use std::fmt::Display;
 use std::io;
 use std::io::ErrorKind;
+use std::process::Abort;
 use std::sync::atomic::{AtomicU64, Ordering};
 use std::time::{Clock, Duration};
 
@@ -20,29 +20,6 @@ struct Writer {
     taken: AtomicU64,
     ticks: AtomicU64,
     told: AtomicU64,
-}
-
-impl Writer {
-    fn new(most: usize, failing: u64, fault: ErrorKind) -> Writer {
-        Writer {
-            most,
-            failing,
-            fault,
-            writes: AtomicU64::new(0),
-            taken: AtomicU64::new(0),
-            ticks: AtomicU64::new(0),
-            told: AtomicU64::new(0),
-        }
-    }
-
-    fn taken(&self) -> u64 {
-        self.taken.load(Ordering::SeqCst)
-    }
-
-    // How many lines a person was told.
-    fn told(&self) -> u64 {
-        self.told.load(Ordering::SeqCst)
-    }
 }
 
 impl Print for Writer {
@@ -91,36 +68,87 @@ impl Clock for Writer {
     }
 }
 
-// Whether all bytes are written.
-fn writes(writer: &Writer, bytes: &[u8]) -> Result<(), Failed> {
-    let mut out = StdSink::new(writer, false);
-    write_all(&mut out, bytes)
+// A text that is written and then so many notes of progress, to a writer.
+struct Row {
+    most: usize,
+    failing: u64,
+    fault: ErrorKind,
+    text: &'static str,
+    is_watched: bool,
+    notes: u64,
+    // whether all is written, the bytes that were taken, and the lines that a person was told
+    left: (bool, u64, u64),
 }
 
-#[test]
-fn a_writer_that_takes_a_part_gets_all_bytes(rt: HostRuntime) {
-    let writer = Writer::new(2, 0, ErrorKind::Other);
-    assert!(rt; writes(&writer, b"seven b").is_ok());
-    assert_eq!(rt; writer.taken(), 7);
-}
+const WRITES: Row = Row {
+    most: 4,
+    failing: 0,
+    fault: ErrorKind::Interrupted,
+    text: "seven b",
+    is_watched: false,
+    notes: 0,
+    left: (true, 7, 0),
+};
 
-#[test]
-fn a_write_that_is_interrupted_is_tried_again(rt: HostRuntime) {
-    let writer = Writer::new(4, 3, ErrorKind::Interrupted);
-    assert!(rt; writes(&writer, b"seven b").is_ok());
-    assert_eq!(rt; writer.taken(), 7);
-}
+const WATCHED: Row = Row {
+    text: "",
+    is_watched: true,
+    left: (true, 0, 0),
+    ..WRITES
+};
 
-#[test]
-fn other_writes_are_faults(rt: HostRuntime) {
-    let failing = Writer::new(4, 1, ErrorKind::BrokenPipe);
-    assert!(rt; writes(&failing, b"seven b").is_err());
-    assert_eq!(rt; failing.taken(), 0);
-    let full = Writer::new(0, 0, ErrorKind::Other);
-    assert!(rt; writes(&full, b"seven b").is_err());
-    let always = Writer::new(4, u64::MAX, ErrorKind::Interrupted);
-    assert!(rt; writes(&always, b"seven b").is_err());
-}
+static ROWS: [Row; 10] = [
+    // All bytes are written where a part is taken each time, and where writes are interrupted.
+    Row { most: 2, ..WRITES },
+    Row {
+        failing: 3,
+        ..WRITES
+    },
+    // Other writes are faults, which a person is told: one that fails, one of no byte, and one that is always interrupted.
+    Row {
+        failing: 1,
+        fault: ErrorKind::BrokenPipe,
+        left: (false, 0, 1),
+        ..WRITES
+    },
+    Row {
+        most: 0,
+        left: (false, 0, 1),
+        ..WRITES
+    },
+    Row {
+        failing: u64::MAX,
+        left: (false, 0, 1),
+        ..WRITES
+    },
+    // Progress is told about once a second where it is watched, at the start of a line.
+    Row {
+        notes: 2,
+        ..WATCHED
+    },
+    Row {
+        notes: 5,
+        left: (true, 0, 2),
+        ..WATCHED
+    },
+    Row {
+        notes: 9,
+        is_watched: false,
+        ..WATCHED
+    },
+    Row {
+        text: "a",
+        notes: 9,
+        left: (true, 1, 0),
+        ..WATCHED
+    },
+    Row {
+        text: "b\n",
+        notes: 3,
+        left: (true, 2, 1),
+        ..WATCHED
+    },
+];
 
 // The progress of a run is told so many times.
 fn note(out: &mut impl Sink, times: u64) {
@@ -129,35 +157,33 @@ fn note(out: &mut impl Sink, times: u64) {
     }
 }
 
-#[test]
-fn progress_is_told_about_once_a_second(rt: HostRuntime) {
-    let writer = Writer::new(4, 0, ErrorKind::Other);
-    let mut out = StdSink::new(&writer, true);
-    note(&mut out, 2);
-    assert_eq!(rt; writer.told(), 0);
-    note(&mut out, 3);
-    assert_eq!(rt; writer.told(), 2);
-    note(&mut StdSink::new(&writer, false), 9);
-    assert_eq!(rt; writer.told(), 2);
+// Whether all is written of a row.
+fn writes(writer: &Writer, row: &Row) -> bool {
+    let mut out = StdSink::new(writer, row.is_watched);
+    let written = write_all(&mut out, row.text.as_bytes());
+    note(&mut out, row.notes);
+    written.is_ok()
+}
+
+fn check_row(rt: &impl Abort, number: usize, row: &Row) {
+    let writer = Writer {
+        most: row.most,
+        failing: row.failing,
+        fault: row.fault,
+        writes: AtomicU64::new(0),
+        taken: AtomicU64::new(0),
+        ticks: AtomicU64::new(0),
+        told: AtomicU64::new(0),
+    };
+    let is_written = writes(&writer, row);
+    let taken = writer.taken.load(Ordering::SeqCst);
+    let told = writer.told.load(Ordering::SeqCst);
+    assert!(rt; (is_written, taken, told) == row.left, "row {number}");
 }
 
 #[test]
-fn progress_is_told_at_the_start_of_a_line(rt: HostRuntime) {
-    let writer = Writer::new(4, 0, ErrorKind::Other);
-    let mut within = StdSink::new(&writer, true);
-    assert!(rt; within.write(b"a").is_ok());
-    note(&mut within, 9);
-    assert_eq!(rt; writer.told(), 0);
-    let mut after = StdSink::new(&writer, true);
-    assert!(rt; after.write(b"b\n").is_ok());
-    note(&mut after, 3);
-    assert_eq!(rt; writer.told(), 1);
-}
-
-#[test]
-fn standard_output_takes_bytes(rt: HostRuntime) -> Result<(), AllocError> {
-    let mut out = StdSink::new(rt.clone()?, false);
-    assert!(rt; out.write(b"taken\n").is_ok());
-    assert!(rt; out.write(b"").is_ok());
-    Ok(())
+fn what_is_taken_and_told(rt: HostRuntime) {
+    for (number, row) in ROWS.iter().enumerate() {
+        check_row(&rt, number, row);
+    }
 }

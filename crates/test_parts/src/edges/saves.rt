@@ -1,180 +1,51 @@
-// Saves under names of the operating system: whole, or nothing is lost.
+// Files and saves under names of the operating system: whole, or nothing is lost.
 
 use host_io::os_files::RealFiles;
-use host_io::{Files, SaveFailed};
-use std::alloc::{AllocError, Global};
-use std::fs::{Metadata, OpenFile, OpenOptions, Permissions};
-use std::io::{ErrorKind, Read, Seek, SeekFrom, Write};
+use host_io::{FileRefusal, Files};
+use std::alloc::{AllocError, Allocator, Global};
+use std::fs::{Metadata, OpenOptions, Permissions};
+use std::io::{ErrorKind, PipeReader, PipeWriter, Write};
+use std::os::fd::BorrowedFd;
 use std::os::unix::fs::{PermissionsExt, symlink};
-use std::process::Abort;
+use std::os::unix::net::SocketAddr;
+use std::path::PathBuf;
 use std::{fs, io};
-
-// The bytes of a long save, and of a shorter one over it.
-const LONG: usize = 10_000;
-
-const SHORT: usize = 5;
-
-// A fact about files has to hold.
-fn holds(rt: &impl Abort, what: &str, fact: bool) {
-    assert!(rt; fact, "{what}");
-}
-
-// So many bytes.
-fn bytes_of(alloc: Global, count: usize, byte: u8) -> Result<Vec<u8>, AllocError> {
-    let mut bytes = Vec::new(alloc);
-    bytes.resize(count, byte)?;
-    Ok(bytes)
-}
-
-// Bytes are saved under a name.
-fn saves<H: std::rt::Files + AllocGlobal + Eprint + Drop>(
-    host: H,
-    name: &str,
-    bytes: &[u8],
-) -> Result<(), SaveFailed> {
-    RealFiles::new(host, false).save(name, bytes)
-}
-
-// Whether bytes can be saved under a name.
-fn tries<H: std::rt::Files + AllocGlobal + Eprint + Drop>(
-    host: H,
-    name: &str,
-) -> Result<(), SaveFailed> {
-    RealFiles::new(host, false).try_save(name)
-}
-
-// A name holds these bytes and no more.
-fn is_held<H: std::rt::Files + AllocGlobal>(host: &H, name: &str, bytes: &[u8]) -> bool {
-    match fs::read(host, name) {
-        Ok(read) => read.as_slice() == bytes,
-        Err(_) => false,
-    }
-}
-
-// No new file of a save stands in the folder.
-fn has_no_new_file<H: std::rt::Files + AllocGlobal>(host: &H, name: &str) -> bool {
-    match format!(in host.alloc(); "{name}.new0") {
-        Ok(new_name) => fs::symlink_metadata(host, new_name.as_str()).is_err(),
-        Err(_) => false,
-    }
-}
-
-// Who may do what with a file.
-fn mode_of<H: std::rt::Files>(host: &H, name: &str) -> Option<u32> {
-    match fs::metadata(host, name) {
-        Ok(found) => Some(found.permissions().mode() & 0o777),
-        Err(_) => None,
-    }
-}
 
 // ---- files some of whose calls fail
 
-// Which calls fail.
+// Which calls fail: a disk takes a part of a new file, a folder takes no new file, or no file is replaced by another.
 #[derive(Clone, Copy, Drop)]
-struct Faults {
-    // A file takes so many bytes.
-    room: usize,
-    makes_new: bool,
-    renames: bool,
+enum Fault {
+    Full,
+    Closed,
+    Fixed,
+    None,
 }
-
-// A disk that has no room for a long save.
-const FULL: Faults = Faults {
-    room: 9_000,
-    makes_new: true,
-    renames: true,
-};
-
-// A folder in which no file may be made.
-const CLOSED: Faults = Faults {
-    room: LONG,
-    makes_new: false,
-    renames: true,
-};
-
-// A file that no other may replace.
-const FIXED: Faults = Faults {
-    room: LONG,
-    makes_new: true,
-    renames: false,
-};
 
 #[derive(Drop)]
 struct FaultyFiles<H: std::rt::Files + AllocGlobal + Eprint + Drop> {
     host: H,
-    faults: Faults,
+    fault: Fault,
 }
 
-#[derive(Drop)]
-struct FaultyFile<F: Read + Write + Seek + OpenFile + Drop> {
-    file: F,
-    room: usize,
-}
-
-impl<F: Read + Write + Seek + OpenFile + Drop> Read for FaultyFile<F> {
-    fn read(&mut self, buf: &mut [u8]) -> io::Result<usize> {
-        self.file.read(buf)
-    }
-}
-
-// It takes seven bytes at most in one write.
-impl<F: Read + Write + Seek + OpenFile + Drop> Write for FaultyFile<F> {
-    fn write(&mut self, buf: &[u8]) -> io::Result<usize> {
-        let count = buf.len().min(7).min(self.room);
-        if count == 0 && !buf.is_empty() {
-            return Err(io::Error::from(ErrorKind::StorageFull));
-        }
-        let count = self.file.write(&buf[..count])?;
-        self.room = self.room.saturating_sub(count);
-        Ok(count)
-    }
-
-    fn flush(&mut self) -> io::Result<()> {
-        self.file.flush()
-    }
-}
-
-impl<F: Read + Write + Seek + OpenFile + Drop> Seek for FaultyFile<F> {
-    fn seek(&mut self, to: SeekFrom) -> io::Result<u64> {
-        self.file.seek(to)
-    }
-}
-
-impl<F: Read + Write + Seek + OpenFile + Drop> OpenFile for FaultyFile<F> {
-    fn metadata(&self) -> io::Result<Metadata> {
-        self.file.metadata()
-    }
-
-    fn set_len(&self, size: u64) -> io::Result<()> {
-        self.file.set_len(size)
-    }
-
-    fn sync_all(&self) -> io::Result<()> {
-        self.file.sync_all()
-    }
-
-    fn sync_data(&self) -> io::Result<()> {
-        self.file.sync_data()
-    }
-
-    fn set_permissions(&self, perm: Permissions) -> io::Result<()> {
-        self.file.set_permissions(perm)
-    }
+// A new file that has a few bytes and takes no more, since it is open to be read alone.
+fn full_file<H: std::rt::Files>(host: &H, how: &OpenOptions, path: &str) -> io::Result<H::File> {
+    let mut file = host.open_file(how, path)?;
+    file.write_all(b"a part")?;
+    fs::File::open(host, path)
 }
 
 impl<H: std::rt::Files + AllocGlobal + Eprint + Drop> std::rt::Files for FaultyFiles<H> {
-    type File = FaultyFile<H::File>;
+    type File = H::File;
 
     type Dir = H::Dir;
 
-    fn open_file(&self, how: &OpenOptions, path: &str) -> io::Result<FaultyFile<H::File>> {
-        if how.asks_create_new() && !self.faults.makes_new {
-            return Err(io::Error::from(ErrorKind::PermissionDenied));
+    fn open_file(&self, how: &OpenOptions, path: &str) -> io::Result<H::File> {
+        match (how.asks_create_new(), self.fault) {
+            (true, Fault::Closed) => Err(io::Error::from(ErrorKind::PermissionDenied)),
+            (true, Fault::Full) => full_file(&self.host, how, path),
+            _ => self.host.open_file(how, path),
         }
-        Ok(FaultyFile {
-            file: self.host.open_file(how, path)?,
-            room: self.faults.room,
-        })
     }
 
     fn open_dir(&self, path: &str) -> io::Result<H::Dir> {
@@ -194,10 +65,9 @@ impl<H: std::rt::Files + AllocGlobal + Eprint + Drop> std::rt::Files for FaultyF
     }
 
     fn rename(&self, from: &str, to: &str) -> io::Result<()> {
-        if self.faults.renames {
-            self.host.rename(from, to)
-        } else {
-            Err(io::Error::from(ErrorKind::InvalidInput))
+        match self.fault {
+            Fault::Fixed => Err(io::Error::from(ErrorKind::InvalidInput)),
+            _ => self.host.rename(from, to),
         }
     }
 
@@ -213,8 +83,49 @@ impl<H: std::rt::Files + AllocGlobal + Eprint + Drop> std::rt::Files for FaultyF
         self.host.remove_dir(path)
     }
 
-    fn remove_dir_all<B: std::alloc::Allocator>(&self, alloc: B, path: &str) -> io::Result<()> {
+    fn remove_dir_all<B: Allocator>(&self, alloc: B, path: &str) -> io::Result<()> {
         self.host.remove_dir_all(alloc, path)
+    }
+
+    // No save calls those that follow. They have bodies of their own since those of the trait take longer to prove.
+    fn canonicalize<B: Allocator>(&self, alloc: B, path: &str) -> io::Result<PathBuf<B>> {
+        self.host.canonicalize(alloc, path)
+    }
+
+    fn read_link<B: Allocator>(&self, alloc: B, path: &str) -> io::Result<PathBuf<B>> {
+        self.host.read_link(alloc, path)
+    }
+
+    fn hard_link(&self, original: &str, link: &str) -> io::Result<()> {
+        self.host.hard_link(original, link)
+    }
+
+    fn set_permissions(&self, path: &str, perm: Permissions) -> io::Result<()> {
+        self.host.set_permissions(path, perm)
+    }
+
+    fn symlink(&self, original: &str, link: &str) -> io::Result<()> {
+        self.host.symlink(original, link)
+    }
+
+    fn pipe(&self) -> io::Result<(PipeReader, PipeWriter)> {
+        self.host.pipe()
+    }
+
+    fn chown(&self, path: &str, uid: Option<u32>, gid: Option<u32>) -> io::Result<()> {
+        self.host.chown(path, uid, gid)
+    }
+
+    fn lchown(&self, path: &str, uid: Option<u32>, gid: Option<u32>) -> io::Result<()> {
+        self.host.lchown(path, uid, gid)
+    }
+
+    fn create_dir_with_mode(&self, path: &str, mode: u32) -> io::Result<()> {
+        self.host.create_dir_with_mode(path, mode)
+    }
+
+    fn bind_unix(&self, socket: BorrowedFd<'_>, addr: &SocketAddr) -> io::Result<()> {
+        self.host.bind_unix(socket, addr)
     }
 }
 
@@ -236,133 +147,240 @@ impl<H: std::rt::Files + AllocGlobal + Eprint + Drop> Eprint for FaultyFiles<H> 
     }
 }
 
-// ---- tests
+// ---- what is done and found under names
 
-#[test]
-fn a_shorter_save_leaves_nothing_of_a_longer_one(rt: HostRuntime) -> Result<(), AllocError> {
-    let long = bytes_of(rt.alloc(), LONG, b'l')?;
-    let short = bytes_of(rt.alloc(), SHORT, b's')?;
-    holds(&rt, "long", saves(&rt, "shorter", &long).is_ok());
-    holds(&rt, "long is held", is_held(&rt, "shorter", &long));
-    holds(&rt, "short", saves(&rt, "shorter", &short).is_ok());
-    holds(&rt, "short is held", is_held(&rt, "shorter", &short));
-    holds(&rt, "none is left", has_no_new_file(&rt, "shorter"));
-    Ok(())
+// What is done with a text under a name, or found there.
+#[derive(Clone, Copy, Drop)]
+enum Step {
+    // By the program's calls, with a fault.
+    Saves(Fault),
+    CanSave(Fault),
+    // The text 2,000 times over is saved, and read again.
+    SavesMany,
+    // The text is read, or more than its length isn't.
+    Reads,
+    IsRefused(FileRefusal),
+    // By others: a text is written, a folder or a link to the text is made, and mode bits are set.
+    IsWritten,
+    IsFolder,
+    LeadsTo,
+    TakesMode,
+    // Found: this text, nothing, a link, something that is no plain file, and the mode bits that were set.
+    Holds,
+    IsAbsent,
+    IsLink,
+    IsSpecial,
+    KeepsMode,
 }
 
-#[test]
-fn a_save_that_fails_leaves_the_old_file(rt: HostRuntime) -> Result<(), AllocError> {
-    let long = bytes_of(rt.alloc(), LONG, b'l')?;
-    let short = bytes_of(rt.alloc(), SHORT, b's')?;
-    holds(&rt, "short", saves(&rt, "kept", &short).is_ok());
-    for faults in [FULL, FIXED] {
-        let files = FaultyFiles {
-            host: rt.clone()?,
-            faults,
-        };
-        holds(&rt, "long fails", saves(files, "kept", &long).is_err());
-        holds(&rt, "short is held", is_held(&rt, "kept", &short));
-        holds(&rt, "none is left", has_no_new_file(&rt, "kept"));
+const MODE: u32 = 0o640;
+
+const SAVES: Step = Step::Saves(Fault::None);
+
+const CAN_SAVE: Step = Step::CanSave(Fault::None);
+
+// 30 bytes, and 5.
+const LONG: &str = "A text that is a bit longer...";
+
+const SHORT: &str = "short";
+
+// A name, what is done there or found with a text, and whether it is so.
+type Row = (&'static str, Step, &'static str, bool);
+
+static ROWS: [Row; 60] = [
+    // What is saved is read, up to a limit.
+    ("read", SAVES, SHORT, true),
+    ("read", Step::Reads, SHORT, true),
+    ("read", Step::IsRefused(FileRefusal::TooLong), "four", true),
+    (
+        "no_such_file",
+        Step::IsRefused(FileRefusal::Failed),
+        SHORT,
+        true,
+    ),
+    ("no_such_folder/file", SAVES, SHORT, false),
+    // A shorter save leaves nothing of one of 10,000 bytes, and no new file.
+    ("shorter", Step::SavesMany, SHORT, true),
+    ("shorter", SAVES, SHORT, true),
+    ("shorter", Step::Holds, SHORT, true),
+    ("shorter.new0", Step::IsAbsent, "", true),
+    // A save that fails leaves the old file, and no new one.
+    ("kept", SAVES, SHORT, true),
+    ("kept", Step::Saves(Fault::Full), LONG, false),
+    ("kept", Step::Holds, SHORT, true),
+    ("kept.new0", Step::IsAbsent, "", true),
+    ("kept", Step::Saves(Fault::Fixed), LONG, false),
+    ("kept", Step::Holds, SHORT, true),
+    ("kept.new0", Step::IsAbsent, "", true),
+    ("not_made", Step::Saves(Fault::Full), LONG, false),
+    ("not_made", Step::IsAbsent, "", true),
+    // A folder that takes no file keeps its names.
+    ("closed", SAVES, LONG, true),
+    ("closed", Step::Saves(Fault::Closed), SHORT, true),
+    ("closed", Step::Holds, SHORT, true),
+    // A try changes nothing.
+    ("tried", SAVES, SHORT, true),
+    ("tried", CAN_SAVE, "", true),
+    ("tried", Step::Holds, SHORT, true),
+    ("tried.new0", Step::IsAbsent, "", true),
+    ("untried", CAN_SAVE, "", true),
+    ("untried", Step::IsAbsent, "", true),
+    ("untried.new0", Step::IsAbsent, "", true),
+    ("/dev/full", CAN_SAVE, "", true),
+    ("tried_folder", Step::IsFolder, "", true),
+    ("tried_folder", CAN_SAVE, "", false),
+    ("no_such_folder/file", CAN_SAVE, "", false),
+    ("loose", Step::LeadsTo, "nothing", true),
+    ("loose", CAN_SAVE, "", true),
+    ("nothing", Step::IsAbsent, "", true),
+    ("firm", Step::LeadsTo, "tried", true),
+    ("firm", CAN_SAVE, "", true),
+    ("tried", Step::Holds, SHORT, true),
+    // A try tells of a folder that takes no file.
+    ("fast", SAVES, SHORT, true),
+    ("fast", Step::CanSave(Fault::Closed), "", true),
+    ("unmade", Step::CanSave(Fault::Closed), "", false),
+    ("unmade", Step::IsAbsent, "", true),
+    // A save keeps mode bits.
+    ("mode", SAVES, SHORT, true),
+    ("mode", Step::TakesMode, "", true),
+    ("mode", SAVES, SHORT, true),
+    ("mode", Step::KeepsMode, "", true),
+    // A save spares what an earlier one left.
+    ("spared.new0", Step::IsWritten, "left", true),
+    ("spared", SAVES, SHORT, true),
+    ("spared", Step::Holds, SHORT, true),
+    ("spared.new0", Step::Holds, "left", true),
+    // What is no plain file stays what it is.
+    ("aim", Step::IsWritten, LONG, true),
+    ("link", Step::LeadsTo, "aim", true),
+    ("link", SAVES, SHORT, true),
+    ("aim", Step::Holds, SHORT, true),
+    ("link", Step::IsLink, "", true),
+    ("/dev/null", SAVES, SHORT, true),
+    ("/dev/full", SAVES, SHORT, false),
+    ("/dev/null", Step::IsSpecial, "", true),
+    ("folder", Step::IsFolder, "", true),
+    ("folder", SAVES, SHORT, false),
+];
+
+fn saves<H: std::rt::Files + AllocGlobal + Eprint + Drop>(host: H, name: &str, text: &str) -> bool {
+    RealFiles::new(host, false)
+        .save(name, text.as_bytes())
+        .is_ok()
+}
+
+fn saves_many<H: std::rt::Files + AllocGlobal + Eprint + Drop>(
+    host: H,
+    name: &str,
+    text: &str,
+) -> Result<bool, AllocError> {
+    let alloc = host.alloc();
+    let mut many = Vec::new(alloc);
+    for _ in 0..2_000 {
+        many.extend_from_slice(text.as_bytes())?;
     }
-    let files = FaultyFiles {
-        host: rt.clone()?,
-        faults: FULL,
-    };
-    holds(&rt, "new fails", saves(files, "not_made", &long).is_err());
-    holds(&rt, "not made", fs::metadata(&rt, "not_made").is_err());
-    Ok(())
+    let mut files = RealFiles::new(host, false);
+    let is_saved = files.save(name, &many).is_ok();
+    let read = files.read(alloc, name, many.len());
+    Ok(is_saved && read.is_ok_and(|read| read.as_slice() == many.as_slice()))
 }
 
-#[test]
-fn a_folder_that_takes_no_file_keeps_its_names(rt: HostRuntime) -> Result<(), AllocError> {
-    let long = bytes_of(rt.alloc(), LONG, b'l')?;
-    let short = bytes_of(rt.alloc(), SHORT, b's')?;
-    holds(&rt, "long", saves(&rt, "closed", &long).is_ok());
-    let files = FaultyFiles {
-        host: rt.clone()?,
-        faults: CLOSED,
-    };
-    holds(&rt, "short", saves(files, "closed", &short).is_ok());
-    holds(&rt, "short is held", is_held(&rt, "closed", &short));
-    Ok(())
+fn can_save<H: std::rt::Files + AllocGlobal + Eprint + Drop>(host: H, name: &str) -> bool {
+    RealFiles::new(host, false).try_save(name).is_ok()
 }
 
-#[test]
-fn a_try_changes_nothing(rt: HostRuntime) -> io::Result<()> {
-    let short = bytes_of(rt.alloc(), SHORT, b's')?;
-    holds(&rt, "short", saves(&rt, "tried", &short).is_ok());
-    holds(&rt, "old file", tries(&rt, "tried").is_ok());
-    holds(&rt, "short is held", is_held(&rt, "tried", &short));
-    holds(&rt, "none is left", has_no_new_file(&rt, "tried"));
-    holds(&rt, "no file", tries(&rt, "untried").is_ok());
-    holds(&rt, "none", fs::symlink_metadata(&rt, "untried").is_err());
-    holds(&rt, "none new", has_no_new_file(&rt, "untried"));
-    holds(&rt, "device", tries(&rt, "/dev/full").is_ok());
-    fs::create_dir(&rt, "tried_folder")?;
-    holds(&rt, "folder", tries(&rt, "tried_folder").is_err());
-    holds(&rt, "no folder", tries(&rt, "no_such_folder/file").is_err());
-    symlink(&rt, "nothing", "loose")?;
-    holds(&rt, "loose link", tries(&rt, "loose").is_ok());
-    holds(
-        &rt,
-        "nothing",
-        fs::symlink_metadata(&rt, "nothing").is_err(),
-    );
-    symlink(&rt, "tried", "firm")?;
-    holds(&rt, "firm link", tries(&rt, "firm").is_ok());
-    holds(&rt, "short stays", is_held(&rt, "tried", &short));
-    Ok(())
-}
-
-#[test]
-fn a_folder_that_takes_no_file_is_told_by_a_try(rt: HostRuntime) -> io::Result<()> {
-    let short = bytes_of(rt.alloc(), SHORT, b's')?;
-    holds(&rt, "short", saves(&rt, "fast", &short).is_ok());
-    for (name, can) in [("fast", true), ("unmade", false)] {
-        let files = FaultyFiles {
-            host: rt.clone()?,
-            faults: CLOSED,
-        };
-        holds(&rt, name, tries(files, name).is_ok() == can);
+fn is_read<H: std::rt::Files + AllocGlobal + Eprint + Drop>(
+    host: H,
+    name: &str,
+    text: &str,
+) -> bool {
+    let alloc = host.alloc();
+    match RealFiles::new(host, false).read(alloc, name, text.len()) {
+        Ok(read) => read.as_slice() == text.as_bytes(),
+        Err(_) => false,
     }
-    holds(&rt, "unmade", fs::symlink_metadata(&rt, "unmade").is_err());
-    Ok(())
 }
 
-#[test]
-fn a_save_keeps_mode_bits(rt: HostRuntime) -> io::Result<()> {
-    let short = bytes_of(rt.alloc(), SHORT, b's')?;
-    holds(&rt, "first", saves(&rt, "mode", &short).is_ok());
-    fs::set_permissions(&rt, "mode", Permissions::from_mode(0o640))?;
-    holds(&rt, "second", saves(&rt, "mode", &short).is_ok());
-    holds(&rt, "mode", mode_of(&rt, "mode") == Some(0o640));
-    Ok(())
+fn is_refused<H: std::rt::Files + AllocGlobal + Eprint + Drop>(
+    host: H,
+    name: &str,
+    text: &str,
+    refusal: FileRefusal,
+) -> bool {
+    let alloc = host.alloc();
+    let read = RealFiles::new(host, false).read(alloc, name, text.len());
+    read.err() == Some(refusal)
 }
 
-#[test]
-fn a_save_spares_what_an_earlier_one_left(rt: HostRuntime) -> io::Result<()> {
-    let short = bytes_of(rt.alloc(), SHORT, b's')?;
-    fs::write(&rt, "spared.new0", "left")?;
-    holds(&rt, "saved", saves(&rt, "spared", &short).is_ok());
-    holds(&rt, "held", is_held(&rt, "spared", &short));
-    holds(&rt, "left", is_held(&rt, "spared.new0", b"left"));
-    Ok(())
+// The outcome of a call of the program.
+fn is_done<H: std::rt::Files + AllocGlobal + Eprint + Drop>(
+    host: H,
+    name: &str,
+    step: Step,
+    text: &str,
+) -> bool {
+    match step {
+        Step::Saves(fault) => saves(FaultyFiles { host, fault }, name, text),
+        Step::CanSave(fault) => can_save(FaultyFiles { host, fault }, name),
+        Step::SavesMany => saves_many(host, name, text).unwrap_or(false),
+        Step::IsRefused(refusal) => is_refused(host, name, text, refusal),
+        _ => is_read(host, name, text),
+    }
 }
 
+fn is_held<H: std::rt::Files + AllocGlobal>(host: &H, name: &str, text: &str) -> bool {
+    match fs::read(host, name) {
+        Ok(read) => read.as_slice() == text.as_bytes(),
+        Err(_) => false,
+    }
+}
+
+fn is_of_kind<H: std::rt::Files>(host: &H, name: &str, step: Step) -> io::Result<bool> {
+    let found = fs::symlink_metadata(host, name)?;
+    Ok(match step {
+        Step::IsLink => found.is_symlink(),
+        Step::IsSpecial => !found.is_file(),
+        _ => found.permissions().mode() & 0o777 == MODE,
+    })
+}
+
+// What others do or find.
+fn is_found<H: std::rt::Files + AllocGlobal>(
+    host: &H,
+    name: &str,
+    step: Step,
+    text: &str,
+) -> io::Result<bool> {
+    match step {
+        Step::IsWritten => fs::write(host, name, text)?,
+        Step::IsFolder => fs::create_dir(host, name)?,
+        Step::LeadsTo => symlink(host, text, name)?,
+        Step::TakesMode => fs::set_permissions(host, name, Permissions::from_mode(MODE))?,
+        Step::Holds => return Ok(is_held(host, name, text)),
+        Step::IsAbsent => return Ok(fs::symlink_metadata(host, name).is_err()),
+        _ => return is_of_kind(host, name, step),
+    }
+    Ok(true)
+}
+
+fn is_so<H: std::rt::Files + AllocGlobal + Eprint + Drop>(host: H, row: &Row) -> bool {
+    let (name, step, text, _) = *row;
+    match step {
+        Step::Saves(_) | Step::CanSave(_) | Step::SavesMany | Step::Reads | Step::IsRefused(_) => {
+            is_done(host, name, step, text)
+        }
+        _ => is_found(&host, name, step, text).unwrap_or(false),
+    }
+}
+
+// Row by row, since each finds what those before it left.
 #[test]
-fn what_is_no_plain_file_stays_what_it_is(rt: HostRuntime) -> io::Result<()> {
-    let short = bytes_of(rt.alloc(), SHORT, b's')?;
-    fs::write(&rt, "aim", "longer than the save")?;
-    symlink(&rt, "aim", "link")?;
-    holds(&rt, "link", saves(&rt, "link", &short).is_ok());
-    holds(&rt, "aim", is_held(&rt, "aim", &short));
-    let link = fs::symlink_metadata(&rt, "link")?;
-    holds(&rt, "is a link", link.is_symlink());
-    holds(&rt, "null", saves(&rt, "/dev/null", &short).is_ok());
-    holds(&rt, "full", saves(&rt, "/dev/full", &short).is_err());
-    let null = fs::metadata(&rt, "/dev/null")?;
-    holds(&rt, "is a device", !null.is_file());
-    fs::create_dir(&rt, "folder")?;
-    holds(&rt, "folder", saves(&rt, "folder", &short).is_err());
+fn saves_and_what_they_leave(rt: HostRuntime) -> Result<(), AllocError> {
+    for (number, row) in ROWS.iter().enumerate() {
+        let is_so = is_so(rt.clone()?, row);
+        let name = row.0;
+        assert!(rt; is_so == row.3, "row {number}, {name}");
+    }
     Ok(())
 }
