@@ -6,3 +6,4 @@ mod Outcomes
 pub mod ShrinkAnswerLemmas
 pub mod ClauseLemmas
 mod SmallScripts
+mod Booting

@@ -1,16 +1,17 @@
 // A machine from the bytes of its files.
-ghost use Rattle.std.specs.Prelude.{◌≡◌, ◌%◌, IfOk, IsErrOf, IsTrue, Ok, length};
+ghost use Rattle.std.specs.Prelude.{◌≡◌, ◌%◌, IfOk, IsErrOf, IsTrue, Ok, OnOk, length};
 ghost use Rattle.sv_types.specs.Policies.{rules_of, rules_within};
 ghost use Rattle.spec_reference.specs.BlockDisk.{sector_size};
 ghost use Rattle.spec_reference.specs.Start.{boot_start};
 ghost use Rattle.spec_hardware.specs.Reaches.{IsNew};
 ghost use Rattle.policy.specs.Text.{rules_of_text};
-ghost use Rattle.machine.specs.Boot.{IsImageOf};
+ghost use Rattle.laws_resume.specs.SnapLaws.{IsMeasuredBoot};
+ghost use Rattle.machine.specs.Boot.{HasDigests, IsImageOf};
 ghost use Rattle.cli_trials.specs.Trials.{IsBooted};
 
 use crate::trial::files::{NoOutcome, RunFiles};
 use elf64_load::{ElfRefusal, KernelImage, read_kernel};
-use machine::{BootRefusal, Machine};
+use machine::{BootRefusal, Booted};
 use policy::PolicyRefusal;
 use std::alloc::Global;
 use std::thread::Threads;
@@ -49,23 +50,25 @@ fn copy_disk(alloc: Global, disk: &[u8]) -> Result<Vec<u8>, NoOutcome>
     }
 }
 
-/// A machine of its own, before its first event.
+/// A machine of its own, before its first event, and the digests by which it was measured.
 pub(crate) fn boot<R: Threads + Sync>(
     rt: &R,
     alloc: Global,
     files: &RunFiles<'_>,
     policy: Policy,
-) -> Result<Machine, NoOutcome>
+) -> Result<Booted, NoOutcome>
     requires within { IsTrue (rules_within (rules_of policy)) }
     requires sectors { length files.now.disk.now % sector_size ≡ 0 }
-    ensures new { IfOk result (λ m. IsNew m (boot_start (rules_of policy) files.now.image.now files.now.disk.now)) }
-    ensures booted { IfOk result IsBooted }
+    ensures new { IfOk result (λ b. IsNew b.machine (boot_start (rules_of policy) files.now.image.now files.now.disk.now)) }
+    ensures booted { IfOk result (λ b. IsBooted b.machine) }
+    ensures digests { IfOk result (λ b. HasDigests b.machine b.digests.items) }
+    ensures measured { OnOk result (IsMeasuredBoot (rules_of policy) files.now.image.now) }
     ensures other { IsErrOf result NoOutcome.Script → ⊥ }
 {
     let image = read_image(alloc, files.image, policy.ram_pages)?;
     let disk = copy_disk(alloc, files.disk)?;
-    match Machine::boot(rt, alloc, &image, policy, disk) {
-        Ok(machine) => Ok(machine),
+    match Booted::block(rt, alloc, &image, policy, disk) {
+        Ok(booted) => Ok(booted),
         Err(BootRefusal::Measure { .. }) | Err(BootRefusal::Entry { .. }) => {
             Err(NoOutcome::Refused)
         }

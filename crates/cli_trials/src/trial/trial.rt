@@ -1,18 +1,20 @@
 // Trials.
-ghost use Rattle.std.specs.Prelude.{◌≡◌, ◌≤◌, ◌%◌, IfOk, IsErrOf, Ok, Some, None, length};
+ghost use Rattle.std.specs.Prelude.{◌≡◌, ◌≤◌, ◌%◌, IfOk, IsErrOf, Ok, OnOk, Some, None, length};
 ghost use Rattle.sv_types.specs.Limits.{max_events};
 ghost use Rattle.sv_types.specs.Policies.{Rules};
 ghost use Rattle.spec_reference.specs.BlockDisk.{sector_size};
 ghost use Rattle.spec_reference.specs.Start.{boot_start};
 ghost use Rattle.spec_hardware.specs.Reaches.{IsNew};
+ghost use Rattle.laws_resume.specs.SnapLaws.{IsMeasuredBoot};
 ghost use Rattle.policy.specs.Text.{rules_of_text};
+ghost use Rattle.machine.specs.Boot.{HasDigests};
 ghost use Rattle.cli_trials.specs.Trials as spec;
 
 use crate::trial::beginning::{boot, read_policy};
 use crate::trial::ending::{Ending, end_of_run};
 use crate::trial::files::{NoOutcome, RunFiles};
 use crate::trial::order::{Order, script_for};
-use machine::Machine;
+use machine::Booted;
 use script::Script;
 use std::alloc::Global;
 use std::thread::Threads;
@@ -32,20 +34,22 @@ pub fn try_order<R: Threads + Sync>(
 {
     let policy = read_policy(alloc, files.policy)?;
     let script = script_for(alloc, order, policy.harts)?;
-    let machine = boot(rt, alloc, files, policy)?;
-    Ok(end_of_run(machine, script, events))
+    let booted = boot(rt, alloc, files, policy)?;
+    Ok(end_of_run(booted.machine, script, events))
 }
 
-/// A machine of these files, before its first event.
+/// A machine of these files, before its first event, and the digests of its text's pages, ascending, by which it was measured.
 pub fn boot_files<R: Threads + Sync>(
     rt: &R,
     alloc: Global,
     files: &RunFiles<'_>,
-) -> Result<Machine, NoOutcome>
+) -> Result<Booted, NoOutcome>
     requires sectors { length files.now.disk.now % sector_size ≡ 0 }
-    ensures new { IfOk result (λ m. (rules : Rules) → rules_of_text files.now.policy.now ≡ Ok rules →
-        IsNew m (boot_start rules files.now.image.now files.now.disk.now)) }
-    ensures booted { IfOk result spec.IsBooted }
+    ensures new { IfOk result (λ b. (rules : Rules) → rules_of_text files.now.policy.now ≡ Ok rules →
+        IsNew b.machine (boot_start rules files.now.image.now files.now.disk.now)) }
+    ensures booted { IfOk result (λ b. spec.IsBooted b.machine) }
+    ensures digests { IfOk result (λ b. HasDigests b.machine b.digests.items) }
+    ensures measured { OnOk result ((rules : Rules) → rules_of_text files.now.policy.now ≡ Ok rules → IsMeasuredBoot rules files.now.image.now) }
 {
     let policy = read_policy(alloc, files.policy)?;
     boot(rt, alloc, files, policy)

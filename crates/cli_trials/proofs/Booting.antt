@@ -1,0 +1,28 @@
+-- A boot whose text has the policy's measure.
+use Rattle.std.proofs.Common.{◌≡◌, ℕ, List, ap, sym, ◌∙◌, subst, true, IsTrue}
+use Rattle.sv_types.specs.Kernel.{text_of}
+use Rattle.sv_types.specs.Measure.{measure}
+use Rattle.sv_types.specs.Policies.{Rules, rules_within}
+use Rattle.spec_reference.specs.Start.{AreWords, boot_start}
+use Rattle.spec_reference.specs.States.{has_number}
+use Rattle.spec_hardware.specs.Machine.{Machine}
+use Rattle.spec_hardware.specs.Reaches.{IsNew}
+use Rattle.elf64_load.specs.declared.image.KernelImage.{KernelImage}
+use Rattle.laws_resume.specs.SnapLaws.{IsMeasuredBoot}
+use Rattle.laws_resume.proofs.BootDigests.{block_boot}
+use Rattle.machine.specs.Boot.{IsImageOf, image_text}
+
+-- what else a boot asks holds of each machine that has started
+pub measured_boot : (m : Machine) (rules : Rules) (image : KernelImage) (file disk : List ℕ) → IsImageOf file rules.ram_pages image → IsNew m (boot_start rules file disk) →
+    measure (image_text image) ≡ rules.kernel → has_number rules.entries image.entry ≡ true → IsMeasuredBoot rules file
+measured_boot m rules image file disk is_image is_new measured permitted =
+    let there : (boot_start rules file disk).rules ≡ rules = block_boot.rules rules file disk in
+    record {
+      bootable = record {
+        within = subst (λ (r : Rules). IsTrue (rules_within r)) there is_new.stands.sound.within;
+        words = subst (λ (r : Rules). AreWords r.entries) there is_new.stands.sound.words;
+        accepted = is_image.accepted;
+        entry = ap (has_number rules.entries) (sym is_image.entry) ∙ permitted;
+      };
+      measured = ap (λ segments. measure (text_of segments)) (sym is_image.segments) ∙ measured;
+    }
