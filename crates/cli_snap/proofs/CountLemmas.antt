@@ -52,10 +52,10 @@ counts_are events c h =
       notes = count_is events c.notes (second_true _ _ r5);
     }
 
--- no count of a snapshot is above the most events
-pub counted : (s : Contents) → snapshot.has s ≡ true → CountsAtMost max_events s.counts
+-- no count of a snapshot is above its events, nor these above the most
+counted_events : (s : Contents) → snapshot.has s ≡ true → (s.events ≤ max_events) × CountsAtMost s.events s.counts
 unfolding snapshot header body pages gate devices journal
-counted s h =
+counted_events s h =
     let h0 = whole_header s in
     let b = whole_body s in
     let head = first_true (header.has h0) ((body h0).has b) h in
@@ -67,4 +67,10 @@ counted s h =
     let after_gate = second_true ((gate b.0).has b.1.1.0) _ after_pages in
     let after_devices = second_true ((devices h0.kind).has b.1.1.1.0) _ after_gate in
     let journal_parts = first_true ((journal h0.events h0.harts).has b.1.1.1.1.0) _ after_devices in
-    counts_within s.events (2 ^ 32) s.counts few (counts_are s.events s.counts (first_true ((counts h0.events).has s.counts) _ journal_parts))
+    (few, counts_are s.events s.counts (first_true ((counts h0.events).has s.counts) _ journal_parts))
+
+pub counted_by_events : (s : Contents) → snapshot.has s ≡ true → CountsAtMost s.events s.counts
+counted_by_events s h = (counted_events s h).1
+
+pub counted : (s : Contents) → snapshot.has s ≡ true → CountsAtMost max_events s.counts
+counted s h = let it = counted_events s h in counts_within s.events (2 ^ 32) s.counts it.0 it.1

@@ -136,11 +136,11 @@ done_is start events m old new status it = sym (append-nil it.done) ∙ ap (λ (
 pub stands_all : (start : State) (events : List Event) (m : Machine) (old new : SinkState) (status : Status) → StandsAfter start events m old new (Ok status) → StandsFor m (run start events)
 stands_all start events m old new status it = subst (λ (es : List Event). StandsFor m (run start es)) (done_is start events m old new status it) it.stands.stands
 
-counts_are : (m : Machine) (r : State) → StandsFor m r → events_counted m.journal.counts ≡ events_counted r.journal.counts
+pub counts_are : (m : Machine) (r : State) → StandsFor m r → events_counted m.journal.counts ≡ events_counted r.journal.counts
 unfolding machine_of
 counts_are m r stands = ap (λ (x : Machine). events_counted x.journal.counts) stands.same
 
-none_counted : (c : Counts) → CountsAtMost 0 c → events_counted c ≡ 0
+pub none_counted : (c : Counts) → CountsAtMost 0 c → events_counted c ≡ 0
 none_counted c few = omega (arith, few.turns, few.beats, few.keys, few.ticks)
 
 -- the events that are counted are those that were made

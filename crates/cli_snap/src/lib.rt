@@ -11,3 +11,4 @@ pub mod show;
 
 pub use answer::secvisor_snap;
 pub use laws::{law_block, law_counts, law_snap_ends, law_snap_file};
+pub use saving::snapshot_bytes;

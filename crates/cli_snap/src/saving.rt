@@ -43,12 +43,13 @@ fn save_bytes<F: Files>(name: &str, bytes: &[u8], files: &mut F) -> Result<(), T
     Ok(files.save(name, bytes)?)
 }
 
-fn snapshot_bytes(
+/// The bytes of a snapshot of a machine as it is now, with this text: its pages and their digests. The machine has counted fewer
+/// than 2^64 events. Out of memory is the one refusal.
+pub fn snapshot_bytes(
     alloc: Global,
     machine: &Machine,
     text: Vec<TextPage>,
 ) -> Result<Vec<u8>, AllocError>
-    requires state { HasState machine.now }
     requires few { events_counted machine.now.journal.counts < 2 ^ 64 }
     ensures { IfOk result (λ bytes. EncodesMachine machine.now text.items bytes.items) }
 {

@@ -1,5 +1,5 @@
 // A script after its first events.
-ghost use Rattle.std.specs.Prelude.{◌≡◌, ◌+◌, ◌≤◌};
+ghost use Rattle.std.specs.Prelude.{◌≡◌, ◌+◌, ◌-◌, ◌≤◌};
 ghost use Rattle.sv_types.specs.Schedule.{first_events};
 ghost use Rattle.cli_snap.specs.ResumePlans.{events_after};
 
@@ -15,7 +15,7 @@ pub struct Left {
 /// The first `events` of a script without the first `made` ones, which may be all of them.
 pub fn events_left(script: Script, made: u64, events: u64) -> Left
     ensures left { first_events result.events result.script ≡ events_after made events script }
-    ensures few { result.events ≤ events }
+    ensures few { result.events ≤ events - made }
 {
     if events <= made {
         return Left { script, events: 0 };
