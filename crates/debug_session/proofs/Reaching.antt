@@ -1,18 +1,18 @@
 -- A run that is made from its beginning up to an event.
-use Rattle.std.proofs.Common.{◌≡◌, ℕ, ◌≤◌, true, false, if◌then◌else◌, length, refl, sym, subst, arith}
+use Rattle.std.proofs.Common.{◌≡◌, ℕ, ◌+◌, ◌≤◌, true, false, if◌then◌else◌, length, refl, sym, subst, arith}
 use Rattle.std.specs.Prelude.{nat_lt}
 use Rattle.std.proofs.lemmas.Bool.{le-ltb, ltb-false}
 use Rattle.debug_session.specs.Runs.{Run, after, at_event}
 
--- so many events are made
-pub record Reached {T : Type 0} (stands : T → Run → Type 0) (first : T) (n : ℕ) (now : T) : Type 0 where
-  pub here : (run : Run) → stands first run → run.made ≡ 0 → stands now (after run n)
-  pub within : (run : Run) → stands first run → run.made ≡ 0 → n ≤ length run.events
+-- so many events more are made
+pub record Reached {T : Type 0} (stands : T → Run → Type 0) (first : T) (made n : ℕ) (now : T) : Type 0 where
+  pub here : (run : Run) → stands first run → run.made ≡ made → stands now (after run (made + n))
+  pub within : (run : Run) → stands first run → run.made ≡ made → made + n ≤ length run.events
 
-pub begins : {T : Type 0} (stands : T → Run → Type 0) (first : T) → Reached stands first 0 first
-begins stands first = record {
-  here = λ run at none. subst (λ n. stands first (after run n)) none at;
-  within = λ run at none. omega arith;
+pub begins : {T : Type 0} (stands : T → Run → Type 0) (first : T) (made : ℕ) → ((run : Run) → stands first run → run.made ≤ length run.events) → Reached stands first made 0 first
+begins stands first made within = record {
+  here = λ run at is. let none : run.made ≡ made + 0 = omega (arith, is) in subst (λ n. stands first (after run n)) none at;
+  within = λ run at is. let few = within run at in omega (arith, is, few);
 }
 
 -- all are made

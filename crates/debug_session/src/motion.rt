@@ -1,5 +1,5 @@
 // How a run goes on.
-ghost use Rattle.std.specs.Prelude.{◌≡◌, ◌<◌, ◌≤◌, ◌+◌, ◌||◌, [], None, OnOk, IfOk, is_some, length, option_map, unwrap_or};
+ghost use Rattle.std.specs.Prelude.{◌≡◌, ◌<◌, ◌≤◌, ◌+◌, ◌*◌, ◌/◌, ◌^◌, ◌||◌, [], None, OnOk, IfOk, is_some, length, option_map, unwrap_or};
 ghost use Rattle.spec_reference.specs.States.{has_number};
 ghost use Rattle.debug_session.specs.Rows.{is_free};
 ghost use Rattle.debug_session.specs.Runs as spec;
@@ -207,10 +207,12 @@ pub(crate) fn go_ahead<T: Target>(
     go_by_events(target, alloc, breaks, watches, steps)
 }
 
-// As many events more as are left, at most so many.
-fn advance_at_most<T: Target>(target: &mut T, count: u64) -> Result<(), AllocError>
-    ensures { OnOk result ((run : spec.Run) → T.stands target.old run → run.made ≡ 0 → T.stands target.new (spec.at_event count run)) }
+// On up to so many events, or to the last one.
+fn advance_up_to<T: Target>(target: &mut T, number: u64) -> Result<(), AllocError>
+    ensures { OnOk result ((run : spec.Run) → T.stands target.old run → run.made ≤ number → T.stands target.new (spec.at_event number run)) }
 {
+    let made = target.events_made();
+    let count = number.saturating_sub(made);
     'events: for _ in 0..count {
         if !target.is_left() {
             return Ok(());
@@ -220,7 +222,7 @@ fn advance_at_most<T: Target>(target: &mut T, count: u64) -> Result<(), AllocErr
     Ok(())
 }
 
-/// A run is made anew up to an event, or up to its last one.
+/// A run goes to the state after so many events, or after its last one.
 pub(crate) fn go_to<T: Target, R: Threads + Sync>(
     target: &mut T,
     host: &Host<'_, R>,
@@ -228,8 +230,8 @@ pub(crate) fn go_to<T: Target, R: Threads + Sync>(
 ) -> Result<(), AllocError>
     ensures { OnOk result ((run : spec.Run) → T.stands target.old run → T.stands target.new (spec.at_event number run)) }
 {
-    target.restart(host.rt, host.alloc)?;
-    advance_at_most(target, number)
+    target.rewind(host.rt, host.alloc, number)?;
+    advance_up_to(target, number)
 }
 
 fn is_hit(is_met: bool, change: Option<Change>) -> bool
@@ -254,8 +256,56 @@ fn advance_by<T: Target>(target: &mut T, count: u64) -> Result<(), AllocError>
     Ok(())
 }
 
+fn number_of(found: Option<Found>) -> u64
+    ensures { result ≡ spec.number_in found }
+{
+    match found {
+        Some(found) => found.made,
+        None => 0,
+    }
+}
+
+/// At most so many states are kept on the way of a search.
+const MOST_KEPT: u64 = 8;
+
+/// There are at least so many events from one state that is kept to the next.
+const LEAST_DISTANCE: u64 = 1 << 20;
+
+/// So many bytes of RAM are copied in about the time of one event.
+const BYTES_AN_EVENT: u64 = 64;
+
+// How many events there are from one state that is kept to the next, in a search over so many: few states are kept, seldom, and
+// what a copy of RAM costs is small beside the events.
+fn distance_of(count: u64, ram_bytes: usize) -> u64
+    ensures few { count < 8 * result }
+    ensures seldom { 2 ^ 20 ≤ result }
+    ensures small { ram_bytes / 64 ≤ result }
+{
+    let few = count / MOST_KEPT + 1;
+    let small = ram_bytes as u64 / BYTES_AN_EVENT;
+    few.max(LEAST_DISTANCE).max(small)
+}
+
+// The state after n events is kept where it is the next one to keep.
+#[inline(always)]
+fn keep_at<T: Target>(
+    target: &mut T,
+    alloc: Global,
+    n: u64,
+    next: &mut u64,
+    distance: u64,
+    last: u64,
+)
+    ensures { (run : spec.Run) → T.stands target.old run → T.stands target.new run }
+{
+    if n == *next {
+        target.keep(alloc, last);
+        *next = n.saturating_add(distance);
+    }
+}
+
 // The last place before so many events at which a break is met or the next event changes what is watched, from the first event on.
-// These events are made.
+// These events are made, and some states on the way are kept.
 fn last_hit<T: Target>(
     target: &mut T,
     alloc: Global,
@@ -269,7 +319,10 @@ fn last_hit<T: Target>(
         T.stands target.new (spec.after run count)) }
 {
     let mut last = None;
+    let distance = distance_of(count, target.ram().len());
+    let mut next = distance;
     'events: for n in 0..count {
+        keep_at(target, alloc, n, &mut next, distance, number_of(last));
         let is_met = meets_break(target, breaks);
         let change = advance_watching(target, alloc, watches)?;
         if is_hit(is_met, change) {
@@ -279,29 +332,20 @@ fn last_hit<T: Target>(
     Ok(last)
 }
 
-fn number_of(found: Option<Found>) -> u64
-    ensures { result ≡ spec.number_in found }
-{
-    match found {
-        Some(found) => found.made,
-        None => 0,
-    }
-}
-
-// A run is made anew, up to so many events.
-fn begin_again<T: Target, R: Threads + Sync>(
+// A run goes back to the state after so many events.
+fn return_to<T: Target, R: Threads + Sync>(
     target: &mut T,
     host: &Host<'_, R>,
     count: u64,
 ) -> Result<(), AllocError>
     ensures { OnOk result ((run : spec.Run) → T.stands target.old run → count ≤ length run.events → T.stands target.new (spec.after run count)) }
 {
-    target.restart(host.rt, host.alloc)?;
-    advance_by(target, count)
+    let made = target.rewind(host.rt, host.alloc, count)?;
+    advance_by(target, count - made)
 }
 
 // Back to the last place at which a break is met or a watched word is about to change. The run is made once up to where it was, to
-// find that place, and once more up to it.
+// find that place, and then again from the last state before it that was kept on the way.
 #[tactic(auto, unfolding(crate::specs::Runs::behind, crate::specs::Runs::back_number, crate::specs::Runs::found_behind))]
 fn go_to_hit<T: Target, R: Threads + Sync>(
     target: &mut T,
@@ -315,7 +359,7 @@ fn go_to_hit<T: Target, R: Threads + Sync>(
     let made = target.events_made();
     target.restart(host.rt, host.alloc)?;
     let found = last_hit(target, host.alloc, breaks, watches, made)?;
-    begin_again(target, host, number_of(found))?;
+    return_to(target, host, number_of(found))?;
     Ok(found)
 }
 
@@ -328,7 +372,7 @@ fn found_turn(number: Option<u64>) -> Option<Found>
     }
 }
 
-// One turn of a hart back. The order of events tells where that was, so the run is made once, up to there.
+// One turn of a hart back. The order of events tells where that was, so the run is made once at most, up to there.
 fn step_back<T: Target, R: Threads + Sync>(
     target: &mut T,
     host: &Host<'_, R>,
@@ -339,7 +383,7 @@ fn step_back<T: Target, R: Threads + Sync>(
     ensures found { IfOk result (λ found. (run : spec.Run) → T.stands target.old run → found ≡ option_map spec.found_turn (spec.last_turn hart run)) }
 {
     let number = target.last_turn(host.alloc, hart)?;
-    begin_again(target, host, number.unwrap_or(0))?;
+    return_to(target, host, number.unwrap_or(0))?;
     Ok(found_turn(number))
 }
 

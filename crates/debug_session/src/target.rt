@@ -16,7 +16,7 @@ use std::alloc::{AllocError, Global};
 use std::thread::Threads;
 use sv_types::{Counts, Note, Protection, Verdict};
 
-/// A run that is debugged. It can begin anew.
+/// A run that is debugged. It can begin anew, and go back to states that are kept.
 pub trait Target {
     /// It stands where a run is.
     ghost stands: { Self → Run → Type 0 };
@@ -97,4 +97,21 @@ pub trait Target {
     fn restart<R: Threads + Sync>(&mut self, rt: &R, alloc: Global) -> Result<(), AllocError>
         requires { IsSync R.row }
         ensures { OnOk result ((run : Run) → stands self.old run → stands self.new (after run 0)) };
+
+    /// May keep the state that it is in, to go back there. `last` is the number of events at the last place so far that a search
+    /// may lead back to: of two states that are kept after that many events at most, the later one is of use. Where memory runs
+    /// out, nothing is kept.
+    fn keep(&mut self, alloc: Global, last: u64)
+        ensures { (run : Run) → stands self.old run → stands self.new run };
+
+    /// Goes to a state after at most so many events: to one that is kept, or to the beginning. Answers how many are made there.
+    fn rewind<R: Threads + Sync>(
+        &mut self,
+        rt: &R,
+        alloc: Global,
+        number: u64,
+    ) -> Result<u64, AllocError>
+        requires { IsSync R.row }
+        ensures few { IfOk result (λ made. made ≤ number) }
+        ensures there { IfOk result (λ made. (run : Run) → stands self.old run → stands self.new (after run made)) };
 }

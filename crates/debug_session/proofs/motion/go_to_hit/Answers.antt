@@ -17,5 +17,5 @@ returns-clause-moved g c = λ run stands.
     let number : c.number_of.result ≡ unwrap_or (last_below p run.made) 0 =
     c.number_of.ensures ∙ ap number_in (found ∙ ap (λ n. option_map (found_at watches run) (last_below p n)) made) ∙ number_found watches run (last_below p run.made) in
     let small : unwrap_or (last_below p run.made) 0 ≤ run.made = last_small p run.made in
-    let there = c.in_ok-begin_again.ensures (after run c.events_made-made.result) (c.in_ok-found.ensures.moved run anew few) (omega (arith, number, small, within)) in
-    subst (λ m. g.T.Target.stands c.begin_again.new.target (after run m)) number there
+    let there = c.in_ok-return_to.ensures (after run c.events_made-made.result) (c.in_ok-found.ensures.moved run anew few) (omega (arith, number, small, within)) in
+    subst (λ m. g.T.Target.stands c.return_to.new.target (after run m)) number there

@@ -8,8 +8,8 @@ pub returns-clause-moved : goal.returns-clause-moved
 returns-clause-moved g c = λ run stands.
     let number : c.unwrap_or.result ≡ unwrap_or (last_turn c.args.hart run) 0 = c.unwrap_or.ensures ∙ ap (λ n. unwrap_or n 0) (c.in_ok-number.ensures run stands) in
     let within : unwrap_or (last_turn c.args.hart run) 0 ≤ length run.events = last_turn_within c.args.hart run in
-    let there = c.in_ok-begin_again.ensures run stands (omega (arith, number, within)) in
-    subst (λ (n : ℕ). g.T.Target.stands c.begin_again.new.target (after run n)) number there
+    let there = c.in_ok-return_to.ensures run stands (omega (arith, number, within)) in
+    subst (λ (n : ℕ). g.T.Target.stands c.return_to.new.target (after run n)) number there
 
 pub returns-clause-found : goal.returns-clause-found
 returns-clause-found g c = λ run stands. c.found_turn.ensures ∙ ap (option_map found_turn) (c.in_ok-number.ensures run stands)
