@@ -2,7 +2,7 @@
 use Rattle.std.proofs.Common.{◌≡◌, ℕ, zero, suc, ◌-◌, ◌<◌, List, [], ◌∷◌, ◌++◌, length, ◌==◌, take, drop, replicate, refl, sym, ◌∙◌, ap, subst, arith, if◌then◌else◌, true, Result, Ok, Err}
 use Rattle.std.specs.Prelude.{OnOk, is_ok}
 use Rattle.std.proofs.lemmas.Bool.{eqb-true}
-use Rattle.std.proofs.lemmas.List.{append-nil}
+use Rattle.std.proofs.lemmas.List.{append-nil, append_assoc}
 use Rattle.sv_types.specs.declared.event.Event.{Event}
 use Rattle.sv_types.specs.declared.event.Verdict.TheVariants.{Running}
 use Rattle.spec_reference.specs.Counting.{CountsAtMost}
@@ -14,6 +14,8 @@ use Rattle.spec_hardware.specs.StandsFor.{StandsFor}
 use Rattle.machine.specs.Repeats.{GoesOn, Repeats}
 use Rattle.machine.specs.Standing.{Stands}
 use Rattle.machine.proofs.Standing.{stands_away, stands_step, verdict_is}
+use Rattle.cli_debug.specs.Debugged.{StandsIn}
+use Rattle.cli_debug.proofs.AlikeStates.{alike_run}
 
 run_end : (e : Event) (n : ℕ) (r : State) → run r (replicate (suc n) e) ≡ step (run r (replicate n e)) e
 run_end e zero r = refl
@@ -59,13 +61,20 @@ take_all_dropped (suc n) [] none = refl
 take_all_dropped (suc n) (b ∷ bytes) none = ap (λ (rest : List ℕ). b ∷ rest) (take_all_dropped n bytes none)
 
 stands_after : (n : ℕ) (m next after : Machine) (r : State) (console : List ℕ) (e : Event) → Repeats n m e next → Cleared next after → after.journal.printed ≡ [] →
-    Stands m console r → Stands after (console ++ next.journal.printed) (run r (replicate n e))
-stands_after n m next after r console e repeats cleared none s =
-    stands_away next after (run r (replicate n e)) console next.journal.printed (stands_row n m next r console e s repeats)
-    (record {
-      cleared = cleared;
-      away = take_all_dropped cleared.taken next.journal.printed (sym (ap (λ (x : Machine). x.journal.printed) cleared.same) ∙ none);
-    })
+    StandsIn m console r → StandsIn after (console ++ next.journal.printed) (run r (replicate n e))
+stands_after n m next after r console e repeats cleared none s = record {
+  front = s.front;
+  rest = s.rest ++ next.journal.printed;
+  like = run s.like (replicate n e);
+  alike = alike_run s.front r s.like (replicate n e) s.alike;
+  here =
+      stands_away next after (run s.like (replicate n e)) s.rest next.journal.printed (stands_row n m next s.like s.rest e s.here repeats)
+      (record {
+        cleared = cleared;
+        away = take_all_dropped cleared.taken next.journal.printed (sym (ap (λ (x : Machine). x.journal.printed) cleared.same) ∙ none);
+      });
+  console_is = ap (λ (xs : List ℕ). xs ++ next.journal.printed) s.console_is ∙ append_assoc s.front s.rest next.journal.printed;
+}
 
 pub counts_same : (n : ℕ) (next after : Machine) → Cleared next after → CountsAtMost n next.journal.counts → CountsAtMost n after.journal.counts
 counts_same n next after cleared most = subst (λ (x : Machine). CountsAtMost n x.journal.counts) (sym cleared.same) most
@@ -73,9 +82,9 @@ counts_same n next after cleared most = subst (λ (x : Machine). CountsAtMost n 
 -- where the console took the bytes
 pub told_stands : {A E : Type 0} (n : ℕ) (m next after : Machine) (console now : List ℕ) (e : Event) (told : Result A E) → Repeats n m e next → Cleared next after →
     after.journal.printed ≡ [] → now ≡ (if is_ok told then console ++ next.journal.printed else console) →
-    OnOk told ((r : State) → Stands m console r → Stands after now (run r (replicate n e)))
+    OnOk told ((r : State) → StandsIn m console r → StandsIn after now (run r (replicate n e)))
 told_stands n m next after console now e (Ok done) repeats cleared none pushed = λ r s.
-    subst (λ xs. Stands after xs (run r (replicate n e))) (sym pushed) (stands_after n m next after r console e repeats cleared none s)
+    subst (λ xs. StandsIn after xs (run r (replicate n e))) (sym pushed) (stands_after n m next after r console e repeats cleared none s)
 told_stands n m next after console now e (Err error) repeats cleared none pushed = tt
 
 -- nothing was printed

@@ -1,3 +1,6 @@
+pub mod AlikeStates
+pub mod Keeping
+pub mod Shelving
 pub mod EventRows
 pub mod Drawing
 pub mod Turning

@@ -1,5 +1,7 @@
 pub mod Upcoming
 pub mod Turns
+pub mod Keeping
+pub mod Shelves
 pub mod Debugged
 pub mod Debugging
 pub mod Accepting

@@ -5,17 +5,23 @@ ghost use Rattle.sv_types.specs.Limits.{max_events};
 ghost use Rattle.spec_reference.specs.Counting.{CountsAtMost};
 ghost use Rattle.cli_debug.specs.Upcoming.{most_upcoming};
 
-use crate::target::beginning::Beginning;
-use crate::target::stepping::{after_row, draw, make_row, row_asked, turning};
+use crate::target::beginning::{Beginning, Begun};
+use crate::target::kept::Kept;
+use crate::target::shelf::Shelf;
+use crate::target::stepping::{after_row, draw, draw_after, make_row, row_asked, turning};
 use crate::target::turns::last_turn_in;
 use debug_session::{Place, Target};
 use machine::Machine;
 use script::{EventRun, Script};
+use snapshot_format::TextPage;
 use spec_processor::Lines;
 use spec_reference::saved_machine::SavedHart;
 use std::alloc::{AllocError, Global};
 use std::thread::Threads;
 use sv_types::{Counts, Note, Protection, Verdict};
+
+/// Of a machine with more bytes of RAM than these no state is kept.
+const MOST_KEPT_RAM: usize = 256 << 20;
 
 /// A machine that is debugged: where its run begins, and where it stands.
 #[derive(Drop)]
@@ -33,6 +39,10 @@ pub struct DebuggedMachine<B: Drop> {
     made: u64,
     // All bytes that the console printed.
     console: Vec<u8>,
+    // The text that the machine began with.
+    text: Vec<TextPage>,
+    // The states that are kept.
+    shelf: Shelf,
     ghost none: { machine.journal.printed ≡ [] },
     ghost some: { IfSome next (λ row. 0 < row.count) } by { Prim.hlevel props },
     ghost counts: { CountsAtMost made machine.journal.counts },
@@ -57,7 +67,7 @@ impl<B: Beginning + Drop> DebuggedMachine<B> {
         ensures { IfOk result (λ t. StandsAt B.kernel B.start B.schedule t
             (run_from (B.kernel beginning) (B.start beginning) (first_events events (B.schedule beginning)))) }
     {
-        let machine = beginning.machine(rt, alloc)?;
+        let Begun { machine, text } = beginning.begin(rt, alloc)?;
         let mut script = beginning.script(alloc)?;
         let (next, left) = draw(&mut script, events);
         Ok(DebuggedMachine {
@@ -69,6 +79,8 @@ impl<B: Beginning + Drop> DebuggedMachine<B> {
             left,
             made: 0,
             console: Vec::new(alloc),
+            text,
+            shelf: Shelf::new(),
         })
     }
 }
@@ -160,7 +172,7 @@ impl<B: Beginning + Drop> Target for DebuggedMachine<B> {
     }
 
     fn restart<R: Threads + Sync>(&mut self, rt: &R, alloc: Global) -> Result<(), AllocError> {
-        let machine = self.beginning.machine(rt, alloc)?;
+        let Begun { machine, .. } = self.beginning.begin(rt, alloc)?;
         let mut script = self.beginning.script(alloc)?;
         let (next, left) = draw(&mut script, self.events);
         self.machine = machine;
@@ -170,5 +182,39 @@ impl<B: Beginning + Drop> Target for DebuggedMachine<B> {
         self.made = 0;
         self.console.clear();
         Ok(())
+    }
+
+    #[inline(never)]
+    fn keep(&mut self, alloc: Global, last: u64) {
+        if self.machine.ram().len() > MOST_KEPT_RAM {
+            return;
+        }
+        if let Ok(kept) = Kept::of(alloc, &self.machine, &self.text, self.made, &self.console) {
+            self.shelf.add(kept, last);
+        }
+    }
+
+    fn rewind<R: Threads + Sync>(
+        &mut self,
+        rt: &R,
+        alloc: Global,
+        number: u64,
+    ) -> Result<u64, AllocError> {
+        let Some(kept) = self.shelf.latest(number.min(self.events)) else {
+            self.restart(rt, alloc)?;
+            return Ok(0);
+        };
+        let made = kept.made();
+        let machine = kept.machine(rt, alloc, &self.beginning)?;
+        let console = kept.console(alloc)?;
+        let script = self.beginning.script(alloc)?;
+        let (script, next, left) = draw_after(script, self.events, made);
+        self.machine = machine;
+        self.script = script;
+        self.next = next;
+        self.left = left;
+        self.made = made;
+        self.console = console;
+        Ok(made)
     }
 }

@@ -8,10 +8,12 @@ ghost use Rattle.spec_reference.specs.States.{State};
 ghost use Rattle.spec_hardware.specs.Reaches.{Cleared};
 ghost use Rattle.spec_hardware.specs.StandsFor.{StandsFor};
 ghost use Rattle.machine.specs.Limits.{max_counts};
-ghost use Rattle.machine.specs.Standing.{Stands};
 ghost use Rattle.debug_session.specs.Runs.{turning};
+ghost use Rattle.cli_snap.specs.ResumePlans.{events_after};
+ghost use Rattle.cli_debug.specs.Debugged.{StandsIn};
 ghost use Rattle.cli_debug.specs.Upcoming.{most_upcoming, next_of, upcoming};
 
+use cli_snap::resume::events_left;
 use machine::Machine;
 use script::{EventRun, Script};
 use std::alloc::AllocError;
@@ -29,8 +31,8 @@ pub(crate) fn make_row(
     requires few { count ≤ max_counts }
     requires none { machine.old.journal.printed ≡ [] }
     requires counts { CountsAtMost (max_counts - count) machine.old.journal.counts }
-    ensures stands { OnOk result.1 ((r : State) → Stands machine.old console.old.items r →
-        Stands machine.new console.new.items (run r (replicate result.0 event))) }
+    ensures stands { OnOk result.1 ((r : State) → StandsIn machine.old console.old.items r →
+        StandsIn machine.new console.new.items (run r (replicate result.0 event))) }
     ensures running { (r : State) → StandsFor machine.old r → machine.old.journal.verdict ≡ Running → (k : ℕ) → k < result.0 →
         (run r (replicate k event)).journal.verdict ≡ Running }
     ensures none { machine.new.journal.printed ≡ [] }
@@ -94,6 +96,17 @@ pub(crate) fn draw(script: &mut Script, left: u64) -> (Option<EventRun>, u64)
         return (None, 0);
     };
     (Some(row), left - row.count)
+}
+
+/// The same of a script whose first `made` events were made before, with the script after it.
+pub(crate) fn draw_after(script: Script, events: u64, made: u64) -> (Script, Option<EventRun>, u64)
+    ensures same { upcoming result.1 result.2 result.0 ≡ events_after made events script }
+    ensures fewer { most_upcoming result.1 result.2 ≤ events - made }
+    ensures some { IfSome result.1 (λ row. 0 < row.count) }
+{
+    let mut left = events_left(script, made, events);
+    let (next, more) = draw(&mut left.script, left.events);
+    (left.script, next, more)
 }
 
 /// What is at hand after so many of the events at hand takes their place.

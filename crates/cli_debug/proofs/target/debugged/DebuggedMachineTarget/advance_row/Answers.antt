@@ -1,7 +1,8 @@
-use Rattle.std.proofs.Common.{rules, ◌≡◌, ◌+◌, ◌≤◌, length, drop, sym, ◌∙◌, ap, subst, arith, Some}
-use Rattle.machine.specs.Standing.{Stands}
+use Rattle.std.proofs.Common.{rules, ◌≡◌, ◌+◌, ◌≤◌, length, drop, replicate, sym, ◌∙◌, ap, subst, arith, Some}
 use Rattle.debug_session.specs.Runs.{state}
+use Rattle.cli_debug.specs.Debugged.{StandsIn}
 use Rattle.cli_debug.specs.Upcoming.{most_upcoming, upcoming}
+use Rattle.cli_debug.proofs.AlikeStates.{alike_running}
 use Rattle.cli_debug.proofs.Standings.{left_by, none_is_left, left_after, running_after, state_after, within_after, where_ok}
 use Rattle.cli_debug.proofs.target.debugged.DebuggedMachineTarget.advance_row.Goals as goal
 
@@ -41,11 +42,15 @@ returns-clause-row g c = λ run at within.
         made_are = ap (λ n. n + count) at.made_are;
         within = within_after row c.args.self.now.left c.args.self.now.script run count is few at.within;
         here =
-            subst (λ s. Stands c.make_row-count.new.machine c.make_row-count.new.console.items s) (sym (state_after row c.args.self.now.left c.args.self.now.script run count is few))
+            subst (λ s. StandsIn c.make_row-count.new.machine c.make_row-count.new.console.items s) (sym (state_after row c.args.self.now.left c.args.self.now.script run count is few))
             (stands (state run) at.here);
         left_are = c.after_row.ensures.same ∙ left_after row c.args.self.now.left c.args.self.now.script run count is;
+        measured = at.measured;
+        text_is = at.text_is;
+        kept = at.kept;
       };
       running = running_after row c.args.self.now.left c.args.self.now.script run count is few
-          (λ k some below. c.make_row-count.ensures.running (state run) at.here.stands
-          (sym c.verdict.ensures ∙ c.row_asked-asked.ensures.running (omega (arith, some, below, c.make_row-count.ensures.most))) k below);
+          (λ k some below. alike_running at.here.front (state run) at.here.like (replicate k row.event) at.here.alike
+          (c.make_row-count.ensures.running at.here.like at.here.here.stands
+          (sym c.verdict.ensures ∙ c.row_asked-asked.ensures.running (omega (arith, some, below, c.make_row-count.ensures.most))) k below));
     }

@@ -1,7 +1,8 @@
-use Rattle.std.proofs.Common.{◌∙◌}
+use Rattle.std.proofs.Common.{◌∙◌, ap}
+use Rattle.spec_reference.specs.States.{State}
 use Rattle.machine.proofs.Standing.{stands_notes}
-use Rattle.debug_session.specs.Runs.{state}
 use Rattle.cli_debug.proofs.target.debugged.DebuggedMachineTarget.notes.Goals as goal
 
 pub returns : goal.returns
-returns g c = λ run at. c.journal.ensures ∙ stands_notes c.args.self.now.machine (state run) c.args.self.now.console.items at.here
+returns g c = λ run at.
+    c.journal.ensures ∙ stands_notes c.args.self.now.machine at.here.like at.here.rest at.here.here ∙ ap (λ (r : State). r.journal.notes) at.here.alike.rest
