@@ -1,17 +1,20 @@
 -- Where a regime leads is where the core's addresses are translated.
 use Rattle.std.proofs.Common.{◌≡◌, ℕ, ◌%◌, ◌^◌, ◌<◌, ◌≤◌, length, refl, sym, ◌∙◌, ap, subst}
-use Rattle.std.specs.Prelude.{Option, Some, None, IfSome, Result, Ok, Err}
+use Rattle.std.specs.Prelude.{false, Option, Some, None, IfSome, Result, Ok, Err}
 use Rattle.spec_processor.specs.Hardware.{Core}
 use Rattle.spec_processor.specs.HardwareMemory.{settings_at, place_or_exception, translation_result}
 use Rattle.spec_processor.specs.Regions.{Region, IsRegion, IsWidth, IsHostPlace}
 use Rattle.spec_processor.specs.GStage.{two_stages, WalksApart}
-use Rattle.spec_processor.specs.Translation.{Settings}
+use Rattle.spec_processor.specs.Translation.{Settings, first_stage, permits_access}
 use Rattle.spec_processor.specs.declared.access.Access.{Access}
+use Rattle.spec_processor.specs.declared.access.Access.TheVariants.{Fetch}
 use Rattle.spec_processor.specs.declared.mode.Mode.{Mode}
+use Rattle.spec_processor.specs.declared.mode.Mode.TheVariants.{Kernel, User}
 use Rattle.spec_processor.specs.declared.translation.Fault.{Fault}
 use Rattle.spec_processor.specs.declared.translation.Place.{Place}
 use Rattle.sv39_walk.specs.Regimes.{settings_of}
 use Rattle.sv39_walk.specs.declared.first_stage.Regime.{Regime}
+use Rattle.hw_fast_path.specs.Reaching.{LeadsAlike}
 use Rattle.hw_tlb.specs.Kept.{host_of, leads_under}
 use Rattle.hart.proofs.Places.{stages_place, stages_after}
 use Rattle.laws_processor.proofs.Walks.{apart_inside}
@@ -25,15 +28,30 @@ host_place : (p : Result Place Fault) (hpa : ℕ) → host_of p ≡ Some hpa →
 host_place (Ok place) hpa e = (place, (refl, cc))
 host_place (Err fault) hpa e = absurd (cc)
 
-pub leads_translated : (r : Region) (core : Core) (regime : Regime) (access : Access) (va hpa htinst : ℕ) → regime.hgatp ≡ core.hregs.hgatp
-    → regime.mode ≡ core.hregs.mode → settings_of regime ≡ settings_at core → leads_under r regime access va ≡ Some hpa → translation_result r core access va htinst ≡ Ok hpa
+-- ---- a regime in place of the core's registers
+
+grants_alike : (s t : Settings) (mode : Mode) → permits_access s mode Fetch ≡ permits_access t mode Fetch
+unfolding permits_access
+grants_alike s t Kernel = refl
+grants_alike s t User = refl
+
+stages_alike : (r : Region) (hgatp va : ℕ) (s t : Settings) (mode : Mode) → s.satp ≡ t.satp → two_stages r hgatp s mode va Fetch ≡ two_stages r hgatp t mode va Fetch
+unfolding two_stages first_stage permits_access
+stages_alike r hgatp va s t mode satp = rw (satp, grants_alike s t mode) refl
+
+-- without SUM and MXR a fetch is led as with them
+pub fetch_alike : (core : Core) (whole : Regime) → whole.hgatp ≡ core.hregs.hgatp → whole.mode ≡ core.hregs.mode → settings_of whole ≡ settings_at core
+    → LeadsAlike core Fetch (record whole { sum = false; mxr = false })
+fetch_alike core whole hgatp mode settings = λ r va.
+    stages_alike r whole.hgatp va (record (settings_of whole) { sum = false; mxr = false }) (settings_of whole) whole.mode refl
+    ∙ (rw (hgatp, mode, settings) refl)
+
+pub leads_translated : (r : Region) (core : Core) (regime : Regime) (access : Access) (va hpa htinst : ℕ) → LeadsAlike core access regime
+    → leads_under r regime access va ≡ Some hpa → translation_result r core access va htinst ≡ Ok hpa
 unfolding translation_result
-leads_translated r core regime access va hpa htinst hgatp mode settings leads =
+leads_translated r core regime access va hpa htinst alike leads =
     let found = host_place (two_stages r regime.hgatp (settings_of regime) regime.mode va access) hpa leads in
-    ap (λ (h : ℕ). place_or_exception access va htinst (two_stages r h (settings_at core) core.hregs.mode va access)) (sym hgatp)
-    ∙ ap (λ (s : Settings). place_or_exception access va htinst (two_stages r regime.hgatp s core.hregs.mode va access)) (sym settings)
-    ∙ ap (λ (m : Mode). place_or_exception access va htinst (two_stages r regime.hgatp (settings_of regime) m va access)) (sym mode)
-    ∙ ap (place_or_exception access va htinst) found.1.0 ∙ ap Ok found.1.1
+    ap (place_or_exception access va htinst) (sym (alike r va) ∙ found.1.0) ∙ ap Ok found.1.1
 
 -- a word of a width that divides the address may be read and written there
 pub leads_place : (r : Region) (regime : Regime) (access : Access) (va hpa n : ℕ) → IsRegion r → WalksApart r regime.hgatp → va < 2 ^ 64

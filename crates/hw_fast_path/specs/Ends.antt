@@ -23,7 +23,5 @@ turns_of batch = with_leaving batch.left batch.made
 
 -- the row that a turn by itself is
 abbrev pub batch_of : LoneTurn → Batch
-batch_of LoneTurn.Stopped = record { made = 0; left = Stays }
 batch_of LoneTurn.Made = record { made = 1; left = Stays }
-batch_of LoneTurn.Calls = record { made = 0; left = Calls }
-batch_of LoneTurn.Returns = record { made = 0; left = Returns }
+batch_of (LoneTurn.Left left) = record { made = 0; left = left }

@@ -101,51 +101,27 @@ impl Batch {
     }
 }
 
-// What became of a turn by itself: a row of at most one, in a byte.
+// What became of a turn by itself: a row of at most one.
 #[derive(Clone, Copy, Drop)]
 enum LoneTurn {
-    // It wasn't made.
-    Stopped,
     // Its instruction was carried out.
     Made,
-    // It left the guest by ECALL in user mode.
-    Calls,
-    // It left the guest by SRET in kernel mode.
-    Returns,
+    // It wasn't, and the hart left the guest so, or stays.
+    Left(Leaving),
 }
 
 impl LoneTurn {
-    // A turn that carried out nothing.
-    #[inline(always)]
-    fn left(by: Leaving) -> LoneTurn
-        ensures { batch_of result ≡ record { made = 0; left = by } }
-    {
-        match by {
-            Leaving::Stays => LoneTurn::Stopped,
-            Leaving::Calls => LoneTurn::Calls,
-            Leaving::Returns => LoneTurn::Returns,
-        }
-    }
-
     // The row that it is.
     #[inline(always)]
     fn batch(self) -> Batch
         ensures { result ≡ batch_of self }
     {
         match self {
-            LoneTurn::Stopped => Batch::none(),
             LoneTurn::Made => Batch {
                 made: 1,
                 left: Leaving::Stays,
             },
-            LoneTurn::Calls => Batch {
-                made: 0,
-                left: Leaving::Calls,
-            },
-            LoneTurn::Returns => Batch {
-                made: 0,
-                left: Leaving::Returns,
-            },
+            LoneTurn::Left(left) => Batch { made: 0, left },
         }
     }
 }
@@ -207,13 +183,13 @@ fn one_turn(
     ensures reach { ReachAgrees mem.new.tables caches.new.both }
 {
     let Some(word) = word_at_pc(core, regs, caches, mem) else {
-        return LoneTurn::Stopped;
+        return LoneTurn::Left(Leaving::Stays);
     };
     let tried = carry_out::<Alone>(core, regs, caches, mem, words.micro_op(core.pc, word));
     if tried.is_made() {
         return LoneTurn::Made;
     }
-    LoneTurn::left(leave_by(core, regs, word))
+    LoneTurn::Left(leave_by(core, regs, word))
 }
 
 /// Up to `most` turns of a hart in a row, each of whose attempts carries out its instruction, and one after them that leaves

@@ -3,16 +3,19 @@
 ghost use Rattle.std.specs.Prelude.{◌≡◌, ◌==◌, ◌≤◌, ℕ, ◌%◌, length, IfSome, Ok};
 ghost use Rattle.spec_processor.specs.Regions.{IsWidth, IsHostPlace};
 ghost use Rattle.spec_processor.specs.GStage.{WalksApart};
+ghost use Rattle.spec_processor.specs.Roots.{IsFirstStageRoot};
 ghost use Rattle.spec_processor.specs.CachedWalks.{CacheAgrees};
 ghost use Rattle.spec_processor.specs.HardwareMemory.{translation_result, aligned_translation};
 ghost use Rattle.hart.specs.Cores.{core_of};
 ghost use Rattle.hw_tlb.specs.Kept.{ReachAgrees};
 ghost use Rattle.hw_fast_path.specs.Quick.{MayTranslate, Translated};
+ghost use Rattle.hw_fast_path.specs.Reaching.{LeadsAlike};
 
 use hart::{Core, regime};
 use host_mem::HostMem;
 use hw_tlb::HartCaches;
 use spec_processor::{Access, BARE, HRegs, ROOT_MODE_SHIFT};
+use sv39_walk::Regime;
 
 /// An access to so many bytes at a virtual address.
 #[derive(Clone, Copy, Drop)]
@@ -20,6 +23,25 @@ pub(crate) struct Reference {
     pub(crate) access: Access,
     pub(crate) address: u64,
     pub(crate) width: u8,
+}
+
+// What the translation of such an access goes by. SUM and MXR decide loads and stores alone, so that fetches are found
+// without a look at them.
+#[inline(always)]
+fn regime_for(core: &Core, regs: &HRegs, access: Access) -> Regime
+    ensures hgatp { result.hgatp ≡ regs.now.hgatp }
+    ensures alike { LeadsAlike (core_of core.now regs.now) access result }
+    ensures first { IsFirstStageRoot result.vsatp }
+{
+    let whole = regime(core, regs);
+    match access {
+        Access::Fetch => Regime {
+            sum: false,
+            mxr: false,
+            ..whole
+        },
+        Access::Load | Access::Store => whole,
+    }
 }
 
 // The host place of a virtual address by a walk, kept out of the way of addresses whose translation is held. It is handed
@@ -43,7 +65,7 @@ fn walk_to(
     caches.both.walk(
         &mut caches.second,
         mem,
-        &regime(core, regs),
+        &regime_for(core, regs, access),
         address,
         access,
     )
@@ -75,7 +97,7 @@ fn held_place(
     } else {
         caches.both.held_place(
             mem,
-            &regime(core, regs),
+            &regime_for(core, regs, reference.access),
             reference.address,
             reference.access,
         )

@@ -222,9 +222,10 @@ impl Machine {
         ensures free { result ≡ true → AreFree self.new.harts }
         ensures same { self.new ≡ self.old }
     {
-        if !self.none_reserved {
-            self.none_reserved = self.system.are_free();
+        if self.none_reserved {
+            return true;
         }
+        self.none_reserved = self.system.are_free();
         self.none_reserved
     }
 

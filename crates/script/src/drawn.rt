@@ -1,6 +1,6 @@
 // What is drawn by the numbers of a generator.
 
-ghost use Rattle.std.specs.Prelude.{◌≡◌, ◌%◌, ◌≤◌};
+ghost use Rattle.std.specs.Prelude.{◌≡◌, ◌%◌, ◌≤◌, ℕ, false};
 ghost use Rattle.sv_types.specs.Schedule.{next_random, drawn_hart, event_among, drawn_event, burst_length};
 ghost use Rattle.script.specs.HartCounts.{IsHartCount};
 ghost use Rattle.script.specs.TurnNumbers.{is_turn, DrawTurns};
@@ -64,28 +64,50 @@ pub(crate) fn drawn_hart(harts: u8, number: u64) -> u8
     hart_among(harts, number >> HART_SHIFT)
 }
 
-/// The event that a number draws: a turn of a hart, a beat or ticks.
+// A number draws a turn.
 #[inline(always)]
-pub(crate) fn event_among(hart: u8, number: u64) -> Event
-    ensures { result ≡ event_among hart number }
+fn is_turn(number: u64) -> bool
+    ensures { result ≡ is_turn number }
 {
-    let kind = number >> KIND_SHIFT;
-    if kind < FIRST_BEAT {
-        Event::Turn(hart)
-    } else if kind < FIRST_TICKS {
+    number >> KIND_SHIFT < FIRST_BEAT
+}
+
+// The event that a number draws which draws no turn: a beat or ticks.
+#[inline(always)]
+fn event_of_no_hart(number: u64) -> Event
+    requires { is_turn number ≡ false }
+    ensures { (hart : ℕ) → result ≡ event_among hart number }
+{
+    if number >> KIND_SHIFT < FIRST_TICKS {
         Event::Beat
     } else {
         Event::Tick(DRAWN_TICKS)
     }
 }
 
-/// The event that a number draws, its hart too.
+/// The event that a number draws: a turn of a hart, a beat or ticks.
+#[inline(always)]
+pub(crate) fn event_among(hart: u8, number: u64) -> Event
+    ensures { result ≡ event_among hart number }
+{
+    if is_turn(number) {
+        Event::Turn(hart)
+    } else {
+        event_of_no_hart(number)
+    }
+}
+
+/// The event that a number draws, its hart too, which is drawn for turns alone.
 #[inline(always)]
 pub(crate) fn drawn_event(harts: u8, number: u64) -> Event
     requires harts { IsHartCount harts }
     ensures { result ≡ drawn_event harts number }
 {
-    event_among(drawn_hart(harts, number), number)
+    if is_turn(number) {
+        Event::Turn(drawn_hart(harts, number))
+    } else {
+        event_of_no_hart(number)
+    }
 }
 
 /// How many events the burst has that a number draws.
@@ -101,12 +123,6 @@ pub(crate) fn burst_length(number: u64) -> u64
 pub(crate) struct TurnsAhead {
     pub count: u64,
     pub number: u64,
-}
-
-fn is_turn(number: u64) -> bool
-    ensures { result ≡ is_turn number }
-{
-    number >> KIND_SHIFT < FIRST_BEAT
 }
 
 /// The turns that are drawn after a number as long as the next event is one, at most so many.

@@ -1,9 +1,7 @@
-use Rattle.std.proofs.Common.{◌≤◌, sym, subst, refl, ◌∙◌, arith}
+use Rattle.std.proofs.Common.{sym, refl, ◌∙◌, arith}
 use Rattle.hart.specs.Cores.{core_of}
-use Rattle.hw_fast_path.specs.Ends.{turns_of}
-use Rattle.hw_fast_path.specs.declared.batch.Batch.{Batch as Made}
 use Rattle.hw_fast_path.specs.declared.leaving.Leaving.TheVariants.{Stays}
-use Rattle.hw_fast_path.proofs.Exits.{Ends, comes_fetched, goes_left, leaving_within, left_at_once, made_at_once, none_made}
+use Rattle.hw_fast_path.proofs.Exits.{comes_fetched, goes_left, leaving_within, left_at_once, made_at_once, none_made}
 use Rattle.hw_fast_path.proofs.Going.{turned_after}
 use Rattle.hw_fast_path.proofs.batch.one_turn.Goals as goal
 
@@ -24,17 +22,15 @@ returns-then-is_made-clause-on c =
 
 pub returns-clause-ends : goal.returns-clause-ends
 returns-clause-ends c =
-    subst (λ (b : Made). Ends b.left b.made c.args.mem.now (core_of c.args.core.now c.args.regs.now) c.carry_out-tried.new.mem (core_of c.leave_by.new.core c.args.regs.now))
-    (sym c.left.ensures)
-    (left_at_once c.leave_by.result c.carry_out-tried.result c.args.mem.now c.carry_out-tried.new.mem (core_of c.args.core.now c.args.regs.now)
+    left_at_once c.leave_by.result c.carry_out-tried.result c.args.mem.now c.carry_out-tried.new.mem (core_of c.args.core.now c.args.regs.now)
     (core_of c.carry_out-tried.new.core c.args.regs.now) (core_of c.leave_by.new.core c.args.regs.now) c.in-Some.word
     (sym c.is_made.ensures ∙ c.if-is_made.false) c.in-Some.ensures.fetched
     (comes_fetched c.carry_out-tried.result c.args.mem.now c.carry_out-tried.new.mem (core_of c.args.core.now c.args.regs.now) (core_of c.carry_out-tried.new.core c.args.regs.now)
     c.in-Some.word _ c.in-Some.ensures.fetched c.micro_op.ensures c.carry_out-tried.ensures.comes)
-    c.leave_by.ensures.comes)
+    c.leave_by.ensures.comes
 
 pub returns-clause-most : goal.returns-clause-most
-returns-clause-most c = subst (λ (b : Made). turns_of b ≤ 1) (sym c.left.ensures) (leaving_within c.leave_by.result 0 1 (omega arith))
+returns-clause-most c = leaving_within c.leave_by.result 0 1 (omega arith)
 
 pub returns-clause-on : goal.returns-clause-on
 returns-clause-on c =

@@ -22,21 +22,21 @@ returns-then-core-eq-BARE-clause-place c =
 pub returns-else-core-eq-BARE-clause-value : goal.returns-else-core-eq-BARE-clause-value
 returns-else-core-eq-BARE-clause-value c =
     some_further c.held_place-else-core-eq-BARE.result
-    (λ hpa leads htinst. leads_translated c.args.mem.now (core_of c.args.core.now c.args.regs.now) c.regime.result c.args.reference.access c.args.reference.address hpa htinst
-    c.regime.ensures.hgatp c.regime.ensures.mode c.regime.ensures.settings leads)
+    (λ hpa leads htinst. leads_translated c.args.mem.now (core_of c.args.core.now c.args.regs.now) c.regime_for.result c.args.reference.access c.args.reference.address hpa htinst
+    c.regime_for.ensures.alike leads)
     c.held_place-else-core-eq-BARE.ensures.leads
 
 pub returns-else-core-eq-BARE-clause-place : goal.returns-else-core-eq-BARE-clause-place
 returns-else-core-eq-BARE-clause-place c =
-    let apart : WalksApart c.args.mem.now c.regime.result.hgatp = rw c.regime.ensures.hgatp c.requires.apart in
+    let apart : WalksApart c.args.mem.now c.regime_for.result.hgatp = rw c.regime_for.ensures.hgatp c.requires.apart in
     some_further c.held_place-else-core-eq-BARE.result
-    (λ hpa leads width is_width aligned. leads_place c.args.mem.now c.regime.result c.args.reference.access c.args.reference.address hpa width
+    (λ hpa leads width is_width aligned. leads_place c.args.mem.now c.regime_for.result c.args.reference.access c.args.reference.address hpa width
     c.table_bytes-table_bytes.ensures.region apart (omega arith) leads is_width aligned)
     c.held_place-else-core-eq-BARE.ensures.leads
 
 pub returns-else-core-eq-BARE-clause-ram : goal.returns-else-core-eq-BARE-clause-ram
 returns-else-core-eq-BARE-clause-ram c =
-    let apart : WalksApart c.args.mem.now c.regime.result.hgatp = rw c.regime.ensures.hgatp c.requires.apart in
+    let apart : WalksApart c.args.mem.now c.regime_for.result.hgatp = rw c.regime_for.ensures.hgatp c.requires.apart in
     some_further c.held_place-else-core-eq-BARE.result
-    (λ hpa leads. leads_after c.args.mem.now c.regime.result c.args.reference.access c.args.reference.address hpa apart leads)
+    (λ hpa leads. leads_after c.args.mem.now c.regime_for.result c.args.reference.access c.args.reference.address hpa apart leads)
     c.held_place-else-core-eq-BARE.ensures.leads
