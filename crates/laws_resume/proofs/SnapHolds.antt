@@ -30,13 +30,14 @@ pub nothing_printed : (rules : Rules) (s : Contents) → (resumed_state rules s)
 unfolding resumed_state
 nothing_printed rules s = refl
 
--- after any events of the run
-record IsGood (start : State) (rules : Rules) (events : List Event) (s : Snapshot) : Type 0 where
-  alike : Alike (run start events).journal.printed (run start events) (resumed_state rules (contents s))
-  accepted : resume_refusal rules (contents s) ≡ None
-  form : IsTyped (contents s) → HasDevice (contents s) → IsCounted (contents s) → snapshot.has (contents s) ≡ true
+-- what a snapshot after any events of the run is good for
+pub record IsGood (start : State) (rules : Rules) (events : List Event) (s : Snapshot) : Type 0 where
+  pub alike : Alike (run start events).journal.printed (run start events) (resumed_state rules (contents s))
+  pub accepted : resume_refusal rules (contents s) ≡ None
+  pub form : IsTyped (contents s) → HasDevice (contents s) → IsCounted (contents s) → snapshot.has (contents s) ≡ true
 
-good_at : (start : State) (rules : Rules) (events : List Event) (s : Snapshot) → IsStart start → start.rules ≡ rules → KeepsDigests start s.text.items
+-- where it keeps the digests that the run keeps
+pub good_at : (start : State) (rules : Rules) (events : List Event) (s : Snapshot) → IsStart start → start.rules ≡ rules → KeepsDigests start s.text.items
     → IsSaved (run start events) s.«machine» → IsGood start rules events s
 good_at start rules events s is same digests saved =
     let r = run start events in
