@@ -142,21 +142,15 @@ pub ends_left : (left : Leaving) (n : ℕ) (r after : Region) (core last next : 
     → ((lines : Lines) → pending last.hregs last.csrs lines ≡ None → LeavesBy left (attempt after last lines) after last next) → Ends left n r core after next
 ends_left left n r after core last next batch course hregs one = λ lines none. (last, (batch lines none, one lines (still_none core last lines course hregs none)))
 
--- a turn that isn't made leaves the hart as it was, and then it may leave the guest
-pub left_at_once : (left : Leaving) (t : Tried) (r after : Region) (core last next : Core) (word : ℕ) → is_made t ≡ false → Fetches r core word
-    → ((lines : Lines) → pending core.hregs core.csrs lines ≡ None → Comes t (attempt r core lines) r after core last)
-    → ((x : Region) (lines : Lines) → LeavesBy left (after_word x last lines word) x last next) → Ends left 0 r core after next
-left_at_once left t r after core last next word stopped fetched comes leaves = λ lines none.
-    let same = was_not_made t (attempt r core lines) r after core last stopped (comes lines none) in
-    let it : attempt after core lines ≡ after_word after core lines word =
-    subst (λ (x : Region). attempt x core lines ≡ after_word x core lines word) (sym same.0) (fetched lines none) in (
-      core,
-      (
-        (same.0, refl),
-        subst (λ (a : Attempted). LeavesBy left a after core next) (sym it)
-            (subst (λ (x : Core). LeavesBy left (after_word after x lines word) after x next) same.1 (leaves after lines)),
-      ),
-    )
+-- where a turn that was tried wasn't made, a row that follows is the row from before it
+pub tried_before : (t : Tried) (left : Leaving) (n : ℕ) (r mid after : Region) (core last next : Core) → is_made t ≡ false
+    → ((lines : Lines) → pending core.hregs core.csrs lines ≡ None → Comes t (attempt r core lines) r mid core last) → Ends left n mid last after next
+    → Ends left n r core after next
+tried_before t left n r mid after core last next stopped comes ends = λ lines none.
+    let same = was_not_made t (attempt r core lines) r mid core last stopped (comes lines none) in
+    subst (λ (x : Region). EndsBy left n x core lines after next) same.0
+    (subst (λ (x : Core). EndsBy left n mid x lines after next) same.1
+    (ends lines (subst (λ (x : Core). pending x.hregs x.csrs lines ≡ None) (sym same.1) none)))
 
 -- and one that is made is a row of one
 pub made_at_once : (t : Tried) (r after : Region) (core next : Core) → is_made t ≡ true
@@ -170,7 +164,3 @@ pub comes_fetched : (t : Tried) (r after : Region) (core next : Core) (word was 
     → Comes t (attempt r core lines) r after core next
 comes_fetched t r after core next word was fetched is comes = λ lines none.
     subst (λ (a : Attempted). Comes t a r after core next) (ap (after_word r core lines) is ∙ sym (fetched lines none)) (comes lines)
-
--- a row of no turn
-pub none_made : (b : Made) (r : Region) (core : Core) → b ≡ record { made = 0; left = Stays } → Ends b.left b.made r core r core
-none_made b r core is = subst (λ (x : Made). Ends x.left x.made r core r core) (sym is) (λ lines none. (core, ((refl, refl), refl)))

@@ -3,8 +3,6 @@ use Rattle.std.specs.Prelude.{ℕ, ◌+◌, Bool, true, false}
 use Rattle.hw_fast_path.specs.declared.leaving.Leaving.{Leaving}
 use Rattle.hw_fast_path.specs.declared.leaving.Leaving.TheVariants.{Stays, Calls, Returns}
 use Rattle.hw_fast_path.specs.declared.batch.Batch.{Batch}
-use Rattle.hw_fast_path.specs.declared.batch.LoneTurn.{LoneTurn}
-use Rattle.hw_fast_path.specs.declared.batch.LoneTurn.TheVariants as LoneTurn
 
 -- the turn after it was made
 abbrev pub is_left : Leaving → Bool
@@ -20,8 +18,3 @@ with_leaving Returns n = n + 1
 
 abbrev pub turns_of : Batch → ℕ
 turns_of batch = with_leaving batch.left batch.made
-
--- the row that a turn by itself is
-abbrev pub batch_of : LoneTurn → Batch
-batch_of LoneTurn.Made = record { made = 1; left = Stays }
-batch_of (LoneTurn.Left left) = record { made = 0; left = left }

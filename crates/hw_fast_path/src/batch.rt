@@ -7,26 +7,21 @@ ghost use Rattle.spec_processor.specs.HypervisorRegisters.{pending};
 ghost use Rattle.spec_processor.specs.declared.lines.Lines.{Lines};
 ghost use Rattle.hart.specs.Cores.{core_of};
 ghost use Rattle.hw_fast_path.specs.Quick.{Comes, GoesOn, Leads, MayTurn, Turned};
-ghost use Rattle.hw_fast_path.specs.Ends.{batch_of, turns_of};
+ghost use Rattle.hw_fast_path.specs.Ends.{turns_of};
 ghost use Rattle.hw_fast_path.specs.Batches.{EndsBy};
 ghost use Rattle.hw_tlb.specs.Kept.{ReachAgrees};
 ghost use Rattle.hw_fast_path.specs.declared.leaving.Leaving.TheVariants.{Stays};
 
-use crate::leaving::{Leaving, leave, leave_by};
+use crate::leaving::{Leaving, leave};
+use crate::memory::Held;
 use crate::micro_op_cache::{FlatWords, MicroOpCache};
-use crate::requests::carry_out;
+use crate::requests::{carry_out, carry_out_held};
 use crate::tried::Tried;
 use crate::window::{Window, at_pc, word_at_pc};
 use hart::Core;
 use host_mem::HostMem;
 use hw_tlb::HartCaches;
 use spec_processor::HRegs;
-
-// The two callers of an effect, each of which has an instance of its table: LLVM builds in what has one caller, and this is
-// too large for it otherwise.
-struct InRow;
-
-struct Alone;
 
 // A turn, with the window after it.
 #[inline(always)]
@@ -49,7 +44,7 @@ fn turn(
         return Tried::Stopped;
     };
     let word = here.word(core, regs, mem);
-    match carry_out::<InRow>(core, regs, caches, mem, words.micro_op(core.pc, word)) {
+    match carry_out(core, regs, caches, mem, words.micro_op(core.pc, word)) {
         Tried::Stopped => {
             *window = here;
             Tried::Stopped
@@ -101,31 +96,6 @@ impl Batch {
     }
 }
 
-// What became of a turn by itself: a row of at most one.
-#[derive(Clone, Copy, Drop)]
-enum LoneTurn {
-    // Its instruction was carried out.
-    Made,
-    // It wasn't, and the hart left the guest so, or stays.
-    Left(Leaving),
-}
-
-impl LoneTurn {
-    // The row that it is.
-    #[inline(always)]
-    fn batch(self) -> Batch
-        ensures { result ≡ batch_of self }
-    {
-        match self {
-            LoneTurn::Made => Batch {
-                made: 1,
-                left: Leaving::Stays,
-            },
-            LoneTurn::Left(left) => Batch { made: 0, left },
-        }
-    }
-}
-
 // The turns themselves. All that they read and change is handed over by itself, so that the loop keeps it in registers; it
 // stands out of line, since the count that follows it would take one of them.
 #[inline(never)]
@@ -166,30 +136,54 @@ fn batch_of_turns(
     }
 }
 
-// A turn by itself, after which nothing is kept for another one.
+// A turn by itself, by what is held alone. No call stands on its way, so that no register is saved for one. It is made, or all
+// is as it was.
 #[inline(never)]
+fn lone_turn(
+    words: &FlatWords,
+    core: &mut Core,
+    regs: &HRegs,
+    caches: &mut HartCaches,
+    mem: &mut HostMem,
+) -> Tried
+    requires may { MayTurn mem.old core.old regs.now caches.old.second caches.old.both }
+    ensures comes { (lines : Lines) → pending regs.now core.old.csrs lines ≡ None →
+        Comes result (attempt mem.old (core_of core.old regs.now) lines) mem.old mem.new (core_of core.old regs.now) (core_of core.new regs.now) }
+    ensures turned { Turned result mem.old mem.new core.old core.new regs.now caches.old.second caches.new.second caches.new.both }
+{
+    let Some(word) = word_at_pc::<Held>(core, regs, caches, mem) else {
+        return Tried::Stopped;
+    };
+    let Some(micro_op) = words.held(core.pc, word) else {
+        return Tried::Stopped;
+    };
+    carry_out_held(core, regs, caches, mem, micro_op)
+}
+
+// A row of one turn: by what is held, where that is enough.
+#[inline(always)]
 fn one_turn(
     words: &mut FlatWords,
     core: &mut Core,
     regs: &HRegs,
     caches: &mut HartCaches,
     mem: &mut HostMem,
-) -> LoneTurn
+) -> Batch
     requires may { MayTurn mem.old core.old regs.now caches.old.second caches.old.both }
     ensures ends { (lines : Lines) → pending regs.now core.old.csrs lines ≡ None →
-        EndsBy (batch_of result).left (batch_of result).made mem.old (core_of core.old regs.now) lines mem.new (core_of core.new regs.now) }
-    ensures most { turns_of (batch_of result) ≤ 1 }
+        EndsBy result.left result.made mem.old (core_of core.old regs.now) lines mem.new (core_of core.new regs.now) }
+    ensures most { turns_of result ≤ 1 }
     ensures on { GoesOn mem.old mem.new core.old core.new regs.now caches.old.second caches.new.second }
     ensures reach { ReachAgrees mem.new.tables caches.new.both }
 {
-    let Some(word) = word_at_pc(core, regs, caches, mem) else {
-        return LoneTurn::Left(Leaving::Stays);
-    };
-    let tried = carry_out::<Alone>(core, regs, caches, mem, words.micro_op(core.pc, word));
+    let tried = lone_turn(words, core, regs, caches, mem);
     if tried.is_made() {
-        return LoneTurn::Made;
+        return Batch {
+            made: 1,
+            left: Leaving::Stays,
+        };
     }
-    LoneTurn::Left(leave_by(core, regs, word))
+    batch_of_turns(words, core, regs, caches, mem, 1)
 }
 
 /// Up to `most` turns of a hart in a row, each of whose attempts carries out its instruction, and one after them that leaves
@@ -221,7 +215,7 @@ pub fn quick_turns(
     ensures count { words.new ≡ words.old + turns_of result }
 {
     let batch = if most == 1 {
-        one_turn(&mut words.micro_op, core, regs, caches, mem).batch()
+        one_turn(&mut words.micro_op, core, regs, caches, mem)
     } else {
         batch_of_turns(&mut words.micro_op, core, regs, caches, mem, most)
     };

@@ -104,26 +104,59 @@ fn held_place(
     }
 }
 
-/// The host place of a virtual address, none where an access there is refused. Its width isn't looked at.
-#[tactic(auto, using(hw_tlb::specs::Fills::nothing_filled))]
-#[inline(always)]
-pub(crate) fn place(
-    core: &Core,
-    regs: &HRegs,
-    caches: &mut HartCaches,
-    mem: &HostMem,
-    reference: Reference,
-) -> Option<u64>
-    requires may { MayTranslate mem.now regs.now.hgatp caches.old.second caches.old.both }
-    ensures value { (htinst : ℕ) →
-        IfSome result (λ hpa. translation_result mem.now (core_of core.now regs.now) reference.access reference.address htinst ≡ Ok hpa) }
-    ensures place { (width : ℕ) → IsWidth width → reference.address % width ≡ 0 → IfSome result (λ hpa. IsHostPlace mem.now hpa width) }
-    ensures ram { IfSome result (λ hpa. length mem.now.tables ≤ hpa) }
-    ensures translated { Translated mem.now.tables regs.now.hgatp caches.old.second caches.new.second caches.new.both }
-{
-    match held_place(core, regs, caches, mem, reference) {
-        Some(hpa) => Some(hpa),
-        None => walk_to(core, regs, caches, mem, reference.access, reference.address),
+/// How accesses are translated.
+pub(crate) trait Lookup {
+    /// The host place of a virtual address, none where an access there is refused, or isn't looked for further. Its width
+    /// isn't looked at.
+    fn place(
+        core: &Core,
+        regs: &HRegs,
+        caches: &mut HartCaches,
+        mem: &HostMem,
+        reference: Reference,
+    ) -> Option<u64>
+        requires may { MayTranslate mem.now regs.now.hgatp caches.old.second caches.old.both }
+        ensures value { (htinst : ℕ) →
+            IfSome result (λ hpa. translation_result mem.now (core_of core.now regs.now) reference.access reference.address htinst ≡ Ok hpa) }
+        ensures place { (width : ℕ) → IsWidth width → reference.address % width ≡ 0 → IfSome result (λ hpa. IsHostPlace mem.now hpa width) }
+        ensures ram { IfSome result (λ hpa. length mem.now.tables ≤ hpa) }
+        ensures translated { Translated mem.now.tables regs.now.hgatp caches.old.second caches.new.second caches.new.both };
+}
+
+/// By what is held, and where nothing is, by a walk.
+pub(crate) struct Walks;
+
+impl Lookup for Walks {
+    #[tactic(auto, using(hw_tlb::specs::Fills::nothing_filled))]
+    #[inline(always)]
+    fn place(
+        core: &Core,
+        regs: &HRegs,
+        caches: &mut HartCaches,
+        mem: &HostMem,
+        reference: Reference,
+    ) -> Option<u64> {
+        match held_place(core, regs, caches, mem, reference) {
+            Some(hpa) => Some(hpa),
+            None => walk_to(core, regs, caches, mem, reference.access, reference.address),
+        }
+    }
+}
+
+/// By what is held alone, so that nothing is called.
+pub(crate) struct Held;
+
+impl Lookup for Held {
+    #[tactic(auto, using(hw_tlb::specs::Fills::nothing_filled))]
+    #[inline(always)]
+    fn place(
+        core: &Core,
+        regs: &HRegs,
+        caches: &mut HartCaches,
+        mem: &HostMem,
+        reference: Reference,
+    ) -> Option<u64> {
+        held_place(core, regs, caches, mem, reference)
     }
 }
 
@@ -146,7 +179,7 @@ fn is_aligned(address: u64, width: u8) -> bool
 /// permits it.
 #[tactic(auto, using(hw_tlb::specs::Fills::nothing_filled), unfolding(spec_processor::specs::HardwareMemory::aligned_translation))]
 #[inline(always)]
-pub(crate) fn aligned_place(
+pub(crate) fn aligned_place<L: Lookup>(
     core: &Core,
     regs: &HRegs,
     caches: &mut HartCaches,
@@ -162,7 +195,7 @@ pub(crate) fn aligned_place(
     ensures translated { Translated mem.now.tables regs.now.hgatp caches.old.second caches.new.second caches.new.both }
 {
     if is_aligned(reference.address, reference.width) {
-        place(core, regs, caches, mem, reference)
+        L::place(core, regs, caches, mem, reference)
     } else {
         None
     }

@@ -1,6 +1,6 @@
 // The words that were met, in their flat form, and the count of the turns that were made by them.
 
-ghost use Rattle.std.specs.Prelude.{◌≡◌, ◌+◌, ◌<◌, ◌^◌, IfOk, length};
+ghost use Rattle.std.specs.Prelude.{◌≡◌, ◌+◌, ◌<◌, ◌^◌, IfOk, IfSome, length};
 ghost use Rattle.hart.specs.Cores.{word_places};
 ghost use Rattle.hw_fast_path.specs.Ends.{turns_of};
 
@@ -82,6 +82,19 @@ impl FlatWords {
             keep(&mut self.places[place], word);
         }
         &self.places[place]
+    }
+
+    /// A word in its flat form, where it stands in its place.
+    #[inline(always)]
+    pub(crate) fn held(&self, pc: u64, word: u32) -> Option<&MicroOp>
+        ensures { IfSome result (λ micro_op. micro_op.now.word ≡ word) }
+    {
+        let micro_op = &self.places[(pc / INSTRUCTION_BYTES) as usize % WORD_PLACES];
+        if micro_op.word == word {
+            Some(micro_op)
+        } else {
+            None
+        }
     }
 }
 

@@ -14,7 +14,7 @@ ghost use Rattle.hart.specs.Conditions.{MayStep};
 ghost use Rattle.hw_fast_path.specs.Quick.{Comes, MayTurn, Steers, Turned};
 ghost use Rattle.spec_processor.specs.Bytes.{instruction_size};
 
-use crate::memory::{Reference, aligned_place};
+use crate::memory::{Held, Lookup, Reference, Walks, aligned_place};
 use crate::micro_op::MicroOp;
 use crate::registers::{CsrAccess, csr};
 use crate::tried::Tried;
@@ -36,7 +36,7 @@ struct Loading {
 // A load, where its place is reached.
 #[tactic(auto, using(hw_tlb::specs::Fills::nothing_filled), unfolding(spec_processor::specs::HardwareMemory::after_load))]
 #[inline(always)]
-fn load(
+fn load<L: Lookup>(
     core: &mut Core,
     regs: &HRegs,
     caches: &mut HartCaches,
@@ -58,7 +58,7 @@ fn load(
         address: load.address,
         width: load.width,
     };
-    match aligned_place(core, regs, caches, mem, reference) {
+    match aligned_place::<L>(core, regs, caches, mem, reference) {
         Some(hpa) => {
             let word = mem.read(hpa as usize, load.width);
             core.regs
@@ -81,7 +81,7 @@ struct Storing {
 // A store, where its place is reached. No hart but this one, which has no reservation, is looked at.
 #[tactic(auto, using(crate::proofs::Stores::kept), unfolding(spec_processor::specs::HardwareMemory::after_store, spec_processor::specs::Requests::after_write))]
 #[inline(always)]
-fn store(
+fn store<L: Lookup>(
     core: &mut Core,
     regs: &HRegs,
     caches: &mut HartCaches,
@@ -101,7 +101,7 @@ fn store(
         address: store.address,
         width: store.width,
     };
-    match aligned_place(core, regs, caches, mem, reference) {
+    match aligned_place::<L>(core, regs, caches, mem, reference) {
         Some(hpa) => {
             mem.write(hpa as usize, store.width, store.value);
             core.pc = core.pc.wrapping_add(INSTRUCTION_BYTES);
@@ -148,7 +148,7 @@ fn atomic(
         address: operation.address,
         width: operation.width,
     };
-    match aligned_place(core, regs, caches, mem, reference) {
+    match aligned_place::<Walks>(core, regs, caches, mem, reference) {
         Some(hpa) => {
             let word = mem.read(hpa as usize, operation.width);
             let made = amo(operation.op, operation.width, word, operation.value);
@@ -214,7 +214,7 @@ fn apply(
             addr,
             width,
             signed,
-        } => load(
+        } => load::<Walks>(
             core,
             regs,
             caches,
@@ -226,7 +226,7 @@ fn apply(
                 signed,
             },
         ),
-        Effect::Store { addr, width, value } => store(
+        Effect::Store { addr, width, value } => store::<Walks>(
             core,
             regs,
             caches,
@@ -282,10 +282,65 @@ fn apply(
     }
 }
 
-/// An instruction carried out, where it is one that rows have and its effect can be carried out in one.
+// An effect carried out, where it only computes, loads or stores, and by what is held alone: all that is done without a call.
+#[tactic(auto, using(hw_tlb::specs::Fills::nothing_filled), unfolding(spec_processor::specs::HardwareAttempt::after_effect))]
+#[inline(always)]
+fn apply_held(
+    core: &mut Core,
+    regs: &HRegs,
+    caches: &mut HartCaches,
+    mem: &mut HostMem,
+    effect: Effect,
+) -> Tried
+    requires may { MayTurn mem.old core.old regs.now caches.old.second caches.old.both }
+    requires request { IsRequest effect }
+    ensures comes { (lines : Lines) → (word : ℕ) →
+        Comes result (after_effect mem.old (core_of core.old regs.now) lines word effect) mem.old mem.new (core_of core.old regs.now)
+        (core_of core.new regs.now) }
+    ensures turned { Turned result mem.old mem.new core.old core.new regs.now caches.old.second caches.new.second caches.new.both }
+{
+    match effect {
+        Effect::Set { rd, value, next } => {
+            core.regs.set(rd, value);
+            core.pc = next;
+            Tried::Retired
+        }
+        Effect::Load {
+            rd,
+            addr,
+            width,
+            signed,
+        } => load::<Held>(
+            core,
+            regs,
+            caches,
+            mem,
+            Loading {
+                rd,
+                address: addr,
+                width,
+                signed,
+            },
+        ),
+        Effect::Store { addr, width, value } => store::<Held>(
+            core,
+            regs,
+            caches,
+            mem,
+            Storing {
+                address: addr,
+                width,
+                value,
+            },
+        ),
+        _ => Tried::Stopped,
+    }
+}
+
+/// An instruction carried out by what is held alone.
 #[tactic(auto, using(hw_tlb::specs::Fills::nothing_filled))]
 #[inline(always)]
-pub(crate) fn carry_out<Caller>(
+pub(crate) fn carry_out_held(
     core: &mut Core,
     regs: &HRegs,
     caches: &mut HartCaches,
@@ -298,7 +353,29 @@ pub(crate) fn carry_out<Caller>(
         (core_of core.new regs.now) }
     ensures turned { Turned result mem.old mem.new core.old core.new regs.now caches.old.second caches.new.second caches.new.both }
 {
-    match micro_op.effect::<Caller>(&core.regs, core.pc) {
+    match micro_op.effect::<Held>(&core.regs, core.pc) {
+        Some(effect) => apply_held(core, regs, caches, mem, effect),
+        None => Tried::Stopped,
+    }
+}
+
+/// An instruction carried out, where it is one that rows have and its effect can be carried out in one.
+#[tactic(auto, using(hw_tlb::specs::Fills::nothing_filled))]
+#[inline(always)]
+pub(crate) fn carry_out(
+    core: &mut Core,
+    regs: &HRegs,
+    caches: &mut HartCaches,
+    mem: &mut HostMem,
+    micro_op: &MicroOp,
+) -> Tried
+    requires may { MayTurn mem.old core.old regs.now caches.old.second caches.old.both }
+    ensures comes { (lines : Lines) →
+        Comes result (after_word mem.old (core_of core.old regs.now) lines micro_op.now.word) mem.old mem.new (core_of core.old regs.now)
+        (core_of core.new regs.now) }
+    ensures turned { Turned result mem.old mem.new core.old core.new regs.now caches.old.second caches.new.second caches.new.both }
+{
+    match micro_op.effect::<Walks>(&core.regs, core.pc) {
         Some(effect) => apply(core, regs, caches, mem, effect),
         None => Tried::Stopped,
     }

@@ -6,7 +6,7 @@ use Rattle.hw_fast_path.proofs.Flats.{word_carried}
 use Rattle.hw_fast_path.proofs.requests.carry_out.Goals as goal
 
 pub returns-in-Some-clause-comes : goal.returns-in-Some-clause-comes
-returns-in-Some-clause-comes g c = λ lines.
+returns-in-Some-clause-comes c = λ lines.
     subst (λ (a : Attempted). Comes c.apply.result a c.args.mem.now c.apply.new.mem (core_of c.args.core.now c.args.regs.now) (core_of c.apply.new.core c.args.regs.now))
     (sym (word_carried c.args.mem.now (core_of c.args.core.now c.args.regs.now) lines c.args.micro_op.now.word c.in-Some.effect c.in-Some.ensures.effect))
     (c.apply.ensures.comes lines c.args.micro_op.now.word)
