@@ -26,7 +26,6 @@ use Rattle.hw_fast_path.proofs.Going.{Batch, batch_more, batch_starts, course_st
 use Rattle.hw_fast_path.specs.Ends.{with_leaving}
 use Rattle.hw_fast_path.specs.Quick.{Comes, Fetches, GoesOn, SameCourse, Steers, is_made}
 use Rattle.hw_fast_path.specs.Batches.{EndsBy, LeavesBy, call_exit, return_exit}
-use Rattle.hw_fast_path.specs.declared.batch.Batch.{Batch as Made}
 use Rattle.hw_fast_path.specs.declared.leaving.Leaving.{Leaving}
 use Rattle.hw_fast_path.specs.declared.leaving.Leaving.TheVariants.{Stays, Calls, Returns}
 use Rattle.hw_fast_path.specs.declared.tried.Tried.{Tried}
