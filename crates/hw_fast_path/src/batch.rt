@@ -13,7 +13,6 @@ ghost use Rattle.hw_tlb.specs.Kept.{ReachAgrees};
 ghost use Rattle.hw_fast_path.specs.declared.leaving.Leaving.TheVariants.{Stays};
 
 use crate::leaving::{Leaving, leave};
-use crate::memory::Held;
 use crate::micro_op_cache::{FlatWords, MicroOpCache};
 use crate::requests::{carry_out, carry_out_held};
 use crate::tried::Tried;
@@ -151,7 +150,7 @@ fn lone_turn(
         Comes result (attempt mem.old (core_of core.old regs.now) lines) mem.old mem.new (core_of core.old regs.now) (core_of core.new regs.now) }
     ensures turned { Turned result mem.old mem.new core.old core.new regs.now caches.old.second caches.new.second caches.new.both }
 {
-    let Some(word) = word_at_pc::<Held>(core, regs, caches, mem) else {
+    let Some(word) = word_at_pc(core, regs, caches, mem) else {
         return Tried::Stopped;
     };
     let Some(micro_op) = words.held(core.pc, word) else {

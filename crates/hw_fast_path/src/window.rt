@@ -7,7 +7,7 @@ ghost use Rattle.spec_processor.specs.Roots.{IsBare};
 ghost use Rattle.hart.specs.Cores.{core_of};
 ghost use Rattle.hw_fast_path.specs.Quick.{Fetches, Leads, MayTranslate, Translated, no_page};
 
-use crate::memory::{Lookup, Reference, Walks};
+use crate::memory::{Held, Lookup, Reference, Walks};
 use hart::Core;
 use host_mem::HostMem;
 use hw_tlb::HartCaches;
@@ -89,9 +89,9 @@ pub(crate) fn at_pc(
     }
 }
 
-/// The word of the instruction at the pc, by translation. None where no place is found for it.
+/// The word of the instruction at the pc, where its translation is held.
 #[inline(always)]
-pub(crate) fn word_at_pc<L: Lookup>(
+pub(crate) fn word_at_pc(
     core: &Core,
     regs: &HRegs,
     caches: &mut HartCaches,
@@ -108,7 +108,7 @@ pub(crate) fn word_at_pc<L: Lookup>(
         address: core.pc,
         width: INSTRUCTION_BYTES as u8,
     };
-    match L::place(core, regs, caches, mem, fetch) {
+    match Held::place(core, regs, caches, mem, fetch) {
         Some(hpa) => Some(mem.read(hpa as usize, INSTRUCTION_BYTES as u8) as u32),
         None => None,
     }
