@@ -1,11 +1,11 @@
 -- The events that are drawn.
 use Rattle.std.proofs.Common.{◌≡◌, ℕ, zero, suc, ◌+◌, ◌-◌, ◌<◌, ◌≤◌, List, [], ◌∷◌, ◌++◌, length, take, drop, replicate, refl, sym, ◌∙◌, ap, Option, Some, None, arith}
 use Rattle.std.specs.Prelude.{IfSome, slice_get}
-use Rattle.sv_types.specs.Schedule.{Schedule, after_event, first_events, next_event, begun_with}
+use Rattle.sv_types.specs.Schedule.{Schedule, first_events, next_event}
 use Rattle.sv_types.specs.declared.event.Event.{Event}
 use Rattle.script.specs.Runs.{BeginsWith}
 use Rattle.script.specs.declared.event_run.EventRun.{EventRun}
-use Rattle.script.proofs.FirstEvents.{begun_none}
+use Rattle.script.proofs.FirstEvents.{begun_none, first_few}
 use Rattle.cli_debug.specs.Upcoming.{most_upcoming, next_of, upcoming}
 
 pub none_left : (schedule : Schedule) (left : ℕ) → left ≡ 0 → [] ≡ first_events left schedule
@@ -22,15 +22,6 @@ row_drawn schedule after left row few begins =
     let all : row.count + (left - row.count) ≡ left = omega (arith, few) in
     sym (begins (left - row.count)) ∙ ap (λ n. first_events n schedule) all
 
-begun_few : (next : Option Event) (events : List Event) (n : ℕ) → length events ≤ n → length (begun_with next events) ≤ suc n
-begun_few None events n few = omega arith
-begun_few (Some event) events n few = omega (arith, few)
-
-events_few : (n : ℕ) (schedule : Schedule) → length (first_events n schedule) ≤ n
-unfolding first_events
-events_few zero schedule = omega arith
-events_few (suc n) schedule = begun_few (next_event schedule) (first_events n (after_event schedule)) n (events_few n (after_event schedule))
-
 row_length : (count : ℕ) (event : Event) (rest : List Event) → length (replicate count event ++ rest) ≡ count + length rest
 row_length zero event rest = let same : length rest ≡ zero + length rest = omega arith in same
 row_length (suc count) event rest = let more : suc (count + length rest) ≡ suc count + length rest = omega arith in ap suc (row_length count event rest) ∙ more
@@ -38,7 +29,7 @@ row_length (suc count) event rest = let more : suc (count + length rest) ≡ suc
 pub upcoming_few : (row : Option EventRun) (left : ℕ) (schedule : Schedule) → length (upcoming row left schedule) ≤ most_upcoming row left
 upcoming_few None left schedule = omega arith
 upcoming_few (Some row) left schedule =
-    let few = events_few left schedule in
+    let few = first_few left schedule in
     let size = row_length row.count row.event (first_events left schedule) in
     omega (arith, few, size)
 

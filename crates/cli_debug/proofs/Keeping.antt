@@ -1,5 +1,5 @@
 -- What is kept of a run, and a machine that goes on from there.
-use Rattle.std.proofs.Common.{◌≡◌, ℕ, ◌^◌, ◌<◌, ◌≤◌, List, [], length, take, sym, ◌∙◌, ap, subst, arith, Result, Ok, Err, IfOk, true}
+use Rattle.std.proofs.Common.{◌≡◌, ℕ, ◌^◌, ◌<◌, ◌≤◌, List, [], length, take, refl, sym, ◌∙◌, ap, subst, arith, Result, Ok, Err, IfOk, true}
 use Rattle.std.proofs.lemmas.List.{append-nil}
 use Rattle.sv_types.specs.Limits.{max_events}
 use Rattle.sv_types.specs.Policies.{Rules}
@@ -24,11 +24,7 @@ use Rattle.laws_resume.specs.SnapLaws.{IsSnapshotOf}
 use Rattle.laws_resume.specs.TextPages.{digested_text}
 use Rattle.laws_resume.proofs.BootDigests.{block_boot}
 use Rattle.laws_resume.proofs.EventsCounted.{counted_law}
-use Rattle.laws_resume.proofs.KeepableStarts.{keepable_law}
-use Rattle.laws_resume.proofs.ResumedHolds.{resumed_law}
-use Rattle.laws_resume.proofs.SavedResumes.{saved_resumes_law}
-use Rattle.laws_resume.proofs.SnapHolds.{nothing_printed}
-use Rattle.laws_simulation.proofs.StateLawsHold.{reached_sound}
+use Rattle.laws_resume.proofs.SnapHolds.{good_at, nothing_printed}
 use Rattle.machine.proofs.Repeated.{counts_within}
 use Rattle.machine.proofs.Standing.{stands_new}
 use Rattle.cli_snap.specs.Encoding.{EncodesMachine, IsMachineSnapshot}
@@ -106,11 +102,7 @@ has_digests start m = subst (λ (s : State). KeepsDigests s (digested_text s)) (
 alike_again : (start : State) (events : List Event) (s : Snapshot) → IsMeasuredStart start → IsSnapshotOf start events s →
     Alike (run start events).journal.printed (run start events) (resumed_state start.rules (contents s))
 alike_again start events s m snap =
-    let r = run start events in
-    let goes = resumed_law start events (reached_sound start [] (is_start start m)) in
-    let right = goes.digests s.text.items (subst (KeepsDigests start) (sym snap.text) (has_digests start m)) in
-    subst (λ (rules : Rules). Alike r.journal.printed r (resumed_state rules (contents s))) goes.origins.rules
-    (saved_resumes_law r s goes.sound (keepable_law start events (is_start start m)) snap.state right)
+    (good_at start start.rules events s (is_start start m) refl (subst (KeepsDigests start) (sym snap.text) (has_digests start m)) snap.state).alike
 
 pub kept_stands : (start : State) (events : List Event) (kept : Kept) (m : Machine) → IsMeasuredStart start → length events ≤ max_events → IsKept start events kept →
     GoesOnFrom start.rules kept.made kept.bytes.items m → StandsIn m kept.console.items (run start (take kept.made events))

@@ -1,11 +1,11 @@
 -- The states of a run that are kept.
 use Rattle.std.proofs.Common.{◌≡◌, ℕ, ◌≤◌, List, Bool, true, false, if◌then◌else◌, refl, sym, subst, Option, Some, None}
-use Rattle.std.specs.Prelude.{IfSome, nat_le}
+use Rattle.std.specs.Prelude.{IfSome, is_some, nat_le}
 use Rattle.std.proofs.lemmas.Bool.{leb-true}
 use Rattle.sv_types.specs.declared.event.Event.{Event}
 use Rattle.spec_reference.specs.States.{State}
 use Rattle.cli_debug.specs.Keeping.{IsKept}
-use Rattle.cli_debug.specs.Shelves.{AreKept, by, is_by, latest, or_else}
+use Rattle.cli_debug.specs.Shelves.{AreKept, by, latest, or_else}
 use Rattle.cli_debug.specs.declared.target.kept.Kept.{Kept}
 use Rattle.cli_debug.specs.declared.target.shelf.Shelf.{Shelf}
 
@@ -22,10 +22,10 @@ either_kept start events true one other k l = k
 either_kept start events false one other k l = l
 
 -- a state more
-pub one_more : (start : State) (events : List Event) (old new : Shelf) (kept : Kept) (number : ℕ) → new.before ≡ (if is_by old.last number then old.last else old.before) →
+pub one_more : (start : State) (events : List Event) (old new : Shelf) (kept : Kept) (number : ℕ) → new.before ≡ (if is_some (by old.last number) then old.last else old.before) →
     new.last ≡ Some kept → IsKept start events kept → AreKept start events old → AreKept start events new
 one_more start events old new kept number before last is k = record {
-  before = if_some start events _ new.before before (either_kept start events (is_by old.last number) old.last old.before k.last k.before);
+  before = if_some start events _ new.before before (either_kept start events (is_some (by old.last number)) old.last old.before k.last k.before);
   last = if_some start events (Some kept) new.last last is;
 }
 

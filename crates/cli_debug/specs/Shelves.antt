@@ -1,16 +1,12 @@
 -- The states of a run that are kept. This project's own.
-use Rattle.std.specs.Prelude.{ℕ, Bool, false, if◌then◌else◌, List, Option, Some, None, IfSome, nat_le}
+use Rattle.std.specs.Prelude.{ℕ, if◌then◌else◌, List, Option, Some, None, IfSome, nat_le}
 use Rattle.sv_types.specs.declared.event.Event.{Event}
 use Rattle.spec_reference.specs.States.{State}
 use Rattle.cli_debug.specs.Keeping.{IsKept}
 use Rattle.cli_debug.specs.declared.target.kept.Kept.{Kept}
 use Rattle.cli_debug.specs.declared.target.shelf.Shelf.{Shelf}
 
--- there is one, after so many events at most
-abbrev pub is_by : Option Kept → (number : ℕ) → Bool
-is_by None number = false
-is_by (Some kept) number = nat_le kept.made number
-
+-- it, where it is after so many events at most
 abbrev pub by : Option Kept → (number : ℕ) → Option Kept
 by None number = None
 by (Some kept) number = if nat_le kept.made number then Some kept else None

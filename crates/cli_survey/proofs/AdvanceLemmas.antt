@@ -167,6 +167,14 @@ is_none (Some x) is = absurd (cc is)
 pub clear_unloaded : (m : Machine) → is_clear m ≡ true → m.loading ≡ None
 clear_unloaded m clear = is_none m.loading (and_second (is_running m.journal.verdict) (not (is_some m.loading)) clear)
 
+clear_both : (running loading : Bool) → running ≡ true → loading ≡ false → (running && not loading) ≡ true
+clear_both true false is none = refl
+clear_both true true is none = absurd (cc none)
+clear_both false loading is none = absurd (cc is)
+
+pub clear_of : (m : Machine) → is_running m.journal.verdict ≡ true → is_some m.loading ≡ false → is_clear m ≡ true
+clear_of m running none = clear_both (is_running m.journal.verdict) (is_some m.loading) running none
+
 -- it stays so over events that change neither
 clear_by : {A : Type 0} (v : Verdict) (x : Option A) → v ≡ Running → x ≡ None → (is_running v && not (is_some x)) ≡ true
 clear_by Running None runs none = refl

@@ -7,6 +7,7 @@ use Rattle.sv_types.specs.declared.event.Event.TheVariants.{Turn, Beat, Key, Tic
 use Rattle.sv_types.specs.declared.event.Note.{Note}
 use Rattle.sv_types.specs.declared.event.Verdict.{Verdict}
 use Rattle.sv_types.specs.declared.event.Verdict.TheVariants.{Running, Shutdown, Stopped}
+use Rattle.spec_reference.specs.Counting.{CountsAtMost}
 use Rattle.spec_reference.specs.Run.{run, step}
 use Rattle.spec_hardware.specs.HardwareEvent.{Happens, HappensUnder, IsEvent, Written, with_bytes_at}
 use Rattle.spec_reference.specs.States.{State}
@@ -96,6 +97,19 @@ step_made m next e has stands event = record {
   refuses = λ r s. one_refuses 1 e r refl;
   counts = λ k counts. step_counts k m next has.state e has.stands (stands has.state has.stands) counts;
 }
+
+-- and what was made once at most is one
+pub once_made : (n : ℕ) (m next : Machine) (e : Event) → 0 < n → n ≤ 1 → Repeats n m e next →
+    ((k : ℕ) → CountsAtMost k m.journal.counts → CountsAtMost (k + n) next.journal.counts) → IsRepeated m e n next
+once_made n m next e some most chain counts =
+    record { some = some; chain = chain; refuses = λ r s. one_refuses n e r (omega (arith, some, most)); counts = counts }
+
+-- of a machine that is as this one
+pub once_from : (n : ℕ) (m at next : Machine) (e : Event) → at ≡ m → n ≤ 1 → IsRepeated at e n next → IsRepeated m e 1 next
+once_from n m at next e same most it =
+    let some = it.some in
+    let once : n ≡ 1 = omega (arith, some, most) in
+    subst (λ (x : Machine). IsRepeated x e 1 next) same (subst (λ (k : ℕ). IsRepeated at e k next) once it)
 
 -- ---- a row of other events than turns
 

@@ -18,7 +18,7 @@ use Rattle.host_io.specs.Outside.{BreaksOff, MayWrite, SinkState}
 use Rattle.machine.specs.Console.{Flushed}
 use Rattle.machine.specs.Drawing.{count_left, events_with, is_used_up}
 use Rattle.machine.specs.Limits.{max_counts}
-use Rattle.machine.specs.Repeats.{Repeats}
+use Rattle.machine.specs.Repeats.{MayMake, Repeats}
 use Rattle.machine.specs.Standing.{HasState, Stands}
 use Rattle.machine.specs.declared.drawing.Drawing.{Drawing}
 use Rattle.report.specs.Findings.{FoundByNotes}
@@ -51,10 +51,22 @@ pub record IsRowMade (m : Machine) (e : Event) (n : ℕ) (next : Machine) : Type
   pub room : length m.journal.printed < max_printed → length next.journal.printed ≤ max_printed
   pub kept : length m.journal.notes ≤ max_notes → length next.journal.notes ≤ max_notes
 
+-- equal events may be made so often of a machine that runs
+pub record MayMakeRow (m : Machine) (count : ℕ) : Type 0 where
+  pub may : MayMake m count
+  pub state : HasState m
+  pub running : is_running m.journal.verdict ≡ true
+
 -- so each of its notes is told
 abbrev pub TellsOn : (m : Machine) → Event → (n : ℕ) → (next : Machine) → (old new : Option FoundByNotes) → Type 0
 TellsOn m e n next old new = (r : State) (all : List Note) → StandsFor m r → Tells old m.journal.notes all →
     Tells new next.journal.notes (all ++ noted r (replicate n e))
+
+-- such a row, of no more events than were asked for, and what is found by its notes
+pub record IsRowTold (m : Machine) (e : Event) (asked n : ℕ) (next : Machine) (old new : Option FoundByNotes) : Type 0 where
+  pub made : IsRowMade m e n next
+  pub most : n ≤ asked
+  pub told : TellsOn m e n next old new
 
 -- behind the pass the machine runs, the load that the event refuses is kept, and the event was made so often
 pub record Advances (m : Machine) (found : Found) (e : Event) (n : ℕ) (next : Machine) (after : Found) : Type 0 where

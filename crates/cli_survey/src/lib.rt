@@ -7,6 +7,7 @@ mod laws;
 mod looking;
 mod noting;
 mod ready;
+mod rows;
 mod surveying;
 
 pub use answer::secvisor_survey;

@@ -11,16 +11,16 @@ ghost use Rattle.host_io.specs.Outside.{BreaksOff, MayWrite};
 ghost use Rattle.machine.specs.Console.{Flushed};
 ghost use Rattle.machine.specs.Drawing.{count_left, events_with, is_used_up};
 ghost use Rattle.machine.specs.Limits.{max_counts};
-ghost use Rattle.machine.specs.Repeats.{MayMake};
 ghost use Rattle.machine.specs.Standing.{HasState};
 ghost use Rattle.report.specs.Views.{loads_view, writes_view};
 ghost use Rattle.cli_survey.specs.Advances.{BreaksAtOne, BreaksInRows, BreaksWhile, GoesByOne, GoesByRow, GoesByRows, GoesWhile};
-ghost use Rattle.cli_survey.specs.Advances.{IsOneMade, IsRepeated, IsRowMade, MayGoOn, MayTend, TellsOn};
+ghost use Rattle.cli_survey.specs.Advances.{IsOneMade, IsRowTold, MayGoOn, MayMakeRow, MayTend};
 ghost use Rattle.cli_survey.specs.Refusals.{refusals, with_loads};
 ghost use Rattle.cli_survey.specs.Surveys.{MaySurvey, SurveyedFromStart, has_room, is_clear, is_running, is_turn, with_passes};
 
 use crate::looking::look;
 use crate::noting::make_noted;
+use crate::rows::make_row;
 use host_io::{Failed, Sink, Trouble};
 use machine::{Drawing, Left, Machine, Notes, flush_due};
 use report::findings::{Found, NotesFound, Occurrence, Writes, add_write};
@@ -101,14 +101,10 @@ fn make_tended(
     noted: &mut Option<NotesFound>,
     spare: &mut Notes,
 ) -> Result<u64, AllocError>
-    requires may { MayMake machine.old row.now.count }
-    requires has { HasState machine.old }
-    requires running { is_running machine.old.journal.verdict ≡ true }
+    requires row { MayMakeRow machine.old row.now.count }
     requires kept { length machine.old.journal.notes ≤ max_notes }
     requires spare { spare.old ≡ [] }
-    ensures made { IfOk result (λ n. IsRowMade machine.old row.now.event n machine.new) }
-    ensures most { IfOk result (λ n. n ≤ row.now.count) }
-    ensures told { IfOk result (λ n. TellsOn machine.old row.now.event n machine.new noted.old noted.new) }
+    ensures row { IfOk result (λ n. IsRowTold machine.old row.now.event row.now.count n machine.new noted.old noted.new) }
     ensures spare { spare.new ≡ [] }
     ensures same { OnErr result (machine.new ≡ machine.old) }
 {
@@ -127,16 +123,12 @@ fn look_and_make(
     found: &mut Found,
     spare: &mut Notes,
 ) -> Result<u64, AllocError>
-    requires may { MayMake machine.old row.now.count }
-    requires has { HasState machine.old }
-    requires running { is_running machine.old.journal.verdict ≡ true }
+    requires row { MayMakeRow machine.old row.now.count }
     requires kept { length machine.old.journal.notes ≤ max_notes }
     requires spare { spare.old ≡ [] }
     ensures looked { OnOk result ((r : State) → StandsFor machine.old r →
         loads_view found.new.loads ≡ with_loads (loads_view found.old.loads) (refusals r row.now.event)) }
-    ensures made { IfOk result (λ n. IsRowMade machine.old row.now.event n machine.new) }
-    ensures most { IfOk result (λ n. n ≤ row.now.count) }
-    ensures told { IfOk result (λ n. TellsOn machine.old row.now.event n machine.new found.old.noted found.new.noted) }
+    ensures row { IfOk result (λ n. IsRowTold machine.old row.now.event row.now.count n machine.new found.old.noted found.new.noted) }
     ensures writes { found.new.writes ≡ found.old.writes }
     ensures spare { spare.new ≡ [] }
     ensures same { OnErr result (machine.new ≡ machine.old) }
@@ -255,20 +247,6 @@ fn room_for(machine: &Machine, events: u64) -> u64
     ensures fits { length machine.now.journal.notes + result ≤ max_notes }
 {
     events.min((MAX_NOTES - machine.journal().len()) as u64)
-}
-
-// A row of equal events, up to one after which a load is under way. Answers how many were made. One alone needs no row. It has an
-// instance for each kind of source: LLVM builds in what has one caller, and this is too large for it otherwise.
-fn make_row<S>(machine: &mut Machine, event: Event, count: u64) -> u64
-    requires may { MayMake machine.old count }
-    requires clear { is_clear machine.old ≡ true }
-    ensures made { IsRepeated machine.old event result machine.new }
-    ensures most { result ≤ count }
-{
-    if count == 1 {
-        return machine.repeat(event, 1);
-    }
-    machine.repeat_to_load(event, count)
 }
 
 // Rows of equal events, up to where something is to be seen to or none is to be made now; none where a note of each might not be

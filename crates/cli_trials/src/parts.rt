@@ -5,7 +5,7 @@ ghost use Rattle.sv_types.specs.Policies.{rules_of, rules_within};
 ghost use Rattle.sv_types.specs.Measure.{measure};
 ghost use Rattle.spec_reference.specs.BlockDisk.{sector_size};
 ghost use Rattle.spec_reference.specs.States.{has_number};
-ghost use Rattle.machine.specs.Boot.{IsRead, RefusesImage, image_text};
+ghost use Rattle.machine.specs.Boot.{MayBoot, RefusesImage, image_text};
 ghost use Rattle.policy.specs.Text.{rules_of_text};
 ghost use Rattle.cli_plans.specs.Plans.{policy_part, kernel_part, boot_plan, run_plan};
 ghost use Rattle.cli_plans.specs.Reading.{MayFollow};
@@ -135,9 +135,7 @@ fn check_boot<R: Threads + Sync>(
     policy: Policy,
     disk: Vec<u8>,
 ) -> Result<(), BootRefusal>
-    requires within { IsTrue (rules_within (rules_of policy)) }
-    requires read { IsRead policy.ram_pages image.now }
-    requires sectors { length disk.items % sector_size ≡ 0 }
+    requires { MayBoot (rules_of policy) image.now disk.items }
     ensures measured { OnOk result (measure (image_text image.now) ≡ policy.kernel) }
     ensures permitted { OnOk result (has_number policy.entries.items image.now.entry ≡ true) }
     ensures refused { IfErr result (RefusesImage image.now (rules_of policy)) }

@@ -1,15 +1,19 @@
 -- When booting is refused, and the image that a kernel's file is read into. This project's own.
-use Rattle.std.specs.Prelude.{◌≡◌, ◌≢◌, ℕ, false, List, None}
+use Rattle.std.specs.Prelude.{◌≡◌, ◌≢◌, ◌%◌, ℕ, true, false, IsTrue, List, length, None}
 use Rattle.sv_types.specs.Kernel.{header_entry, kernel_refusal, kernel_segments, text_of}
 use Rattle.sv_types.specs.Measure.{measure}
-use Rattle.sv_types.specs.Policies.{Rules}
-use Rattle.spec_reference.specs.States.{has_number}
+use Rattle.sv_types.specs.Policies.{Rules, rules_within}
+use Rattle.spec_reference.specs.BlockDisk.{sector_size}
+use Rattle.spec_reference.specs.States.{State, has_number}
 use Rattle.spec_hardware.specs.Machine.{Machine}
+use Rattle.spec_hardware.specs.Reaches.{IsNew}
+use Rattle.laws_resume.specs.Starts.{journal_at_boot}
 use Rattle.laws_resume.specs.TextPages.{text_digests}
 use Rattle.elf64_load.specs.Images.{segments_of}
 use Rattle.elf64_load.specs.declared.image.KernelImage.{KernelImage}
 use Rattle.machine.specs.declared.boot.BootRefusal.{BootRefusal}
 use Rattle.machine.specs.declared.boot.BootRefusal.TheVariants.{Measure, Entry, Memory}
+use Rattle.machine.specs.declared.machine_start.Booted.{Booted}
 
 -- by the measure exactly where it differs, never by the entry of plain pages, and freely when out of memory
 abbrev pub RefusesFlat : List ℕ → List ℕ → BootRefusal → Type 0
@@ -46,3 +50,19 @@ RefusesImage image rules Memory = Unit {0}
 -- these are the digests of the pages that are approved now, ascending
 abbrev pub HasDigests : Machine → List (List ℕ) → Type 0
 HasDigests m digests = digests ≡ text_digests m.region.ram m.protections
+
+-- ---- a machine of a kernel's image
+
+-- it may be made of an image that was read, under rules within their limits and with a disk of whole sectors
+pub record MayBoot (rules : Rules) (image : KernelImage) (disk : List ℕ) : Type 0 where
+  pub within : IsTrue (rules_within rules)
+  pub read : IsRead rules.ram_pages image
+  pub sectors : length disk % sector_size ≡ 0
+
+-- it was, with the digests of its text, and is before its first event. Each file that the image is read of has this start
+pub record IsBootOf (start : List ℕ → State) (rules : Rules) (image : KernelImage) (b : Booted) : Type 0 where
+  pub new : (file : List ℕ) → IsImageOf file rules.ram_pages image → IsNew b.«machine» (start file)
+  pub digests : HasDigests b.«machine» b.digests.items
+  pub journal : b.«machine».journal ≡ journal_at_boot
+  pub measured : measure (image_text image) ≡ rules.kernel
+  pub permitted : has_number rules.entries image.entry ≡ true

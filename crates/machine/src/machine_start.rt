@@ -12,7 +12,7 @@ ghost use Rattle.spec_reference.specs.Soundness.{IsSoundDisk};
 ghost use Rattle.spec_hardware.specs.Reaches.{IsNew};
 ghost use Rattle.hw_devices.specs.Ports.{port_disk};
 ghost use Rattle.laws_resume.specs.Starts.{journal_at_boot};
-ghost use Rattle.machine.specs.Boot.{HasDigests, IsImageOf, IsRead, image_text, RefusesFlat, RefusesImage};
+ghost use Rattle.machine.specs.Boot.{IsBootOf, IsImageOf, IsRead, MayBoot, image_text, RefusesFlat, RefusesImage};
 
 use crate::boot::BootRefusal;
 use crate::image_start::{BootedSystem, boot};
@@ -40,15 +40,8 @@ impl Booted {
         policy: Policy,
         disk: Vec<u8>,
     ) -> Result<Booted, BootRefusal>
-        requires within { IsTrue (rules_within (rules_of policy)) }
-        requires read { IsRead policy.ram_pages image.now }
-        requires sectors { length disk.items % sector_size ≡ 0 }
-        ensures new { (file : List ℕ) → IsImageOf file policy.ram_pages image.now →
-            IfOk result (λ b. IsNew b.machine (boot_start (rules_of policy) file disk.items)) }
-        ensures digests { IfOk result (λ b. HasDigests b.machine b.digests.items) }
-        ensures journal { IfOk result (λ b. b.machine.journal ≡ journal_at_boot) }
-        ensures measured { OnOk result (measure (image_text image.now) ≡ policy.kernel) }
-        ensures permitted { OnOk result (has_number policy.entries.items image.now.entry ≡ true) }
+        requires { MayBoot (rules_of policy) image.now disk.items }
+        ensures booted { IfOk result (IsBootOf (λ file. boot_start (rules_of policy) file disk.items) (rules_of policy) image.now) }
         ensures refused { IfErr result (RefusesImage image.now (rules_of policy)) }
     {
         Booted::after(rt, alloc, image, policy, Port::block(disk))
@@ -62,15 +55,8 @@ impl Booted {
         policy: Policy,
         disk: Vec<u8>,
     ) -> Result<Booted, BootRefusal>
-        requires within { IsTrue (rules_within (rules_of policy)) }
-        requires read { IsRead policy.ram_pages image.now }
-        requires sectors { length disk.items % sector_size ≡ 0 }
-        ensures new { (file : List ℕ) → IsImageOf file policy.ram_pages image.now →
-            IfOk result (λ b. IsNew b.machine (virtio_start (rules_of policy) file disk.items)) }
-        ensures digests { IfOk result (λ b. HasDigests b.machine b.digests.items) }
-        ensures journal { IfOk result (λ b. b.machine.journal ≡ journal_at_boot) }
-        ensures measured { OnOk result (measure (image_text image.now) ≡ policy.kernel) }
-        ensures permitted { OnOk result (has_number policy.entries.items image.now.entry ≡ true) }
+        requires { MayBoot (rules_of policy) image.now disk.items }
+        ensures booted { IfOk result (IsBootOf (λ file. virtio_start (rules_of policy) file disk.items) (rules_of policy) image.now) }
         ensures refused { IfErr result (RefusesImage image.now (rules_of policy)) }
     {
         Booted::after(rt, alloc, image, policy, Port::virtio(disk))
@@ -87,12 +73,7 @@ impl Booted {
         requires within { IsTrue (rules_within (rules_of policy)) }
         requires read { IsRead policy.ram_pages image.now }
         requires quiet { IsSoundDisk (port_disk port) }
-        ensures new { (file : List ℕ) → IsImageOf file policy.ram_pages image.now →
-            IfOk result (λ b. IsNew b.machine (image_start (rules_of policy) file (port_disk port))) }
-        ensures digests { IfOk result (λ b. HasDigests b.machine b.digests.items) }
-        ensures journal { IfOk result (λ b. b.machine.journal ≡ journal_at_boot) }
-        ensures measured { OnOk result (measure (image_text image.now) ≡ policy.kernel) }
-        ensures permitted { OnOk result (has_number policy.entries.items image.now.entry ≡ true) }
+        ensures booted { IfOk result (IsBootOf (λ file. image_start (rules_of policy) file (port_disk port)) (rules_of policy) image.now) }
         ensures refused { IfErr result (RefusesImage image.now (rules_of policy)) }
     {
         let BootedSystem { system, digests } = boot(rt, alloc, image, policy, port)?;

@@ -1,14 +1,11 @@
 // The commands `run` and `vrun`.
-ghost use Rattle.std.specs.Prelude.{◌≡◌, ◌<◌, ◌≤◌, ◌-◌, ◌%◌, ◌==◌, ℕ, List, IfOk, OnOk, IfErr, IsTrue, length, true};
+ghost use Rattle.std.specs.Prelude.{◌≡◌, ◌<◌, ◌≤◌, ◌-◌, ◌%◌, ◌==◌, ℕ, IfOk, IfErr, IsTrue, length};
 ghost use Rattle.std.specs.Option.{option_copied};
 ghost use Rattle.sv_types.specs.Limits.{max_events};
 ghost use Rattle.spec_reference.specs.BlockDisk.{sector_size};
-ghost use Rattle.sv_types.specs.Measure.{measure};
 ghost use Rattle.sv_types.specs.Policies.{rules_of, rules_within};
 ghost use Rattle.sv_types.specs.Schedule.{Schedule};
-ghost use Rattle.spec_reference.specs.States.{has_number};
-ghost use Rattle.spec_hardware.specs.Reaches.{IsNew};
-ghost use Rattle.machine.specs.Boot.{HasDigests, IsImageOf, IsRead, image_text, RefusesImage};
+ghost use Rattle.machine.specs.Boot.{HasDigests, IsBootOf, MayBoot, RefusesImage};
 ghost use Rattle.policy.specs.Text.{rules_of_text};
 ghost use Rattle.cli_plans.specs.CommandLine.{Auto};
 ghost use Rattle.cli_plans.specs.Plans.{policy_part, kernel_part, disk_part, text_part, script_part, boot_plan, run_plan, start_with};
@@ -120,14 +117,8 @@ pub fn boot_with<R: Threads + Sync>(
     policy: Policy,
     disk: Vec<u8>,
 ) -> Result<Booted, BootRefusal>
-    requires within { IsTrue (rules_within (rules_of policy)) }
-    requires read { IsRead policy.ram_pages image.now }
-    requires sectors { length disk.items % sector_size ≡ 0 }
-    ensures new { (file : List ℕ) → IsImageOf file policy.ram_pages image.now →
-        IfOk result (λ b. IsNew b.machine (start_with kind (rules_of policy) file disk.items)) }
-    ensures digests { IfOk result (λ b. HasDigests b.machine b.digests.items) }
-    ensures measured { OnOk result (measure (image_text image.now) ≡ policy.kernel) }
-    ensures permitted { OnOk result (has_number policy.entries.items image.now.entry ≡ true) }
+    requires { MayBoot (rules_of policy) image.now disk.items }
+    ensures booted { IfOk result (IsBootOf (λ file. start_with kind (rules_of policy) file disk.items) (rules_of policy) image.now) }
     ensures refused { IfErr result (RefusesImage image.now (rules_of policy)) }
 {
     match kind {

@@ -51,10 +51,10 @@ pub struct DebuggedMachine<B: Drop> {
 }
 
 impl<B: Beginning + Drop> DebuggedMachine<B> {
-    ghost use Rattle.std.specs.Prelude.{IfOk};
+    ghost use Rattle.std.specs.Prelude.{IfOk, OnOk, length};
     ghost use Rattle.sv_types.specs.Schedule.{first_events};
-    ghost use Rattle.debug_session.specs.Runs.{Run};
-    ghost use Rattle.cli_debug.specs.Debugged.{StandsAt, run_from};
+    ghost use Rattle.debug_session.specs.Runs.{Run, after, state};
+    ghost use Rattle.cli_debug.specs.Debugged.{StandsAt, StandsIn, run_from};
 
     /// A machine before the first of at most so many events.
     pub fn new<R: Threads + Sync>(
@@ -82,6 +82,31 @@ impl<B: Beginning + Drop> DebuggedMachine<B> {
             text,
             shelf: Shelf::new(),
         })
+    }
+
+    // Goes to where so many events are made: to a machine that stands there, with what the console had printed.
+    fn go_to(
+        &mut self,
+        alloc: Global,
+        machine: Machine,
+        made: u64,
+        console: Vec<u8>,
+    ) -> Result<(), AllocError>
+        requires early { made ≤ self.old.events }
+        requires none { machine.journal.printed ≡ [] }
+        requires counts { CountsAtMost made machine.journal.counts }
+        ensures { OnOk result ((run : Run) → StandsAt B.kernel B.start B.schedule self.old run → made ≤ length run.events →
+            StandsIn machine console.items (state (after run made)) → StandsAt B.kernel B.start B.schedule self.new (after run made)) }
+    {
+        let script = self.beginning.script(alloc)?;
+        let (script, next, left) = draw_after(script, self.events, made);
+        self.machine = machine;
+        self.script = script;
+        self.next = next;
+        self.left = left;
+        self.made = made;
+        self.console = console;
+        Ok(())
     }
 }
 
@@ -173,15 +198,7 @@ impl<B: Beginning + Drop> Target for DebuggedMachine<B> {
 
     fn restart<R: Threads + Sync>(&mut self, rt: &R, alloc: Global) -> Result<(), AllocError> {
         let Begun { machine, .. } = self.beginning.begin(rt, alloc)?;
-        let mut script = self.beginning.script(alloc)?;
-        let (next, left) = draw(&mut script, self.events);
-        self.machine = machine;
-        self.script = script;
-        self.next = next;
-        self.left = left;
-        self.made = 0;
-        self.console.clear();
-        Ok(())
+        self.go_to(alloc, machine, 0, Vec::new(alloc))
     }
 
     #[inline(never)]
@@ -207,14 +224,7 @@ impl<B: Beginning + Drop> Target for DebuggedMachine<B> {
         let made = kept.made();
         let machine = kept.machine(rt, alloc, &self.beginning)?;
         let console = kept.console(alloc)?;
-        let script = self.beginning.script(alloc)?;
-        let (script, next, left) = draw_after(script, self.events, made);
-        self.machine = machine;
-        self.script = script;
-        self.next = next;
-        self.left = left;
-        self.made = made;
-        self.console = console;
+        self.go_to(alloc, machine, made, console)?;
         Ok(made)
     }
 }

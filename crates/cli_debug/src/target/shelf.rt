@@ -1,5 +1,5 @@
 // The states of a run that are kept.
-ghost use Rattle.std.specs.Prelude.{◌≡◌, None, Some, if◌then◌else◌, option_map};
+ghost use Rattle.std.specs.Prelude.{◌≡◌, None, Some, if◌then◌else◌, is_some, option_map};
 ghost use Rattle.cli_debug.specs.Shelves as spec;
 
 use crate::target::kept::Kept;
@@ -26,10 +26,10 @@ impl Shelf {
 
     /// Keeps a state more, while a search may lead back to so many events.
     pub(crate) fn add(&mut self, kept: Kept, number: u64)
-        ensures before { self.new.before ≡ (if spec.is_by self.old.last number then self.old.last else self.old.before) }
+        ensures before { self.new.before ≡ (if is_some (spec.by self.old.last number) then self.old.last else self.old.before) }
         ensures last { self.new.last ≡ Some kept }
     {
-        if is_by(&self.last, number) {
+        if by(&self.last, number).is_some() {
             self.before = self.last.take();
         }
         self.last = Some(kept);
@@ -43,15 +43,6 @@ impl Shelf {
             Some(kept) => Some(kept),
             None => by(&self.before, number),
         }
-    }
-}
-
-fn is_by(kept: &Option<Kept>, number: u64) -> bool
-    ensures { result ≡ spec.is_by kept.now number }
-{
-    match kept {
-        Some(kept) => kept.made() <= number,
-        None => false,
     }
 }
 

@@ -4,10 +4,11 @@ use Rattle.spec_hardware.specs.Machine.{Machine}
 use Rattle.host_io.proofs.SinkLemmas.{on_err}
 use Rattle.machine.specs.Standing.{HasState}
 use Rattle.machine.proofs.ConsoleLemmas.{room_again}
-use Rattle.cli_survey.specs.Advances.{BreaksAtOne, IsRepeated}
+use Rattle.cli_survey.specs.Advances.{BreaksAtOne}
 use Rattle.machine.proofs.Repeated.{rows_repeat}
 use Rattle.machine.proofs.Standing.{flushed_none}
 use Rattle.cli_survey.proofs.LookLemmas.{one_refuses}
+use Rattle.cli_survey.proofs.RowLemmas.{once_from, once_made}
 use Rattle.cli_survey.proofs.surveying.make_one.Goals as goal
 
 pub returns-then-idles-clause-made : goal.returns-then-idles-clause-made
@@ -37,16 +38,8 @@ flush_or_pass-requires-clause-room g c =
 pub returns-in_err-flush_or_pass-clause-broke : goal.returns-in_err-flush_or_pass-clause-broke
 returns-in_err-flush_or_pass-clause-broke g c =
     let same : c.idles.new.self ≡ c.args.machine.now = c.idles.ensures.same c.if-idles.false in
-    let once : c.repeat.result ≡ 1 = omega (arith, c.repeat.ensures.some, c.repeat.ensures.most) in
-    let made : IsRepeated c.args.machine.now c.args.event 1 c.repeat.new.self =
-    subst (λ (m : Machine). IsRepeated m c.args.event 1 c.repeat.new.self) same
-    (subst (λ n. IsRepeated c.idles.new.self c.args.event n c.repeat.new.self) once
-    (record {
-      some = c.repeat.ensures.some;
-      chain = c.repeat.ensures.chain;
-      refuses = λ r stands. one_refuses c.repeat.result c.args.event r once;
-      counts = c.repeat.ensures.counts;
-    })) in
+    let made = once_from c.repeat.result c.args.machine.now c.idles.new.self c.repeat.new.self c.args.event same c.repeat.ensures.most
+    (once_made c.repeat.result c.idles.new.self c.repeat.new.self c.args.event c.repeat.ensures.some c.repeat.ensures.most c.repeat.ensures.chain c.repeat.ensures.counts) in
     let broke : BreaksAtOne c.args.machine.now c.args.event c.flush_or_pass.new.machine (g.O.Sink.state c.args.out.now) (g.O.Sink.state c.flush_or_pass.new.out) = record {
       next = c.repeat.new.self;
       made = made;
@@ -58,14 +51,6 @@ returns-in_err-flush_or_pass-clause-broke g c =
 pub returns-clause-made : goal.returns-clause-made
 returns-clause-made g c =
     let same : c.idles.new.self ≡ c.args.machine.now = c.idles.ensures.same c.if-idles.false in
-    let once : c.repeat.result ≡ 1 = omega (arith, c.repeat.ensures.some, c.repeat.ensures.most) in
-    let made : IsRepeated c.args.machine.now c.args.event 1 c.repeat.new.self =
-    subst (λ (m : Machine). IsRepeated m c.args.event 1 c.repeat.new.self) same
-    (subst (λ n. IsRepeated c.idles.new.self c.args.event n c.repeat.new.self) once
-    (record {
-      some = c.repeat.ensures.some;
-      chain = c.repeat.ensures.chain;
-      refuses = λ r stands. one_refuses c.repeat.result c.args.event r once;
-      counts = c.repeat.ensures.counts;
-    })) in
+    let made = once_from c.repeat.result c.args.machine.now c.idles.new.self c.repeat.new.self c.args.event same c.repeat.ensures.most
+    (once_made c.repeat.result c.idles.new.self c.repeat.new.self c.args.event c.repeat.ensures.some c.repeat.ensures.most c.repeat.ensures.chain c.repeat.ensures.counts) in
     record { next = c.repeat.new.self; made = made; flushed = c.in_ok-flush_or_pass.ensures.flushed; room = c.in_ok-flush_or_pass.ensures.room }

@@ -25,15 +25,15 @@ returns-in_default-clause-went g c = record {
   over = inr (sym c.in_default.ensures.event);
 }
 
-pub look_and_make-requires-clause-may : goal.look_and_make-requires-clause-may
-look_and_make-requires-clause-may g c =
+pub look_and_make-requires-clause-row : goal.look_and_make-requires-clause-row
+look_and_make-requires-clause-row g c =
     let may : MayTend c.pass_write.new.machine 0 = tend_passed 0 c.args.machine.now c.pass_write.new.machine c.pass_write.ensures.passed c.requires.may in
     let one = c.once.ensures.count in
-    tend_makes 0 c.once.result.count c.pass_write.new.machine may (omega (arith, one)) (omega (arith, one))
-
-pub look_and_make-requires-clause-has : goal.look_and_make-requires-clause-has
-look_and_make-requires-clause-has g c =
-    let may : MayTend c.pass_write.new.machine 0 = tend_passed 0 c.args.machine.now c.pass_write.new.machine c.pass_write.ensures.passed c.requires.may in may.state
+    record {
+      may = tend_makes 0 c.once.result.count c.pass_write.new.machine may (omega (arith, one)) (omega (arith, one));
+      state = may.state;
+      running = ap is_running (sym c.verdict.ensures) ∙ sym c.is_running.ensures ∙ c.if-not-is_running.false;
+    }
 
 pub look_and_make-requires-clause-kept : goal.look_and_make-requires-clause-kept
 look_and_make-requires-clause-kept g c =
@@ -42,8 +42,8 @@ look_and_make-requires-clause-kept g c =
 pub returns-clause-went : goal.returns-clause-went
 returns-clause-went g c =
     let one : c.in-Some.one.count ≡ 1 = omega (arith, c.in-Some.ensures.some, c.in-Some.ensures.most) in
-    let most = c.in_ok-look_and_make.ensures.most in
-    let some = c.in_ok-look_and_make.ensures.made.some in
+    let most = c.in_ok-look_and_make.ensures.row.most in
+    let some = c.in_ok-look_and_make.ensures.row.made.some in
     let once : c.in_ok-look_and_make.field-0 ≡ 1 = omega (arith, most, some, c.once.ensures.count) in
     record {
       event = c.in-Some.one.event;
@@ -58,9 +58,9 @@ returns-clause-went g c =
             c.in_ok-look_and_make.ensures.looked;
         made = subst (λ n. IsRowMade c.pass_write.new.machine c.in-Some.one.event n c.look_and_make.new.machine) once
             (subst (λ e. IsRowMade c.pass_write.new.machine e c.in_ok-look_and_make.field-0 c.look_and_make.new.machine) c.once.ensures.event
-            c.in_ok-look_and_make.ensures.made);
+            c.in_ok-look_and_make.ensures.row.made);
         told = subst (λ n. TellsOn c.pass_write.new.machine c.in-Some.one.event n c.look_and_make.new.machine c.args.found.now.noted c.look_and_make.new.found.noted) once
             (subst (λ e. TellsOn c.pass_write.new.machine e c.in_ok-look_and_make.field-0 c.look_and_make.new.machine c.args.found.now.noted
-            c.look_and_make.new.found.noted) c.once.ensures.event c.in_ok-look_and_make.ensures.told);
+            c.look_and_make.new.found.noted) c.once.ensures.event c.in_ok-look_and_make.ensures.row.told);
       };
     }

@@ -24,19 +24,18 @@ returns-in_default-clause-went g c = record {
   over = inr (c.draw.ensures.end c.in_default.is);
 }
 
-pub look_and_make-requires-clause-may : goal.look_and_make-requires-clause-may
-look_and_make-requires-clause-may g c =
+pub look_and_make-requires-clause-row : goal.look_and_make-requires-clause-row
+look_and_make-requires-clause-row g c =
+    let may : MayTend c.pass_write.new.machine (count_left c.args.drawing.now) =
+    tend_passed (count_left c.args.drawing.now) c.args.machine.now c.pass_write.new.machine c.pass_write.ensures.passed c.requires.may in
     let hand : IsAtHand g.S.EventSource.schedule c.args.drawing.now c.draw.new.self c.in-Some.batch = c.in-Some.ensures.batch in
     let row : c.in-Some.batch.count ≡ c.draw.new.self.batch.count = ap (λ (r : EventRun). r.count) hand.row_is in
     let count = hand.count in
-    tend_makes (count_left c.args.drawing.now) c.in-Some.batch.count c.pass_write.new.machine
-    (tend_passed (count_left c.args.drawing.now) c.args.machine.now c.pass_write.new.machine c.pass_write.ensures.passed c.requires.may)
-    hand.some (omega (arith, row, count))
-
-pub look_and_make-requires-clause-has : goal.look_and_make-requires-clause-has
-look_and_make-requires-clause-has g c =
-    let may : MayTend c.pass_write.new.machine (count_left c.args.drawing.now) =
-    tend_passed (count_left c.args.drawing.now) c.args.machine.now c.pass_write.new.machine c.pass_write.ensures.passed c.requires.may in may.state
+    record {
+      may = tend_makes (count_left c.args.drawing.now) c.in-Some.batch.count c.pass_write.new.machine may hand.some (omega (arith, row, count));
+      state = may.state;
+      running = ap is_running (sym c.verdict.ensures) ∙ sym c.is_running.ensures ∙ c.if-not-is_running.false;
+    }
 
 pub look_and_make-requires-clause-kept : goal.look_and_make-requires-clause-kept
 look_and_make-requires-clause-kept g c =
@@ -47,7 +46,7 @@ pub count_down-requires : goal.count_down-requires
 count_down-requires g c =
     let hand : IsAtHand g.S.EventSource.schedule c.args.drawing.now c.draw.new.self c.in-Some.batch = c.in-Some.ensures.batch in
     let row : c.in-Some.batch.count ≡ c.draw.new.self.batch.count = ap (λ (r : EventRun). r.count) hand.row_is in
-    let most = c.in_ok-tended.ensures.most in
+    let most = c.in_ok-tended.ensures.row.most in
     omega (arith, row, most)
 
 pub returns-clause-went : goal.returns-clause-went
@@ -65,7 +64,7 @@ returns-clause-went g c =
         passed = record { passed = c.pass_write.ensures.passed; kept = ap writes_view c.look_and_make.ensures.writes ∙ c.in_ok-pass_write.ensures.kept };
         running = ap is_running (sym c.verdict.ensures) ∙ sym c.is_running.ensures ∙ c.if-not-is_running.false;
         looked = c.in_ok-tended.ensures.looked;
-        made = c.in_ok-tended.ensures.made;
-        told = c.in_ok-tended.ensures.told;
+        made = c.in_ok-tended.ensures.row.made;
+        told = c.in_ok-tended.ensures.row.told;
       };
     }

@@ -55,7 +55,7 @@ returns-in_err-booted-clause-prepares g c =
 
 pub returns-clause-prepares : goal.returns-clause-prepares
 returns-clause-prepares g c =
-    let new = c.in_ok-booted.ensures.new c.args.file.now c.in_ok-image.ensures in
+    let new = c.in_ok-booted.ensures.booted.new c.args.file.now c.in_ok-image.ensures in
     let fresh = fresh_with c.args.asked.now.kind (rules_of c.args.policy) c.args.file.now c.in_ok-disk.disk.items c.in_ok-booted.booted.machine new in
     let it : IsFresh (record {
       machine = c.in_ok-booted.booted.machine;
@@ -67,10 +67,10 @@ returns-clause-prepares g c =
     c.in_ok-disk.ensures.stage c.in_ok-script.ensures.stage
     (image_booted c.args.asked.now.kind (rules_of c.args.policy) c.args.file.now c.in_ok-disk.disk.items (first_events c.args.asked.now.events c.in_ok-script.script) _ c.in_ok-image.image
     (Ok (Run (record { machine = c.in_ok-booted.booted.machine; script = c.in_ok-script.script; events = c.args.asked.now.events; save = c.args.asked.now.save })))
-    c.in_ok-image.ensures c.in_ok-booted.ensures.measured c.in_ok-booted.ensures.permitted (new, refl, refl, it))
+    c.in_ok-image.ensures c.in_ok-booted.ensures.booted.measured c.in_ok-booted.ensures.booted.permitted (new, refl, refl, it))
 
 pub returns-clause-draws : goal.returns-clause-draws
 returns-clause-draws g c = λ number is.
-    let new = c.in_ok-booted.ensures.new c.args.file.now c.in_ok-image.ensures in
+    let new = c.in_ok-booted.ensures.booted.new c.args.file.now c.in_ok-image.ensures in
     c.in_ok-script.ensures.draws number is
     ∙ ap (λ (r : Rules). Schedule.Auto r.harts number) (sym (boot_rules c.args.asked.now.kind (rules_of c.args.policy) c.args.file.now c.in_ok-disk.disk.items c.in_ok-booted.booted.machine new))

@@ -11,5 +11,11 @@ invariant_of-machine g c =
     image_fit c.in_ok-system.field-0.system (rules_of c.args.policy) c.args.policy.ram_pages c.args.image.now (port_disk c.args.port)
     c.requires.read c.in_ok-system.ensures.new c.in_ok-system.ensures.journal
 
-pub returns-clause-digests : goal.returns-clause-digests
-returns-clause-digests g c = c.in_ok-system.ensures.digests c.requires.read.file c.requires.read.is
+pub returns-clause-booted : goal.returns-clause-booted
+returns-clause-booted g c = record {
+  new = c.in_ok-system.ensures.new;
+  digests = c.in_ok-system.ensures.digests c.requires.read.file c.requires.read.is;
+  journal = c.in_ok-system.ensures.journal;
+  measured = c.in_ok-system.ensures.measured;
+  permitted = c.in_ok-system.ensures.permitted;
+}

@@ -1,19 +1,14 @@
-use Rattle.std.proofs.Common.{inr, arith, ◌≡◌}
+use Rattle.std.proofs.Common.{inr}
 use Rattle.machine.proofs.Repeated.{rows_repeat}
-use Rattle.cli_survey.proofs.LookLemmas.{one_refuses, row_refuses}
+use Rattle.cli_survey.proofs.LookLemmas.{row_refuses}
+use Rattle.cli_survey.proofs.RowLemmas.{once_made}
 use Rattle.cli_survey.proofs.SurveyLemmas.{running_is}
 use Rattle.cli_survey.proofs.AdvanceLemmas.{clear_running, clear_unloaded}
-use Rattle.cli_survey.proofs.surveying.make_row.Goals as goal
+use Rattle.cli_survey.proofs.rows.make_row.Goals as goal
 
 pub returns-then-count-eq1-clause-made : goal.returns-then-count-eq1-clause-made
 returns-then-count-eq1-clause-made g c =
-    let once : c.repeat.result ≡ 1 = omega (arith, c.repeat.ensures.some, c.repeat.ensures.most) in
-    record {
-      some = c.repeat.ensures.some;
-      chain = c.repeat.ensures.chain;
-      refuses = λ r stands. one_refuses c.repeat.result c.args.event r once;
-      counts = c.repeat.ensures.counts;
-    }
+    once_made c.repeat.result c.args.machine.now c.repeat.new.self c.args.event c.repeat.ensures.some c.repeat.ensures.most c.repeat.ensures.chain c.repeat.ensures.counts
 
 pub returns-clause-made : goal.returns-clause-made
 returns-clause-made g c = record {
