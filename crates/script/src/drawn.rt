@@ -21,18 +21,17 @@ pub(crate) fn random_after(number: u64) -> u64
         .wrapping_add(GENERATOR_ADDEND)
 }
 
-// A number's rest by that of the harts. By a number that is known here it takes no division, which one in each turn would
-// be felt.
+// A number's rest by that of the harts. By a power of two it takes no division, which one in each turn would be felt.
 #[inline(always)]
 fn hart_among(harts: u8, number: u64) -> u8
     requires harts { IsHartCount harts }
     ensures { result ≡ number % harts }
 {
-    match harts {
-        1 => 0,
-        2 => (number % 2) as u8,
-        4 => (number % 4) as u8,
-        _ => (number % u64::from(harts)) as u8,
+    let last = harts - 1;
+    if harts & last == 0 {
+        (number & u64::from(last)) as u8
+    } else {
+        (number % u64::from(harts)) as u8
     }
 }
 
