@@ -1,5 +1,5 @@
--- A boot whose text has the policy's measure.
-use Rattle.std.proofs.Common.{◌≡◌, ℕ, List, ap, sym, ◌∙◌, subst, true, IsTrue}
+-- A boot from files: its text has the policy's measure, or it is refused.
+use Rattle.std.proofs.Common.{◌≡◌, ℕ, List, ap, sym, ◌∙◌, subst, true, false, IsTrue, Ok}
 use Rattle.sv_types.specs.Kernel.{text_of}
 use Rattle.sv_types.specs.Measure.{measure}
 use Rattle.sv_types.specs.Policies.{Rules, rules_within}
@@ -11,6 +11,10 @@ use Rattle.elf64_load.specs.declared.image.KernelImage.{KernelImage}
 use Rattle.laws_resume.specs.SnapLaws.{IsMeasuredBoot}
 use Rattle.laws_resume.proofs.BootDigests.{block_boot}
 use Rattle.machine.specs.Boot.{IsImageOf, image_text}
+use Rattle.policy.specs.Refusals.{Judged}
+use Rattle.policy.specs.Text.{rules_of_text}
+use Rattle.cli_trials.specs.declared.trial.files.RunFiles.{RunFiles}
+use Rattle.cli_trials.specs.Trials.{allows_boot, boots, boots_under}
 
 -- what else a boot asks holds of each machine that has started
 pub measured_boot : (m : Machine) (rules : Rules) (image : KernelImage) (file disk : List ℕ) → IsImageOf file rules.ram_pages image → IsNew m (boot_start rules file disk) →
@@ -26,3 +30,7 @@ measured_boot m rules image file disk is_image is_new measured permitted =
       };
       measured = ap (λ segments. measure (text_of segments)) (sym is_image.segments) ∙ measured;
     }
+
+-- where the rules of the policy's text don't allow it
+pub refused_boot : (files : RunFiles) (rules : Rules) → rules_of_text files.policy.now ≡ Ok rules → allows_boot rules files.image.now ≡ false → boots files ≡ false
+refused_boot files rules reads bad = ap (λ (judged : Judged Rules). boots_under judged files.image.now) reads ∙ bad

@@ -1,16 +1,19 @@
 -- How runs end that are made from the bytes of their files. This project's own.
-use Rattle.std.specs.Prelude.{◌≡◌, ℕ, List, is_none, if◌then◌else◌, Option, Some, None, Ok, Err}
+use Rattle.std.specs.Prelude.{◌≡◌, ℕ, List, Bool, false, ◌&&◌, is_none, if◌then◌else◌, Option, Some, None, Ok, Err}
+use Rattle.std.specs.Str.{bytes_eq}
+use Rattle.sv_types.specs.Kernel.{header_entry, kernel_refusal}
 use Rattle.sv_types.specs.Policies.{Rules}
 use Rattle.sv_types.specs.Schedule.{Schedule, Listed, Rounds, Auto, Bursts, first_events}
 use Rattle.spec_reference.specs.Run.{run}
 use Rattle.spec_reference.specs.Start.{boot_start}
-use Rattle.spec_reference.specs.States.{State}
+use Rattle.spec_reference.specs.States.{State, has_number}
 use Rattle.spec_hardware.specs.Machine.{Machine}
 use Rattle.spec_hardware.specs.Reaches.{IsNew}
 use Rattle.laws_resume.specs.Starts.{journal_at_boot}
 use Rattle.policy.specs.Refusals.{Judged}
 use Rattle.policy.specs.Text.{rules_of_text}
 use Rattle.script.specs.AutoScripts.{events_of_text, first_refused}
+use Rattle.cli_plans.specs.Plans.{image_measure}
 use Rattle.script_lines.specs.declared.tally.outcome.Outcome.{Outcome}
 use Rattle.script_lines.specs.Tallies.{outcome_of}
 use Rattle.cli_trials.specs.declared.trial.files.RunFiles.{RunFiles}
@@ -55,3 +58,26 @@ outcome_in files events in_order = end_under (rules_of_text files.policy.now) fi
 
 abbrev pub text_outcome : RunFiles → (events : ℕ) → (text : List ℕ) → Option Outcome
 text_outcome files events text = end_under (rules_of_text files.policy.now) files.image.now files.disk.now events (text_schedule text)
+
+-- ---- why there is no outcome
+
+-- an image that isn't refused, whose text has the policy's measure, and whose entry is a permitted one
+abbrev pub allows_boot : Rules → (file : List ℕ) → Bool
+allows_boot rules file =
+    is_none (kernel_refusal file rules.ram_pages) && (bytes_eq (image_measure file) rules.kernel && has_number rules.entries (header_entry file))
+
+abbrev pub boots_under : Judged Rules → (file : List ℕ) → Bool
+boots_under (Err fault) file = false
+boots_under (Ok rules) file = allows_boot rules file
+
+-- a machine boots from these files: their policy isn't refused, and allows a boot of their image
+abbrev pub boots : RunFiles → Bool
+boots files = boots_under (rules_of_text files.policy.now) files.image.now
+
+abbrev pub unread_under : Judged Rules → Order → Bool
+unread_under (Err fault) in_order = false
+unread_under (Ok rules) in_order = is_none (schedule_of in_order rules.harts)
+
+-- the policy isn't refused, and a line of the order's text is of no form
+abbrev pub is_unread : (policy : List ℕ) → Order → Bool
+is_unread policy in_order = unread_under (rules_of_text policy) in_order

@@ -1,8 +1,8 @@
 // A run that stops, made small.
-ghost use Rattle.std.specs.Prelude.{◌≡◌, ◌≤◌, ◌<◌, ◌+◌, ◌%◌, IfOk, length};
+ghost use Rattle.std.specs.Prelude.{◌≡◌, ◌≤◌, ◌<◌, ◌+◌, ◌%◌, IfOk, IsErrOf, true, false, length};
 ghost use Rattle.sv_types.specs.Limits.{max_events};
 ghost use Rattle.spec_reference.specs.BlockDisk.{sector_size};
-ghost use Rattle.cli_trials.specs.Trials.{text_outcome};
+ghost use Rattle.cli_trials.specs.Trials.{boots, is_unread, text_outcome};
 ghost use Rattle.cli_trials.specs.Shrinking.{IsShrunk, IsSmall};
 
 use crate::shrink::trial::Trial;
@@ -51,7 +51,9 @@ pub fn shrink<R: Threads + Sync>(
 ) -> Result<Shrunk, NoOutcome>
     requires sectors { length files.now.disk.now % sector_size ≡ 0 }
     requires few { events ≤ max_events }
-    ensures { IfOk result (IsShrunk files.now events order.now) }
+    ensures small { IfOk result (IsShrunk files.now events order.now) }
+    ensures unread { IsErrOf result NoOutcome.Script → is_unread files.now.policy.now order.now ≡ true }
+    ensures refused { IsErrOf result NoOutcome.Refused → boots files.now ≡ false }
 {
     keep_memory(alloc);
     let ending = try_order(rt, alloc, files, order, events)?;
@@ -84,6 +86,8 @@ fn shrink_by<R: Threads + Sync>(
     requires most { trial.old.runs_left ≤ MAX_RUNS }
     ensures small { IfOk result (IsSmall trial.old.wanted (text_outcome trial.old.files trial.old.events)) }
     ensures runs { IfOk result (λ script. script.runs + trial.new.runs_left ≡ MAX_RUNS) }
+    ensures refused { IsErrOf result NoOutcome.Refused → ⊥ }
+    ensures other { IsErrOf result NoOutcome.Script → ⊥ }
 {
     let mut lines = lines;
     let lines_before = lines.len();

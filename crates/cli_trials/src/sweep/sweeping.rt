@@ -1,9 +1,9 @@
 // The runs of many numbers.
-ghost use Rattle.std.specs.Prelude.{◌≡◌, ◌+◌, ◌^◌, ◌≤◌, ◌%◌, ◌<◌, ℕ, IfOk, Some, length};
+ghost use Rattle.std.specs.Prelude.{◌≡◌, ◌+◌, ◌^◌, ◌≤◌, ◌%◌, ◌<◌, ℕ, IfOk, IsErrOf, Some, false, length};
 ghost use Rattle.sv_types.specs.Limits.{max_events};
 ghost use Rattle.sv_types.specs.ApprovedPages as pages;
 ghost use Rattle.spec_reference.specs.BlockDisk.{sector_size};
-ghost use Rattle.cli_trials.specs.Trials.{schedule_of};
+ghost use Rattle.cli_trials.specs.Trials.{boots, schedule_of};
 ghost use Rattle.cli_trials.specs.Sweeps as spec;
 
 use crate::sweep::numbers::{numbers_each, numbers_from};
@@ -41,7 +41,9 @@ fn outcome_of_number<R: Threads + Sync>(
     number: u64,
 ) -> Result<Outcome, NoOutcome>
     requires may { spec.MaySweep sweep.now }
-    ensures { IfOk result (λ outcome. spec.outcome_at sweep.now number ≡ Some outcome) }
+    ensures outcome { IfOk result (λ outcome. spec.outcome_at sweep.now number ≡ Some outcome) }
+    ensures refused { IsErrOf result NoOutcome.Refused → boots sweep.now.files ≡ false }
+    ensures other { IsErrOf result NoOutcome.Script → ⊥ }
 {
     let order = order_of(sweep.order, number);
     let ending = try_order(rt, alloc, &sweep.files, &order, sweep.events)?;
@@ -57,7 +59,9 @@ fn outcomes_of_some<R: Threads + Sync, P: Progress>(
     progress: &P,
 ) -> Result<Vec<Outcome>, NoOutcome>
     requires may { spec.MaySweep sweep.now }
-    ensures { IfOk result (λ outcomes. spec.AreOutcomes sweep.now numbers.now outcomes.items) }
+    ensures outcomes { IfOk result (λ outcomes. spec.AreOutcomes sweep.now numbers.now outcomes.items) }
+    ensures refused { IsErrOf result NoOutcome.Refused → boots sweep.now.files ≡ false }
+    ensures other { IsErrOf result NoOutcome.Script → ⊥ }
 {
     let mut outcomes = Vec::new(alloc);
     'numbers: for number in numbers {
@@ -79,7 +83,9 @@ fn outcomes_of_all<R: Threads + Sync, P: Progress + Sync>(
     progress: &P,
 ) -> Result<Vec<Outcome>, NoOutcome>
     requires may { spec.MaySweep sweep.now }
-    ensures { IfOk result (λ outcomes. spec.AreOutcomes sweep.now numbers.now outcomes.items) }
+    ensures outcomes { IfOk result (λ outcomes. spec.AreOutcomes sweep.now numbers.now outcomes.items) }
+    ensures refused { IsErrOf result NoOutcome.Refused → boots sweep.now.files ≡ false }
+    ensures other { IsErrOf result NoOutcome.Script → ⊥ }
 {
     let size = numbers_each(rt, numbers.len());
     let Ok(chunks) = thread::map_chunks(
@@ -89,7 +95,9 @@ fn outcomes_of_all<R: Threads + Sync, P: Progress + Sync>(
         size,
         &|_, chunk: &[u64]| -> Result<Vec<Outcome>, NoOutcome>
             requires { spec.MaySweep sweep.now }
-            ensures { IfOk result (λ outcomes. spec.AreOutcomes sweep.entry.now chunk.entry.now outcomes.items) }
+            ensures outcomes { IfOk result (λ outcomes. spec.AreOutcomes sweep.entry.now chunk.entry.now outcomes.items) }
+            ensures refused { IsErrOf result NoOutcome.Refused → boots sweep.entry.now.files ≡ false }
+            ensures other { IsErrOf result NoOutcome.Script → ⊥ }
         { outcomes_of_some(rt, alloc, sweep, chunk, progress) },
     ) else {
         return Err(NoOutcome::Memory);
@@ -120,7 +128,9 @@ pub fn sweep_numbers<R: Threads + Sync, P: Progress + Sync>(
 ) -> Result<Tallies, NoOutcome>
     requires may { spec.MaySweep sweep.now }
     requires numbers { first + count ≤ 2 ^ 64 }
-    ensures { IfOk result (λ tallies. spec.IsSwept sweep.now first count tallies.entries) }
+    ensures swept { IfOk result (λ tallies. spec.IsSwept sweep.now first count tallies.entries) }
+    ensures refused { IsErrOf result NoOutcome.Refused → boots sweep.now.files ≡ false }
+    ensures other { IsErrOf result NoOutcome.Script → ⊥ }
 {
     let Ok(numbers) = numbers_from(alloc, first, count) else {
         return Err(NoOutcome::Memory);

@@ -24,7 +24,8 @@ pub enum Order<'a> {
 pub(crate) fn script_for(alloc: Global, order: &Order<'_>, harts: u8) -> Result<Script, NoOutcome>
     requires harts { IsHartCount harts }
     ensures read { IfOk result (λ script. spec.schedule_of order.now harts ≡ Some script) }
-    ensures refused { IsErrOf result NoOutcome.Script → spec.schedule_of order.now harts ≡ None }
+    ensures unread { IsErrOf result NoOutcome.Script → spec.schedule_of order.now harts ≡ None }
+    ensures refused { IsErrOf result NoOutcome.Refused → ⊥ }
 {
     match order {
         Order::Rounds => Ok(rounds(harts)),
@@ -37,7 +38,8 @@ pub(crate) fn script_for(alloc: Global, order: &Order<'_>, harts: u8) -> Result<
 fn read_text(alloc: Global, text: &[u8], harts: u8) -> Result<Script, NoOutcome>
     requires harts { IsHartCount harts }
     ensures read { IfOk result (λ script. spec.text_schedule text.now harts ≡ Some script) }
-    ensures refused { IsErrOf result NoOutcome.Script → spec.text_schedule text.now harts ≡ None }
+    ensures unread { IsErrOf result NoOutcome.Script → spec.text_schedule text.now harts ≡ None }
+    ensures refused { IsErrOf result NoOutcome.Refused → ⊥ }
 {
     match read(alloc, text, harts) {
         Ok(script) => Ok(script),

@@ -1,5 +1,5 @@
 // Trials.
-ghost use Rattle.std.specs.Prelude.{◌≡◌, ◌≤◌, ◌%◌, IfOk, IsErrOf, Ok, OnOk, Some, None, length};
+ghost use Rattle.std.specs.Prelude.{◌≡◌, ◌≤◌, ◌%◌, IfOk, IsErrOf, Ok, OnOk, Some, true, false, is_ok, length};
 ghost use Rattle.sv_types.specs.Limits.{max_events};
 ghost use Rattle.sv_types.specs.Policies.{Rules};
 ghost use Rattle.spec_reference.specs.BlockDisk.{sector_size};
@@ -19,7 +19,9 @@ use script::Script;
 use std::alloc::Global;
 use std::thread::Threads;
 
-/// How the run of these files ends over the first events of an order. `Script` is answered only of a text that is refused.
+/// How the run of these files ends over the first events of an order. `Script` is answered only of a text that is refused, and
+/// `Refused` only where no machine boots from the files.
+#[tactic(auto, using(crate::proofs::Booting::refused_boot))]
 pub fn try_order<R: Threads + Sync>(
     rt: &R,
     alloc: Global,
@@ -30,7 +32,8 @@ pub fn try_order<R: Threads + Sync>(
     requires sectors { length files.now.disk.now % sector_size ≡ 0 }
     requires few { events ≤ max_events }
     ensures outcome { IfOk result (λ ending. spec.outcome_in files.now events order.now ≡ Some ending.outcome) }
-    ensures refused { IsErrOf result NoOutcome.Script → spec.outcome_in files.now events order.now ≡ None }
+    ensures unread { IsErrOf result NoOutcome.Script → spec.is_unread files.now.policy.now order.now ≡ true }
+    ensures refused { IsErrOf result NoOutcome.Refused → spec.boots files.now ≡ false }
 {
     let policy = read_policy(alloc, files.policy)?;
     let script = script_for(alloc, order, policy.harts)?;
@@ -39,6 +42,7 @@ pub fn try_order<R: Threads + Sync>(
 }
 
 /// A machine of these files, before its first event, and the digests of its text's pages, ascending, by which it was measured.
+#[tactic(auto, using(crate::proofs::Booting::refused_boot))]
 pub fn boot_files<R: Threads + Sync>(
     rt: &R,
     alloc: Global,
@@ -50,6 +54,8 @@ pub fn boot_files<R: Threads + Sync>(
     ensures booted { IfOk result (λ b. spec.IsBooted b.machine) }
     ensures digests { IfOk result (λ b. HasDigests b.machine b.digests.items) }
     ensures measured { OnOk result ((rules : Rules) → rules_of_text files.now.policy.now ≡ Ok rules → IsMeasuredBoot rules files.now.image.now) }
+    ensures refused { IsErrOf result NoOutcome.Refused → spec.boots files.now ≡ false }
+    ensures other { IsErrOf result NoOutcome.Script → ⊥ }
 {
     let policy = read_policy(alloc, files.policy)?;
     boot(rt, alloc, files, policy)
@@ -57,7 +63,9 @@ pub fn boot_files<R: Threads + Sync>(
 
 /// The events of an order for the harts of a policy's text.
 pub fn script_of_order(alloc: Global, policy: &[u8], order: &Order<'_>) -> Result<Script, NoOutcome>
-    ensures { IfOk result (λ script. (rules : Rules) → rules_of_text policy.now ≡ Ok rules → spec.schedule_of order.now rules.harts ≡ Some script) }
+    ensures read { IfOk result (λ script. (rules : Rules) → rules_of_text policy.now ≡ Ok rules → spec.schedule_of order.now rules.harts ≡ Some script) }
+    ensures unread { IsErrOf result NoOutcome.Script → spec.is_unread policy.now order.now ≡ true }
+    ensures refused { IsErrOf result NoOutcome.Refused → is_ok (rules_of_text policy.now) ≡ false }
 {
     let policy = read_policy(alloc, policy)?;
     script_for(alloc, order, policy.harts)

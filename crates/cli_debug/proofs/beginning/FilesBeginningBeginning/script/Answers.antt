@@ -9,5 +9,5 @@ pub returns-in-Ok : goal.returns-in-Ok
 returns-in-Ok c =
     let b = c.args.self.now in
     let given = c.order.ensures (rules_of b.policy).harts (is_accepted b.parts.order b.accepted) in
-    let read = c.in-Ok.ensures (rules_of b.policy) (ap rules_of_text c.deref.ensures.value ∙ b.reads) in
+    let read = c.in-Ok.ensures.read (rules_of b.policy) (ap rules_of_text c.deref.ensures.value ∙ b.reads) in
     same_Some _ _ (sym read ∙ given)

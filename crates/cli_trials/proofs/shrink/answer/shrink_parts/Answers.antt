@@ -8,4 +8,4 @@ returns-in-Ok g c = λ rules reads.
       image_is = c.files-run_files.ensures.image;
       disk_is = c.files-run_files.ensures.disk;
     }) reads
-    (c.order-order.ensures rules.harts c.requires.accepted) c.in-Ok.ensures c.answer_shrunk.ensures
+    (c.order-order.ensures rules.harts c.requires.accepted) c.in-Ok.ensures.small c.answer_shrunk.ensures

@@ -14,4 +14,4 @@ returns-in-Ok g c = λ rules reads.
     record { text_is = c.files.ensures.policy; file_is = c.files.ensures.image; disk_is = c.files.ensures.disk } in
     subst (λ (entries : List (Outcome × Tally)). WritesAll (lines.sweep_status entries) (lines.sweep_text entries) (g.O.Sink.state c.args.out.now)
     (g.O.Sink.state c.write_tallies.new.out) c.write_tallies.result)
-    (entries_same _ (sweep_value c.args.asked.now) rules _ _ _ _ refl refl borrows reads c.in-Ok.ensures) c.write_tallies.ensures
+    (entries_same _ (sweep_value c.args.asked.now) rules _ _ _ _ refl refl borrows reads c.in-Ok.ensures.swept) c.write_tallies.ensures

@@ -18,8 +18,8 @@ chunks-preserved g c =
     subst (λ (os : List Outcome). AreOutcomes sweep (take ((i + 1) * size) numbers) os) (sym items)
     (chunk_more sweep numbers size i c.chunks.outcomes.items c.in-Ok-chunk.some.items c.chunks.invariant there)
 
-pub returns : goal.returns
-returns g c =
+pub returns-clause-outcomes : goal.returns-clause-outcomes
+returns-clause-outcomes g c =
     let size = c.numbers_each-size.result in
     let numbers = c.args.numbers.now in
     let count : length c.in-Ok.chunks.items ≡ length numbers / size + min 1 (length numbers % size) = search rules in
