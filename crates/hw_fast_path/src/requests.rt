@@ -185,10 +185,11 @@ fn supervisor_only(core: &mut Core, regs: &HRegs) -> Tried
     }
 }
 
-// An effect carried out, where it only computes, loads or stores: all that is done without a call where nothing is walked.
+// An effect carried out, where it only computes, loads, stores, operates on a word of memory, or reads or writes a register that
+// doesn't go by the wires.
 #[tactic(auto, using(hw_tlb::specs::Fills::nothing_filled), unfolding(spec_processor::specs::HardwareAttempt::after_effect))]
 #[inline(always)]
-fn apply_plain<L: Lookup>(
+fn apply(
     core: &mut Core,
     regs: &HRegs,
     caches: &mut HartCaches,
@@ -213,7 +214,7 @@ fn apply_plain<L: Lookup>(
             addr,
             width,
             signed,
-        } => load::<L>(
+        } => load::<Walks>(
             core,
             regs,
             caches,
@@ -225,7 +226,7 @@ fn apply_plain<L: Lookup>(
                 signed,
             },
         ),
-        Effect::Store { addr, width, value } => store::<L>(
+        Effect::Store { addr, width, value } => store::<Walks>(
             core,
             regs,
             caches,
@@ -236,29 +237,6 @@ fn apply_plain<L: Lookup>(
                 value,
             },
         ),
-        _ => Tried::Stopped,
-    }
-}
-
-// An effect carried out, where it only computes, loads, stores, operates on a word of memory, or reads or writes a register that
-// doesn't go by the wires.
-#[tactic(auto, using(hw_tlb::specs::Fills::nothing_filled), unfolding(spec_processor::specs::HardwareAttempt::after_effect))]
-#[inline(always)]
-fn apply(
-    core: &mut Core,
-    regs: &HRegs,
-    caches: &mut HartCaches,
-    mem: &mut HostMem,
-    effect: Effect,
-) -> Tried
-    requires may { MayTurn mem.old core.old regs.now caches.old.second caches.old.both }
-    requires request { IsRequest effect }
-    ensures comes { (lines : Lines) → (word : ℕ) →
-        Comes result (after_effect mem.old (core_of core.old regs.now) lines word effect) mem.old mem.new (core_of core.old regs.now)
-        (core_of core.new regs.now) }
-    ensures turned { Turned result mem.old mem.new core.old core.new regs.now caches.old.second caches.new.second caches.new.both }
-{
-    match effect {
         Effect::Amo {
             rd,
             addr,
@@ -300,7 +278,62 @@ fn apply(
             Tried::Retired
         }
         Effect::Wfi | Effect::SfenceVma => supervisor_only(core, regs),
-        plain => apply_plain::<Walks>(core, regs, caches, mem, plain),
+        _ => Tried::Stopped,
+    }
+}
+
+// An effect carried out, where it only computes, loads or stores, and by what is held alone: all that is done without a call.
+#[tactic(auto, using(hw_tlb::specs::Fills::nothing_filled), unfolding(spec_processor::specs::HardwareAttempt::after_effect))]
+#[inline(always)]
+fn apply_held(
+    core: &mut Core,
+    regs: &HRegs,
+    caches: &mut HartCaches,
+    mem: &mut HostMem,
+    effect: Effect,
+) -> Tried
+    requires may { MayTurn mem.old core.old regs.now caches.old.second caches.old.both }
+    requires request { IsRequest effect }
+    ensures comes { (lines : Lines) → (word : ℕ) →
+        Comes result (after_effect mem.old (core_of core.old regs.now) lines word effect) mem.old mem.new (core_of core.old regs.now)
+        (core_of core.new regs.now) }
+    ensures turned { Turned result mem.old mem.new core.old core.new regs.now caches.old.second caches.new.second caches.new.both }
+{
+    match effect {
+        Effect::Set { rd, value, next } => {
+            core.regs.set(rd, value);
+            core.pc = next;
+            Tried::Retired
+        }
+        Effect::Load {
+            rd,
+            addr,
+            width,
+            signed,
+        } => load::<Held>(
+            core,
+            regs,
+            caches,
+            mem,
+            Loading {
+                rd,
+                address: addr,
+                width,
+                signed,
+            },
+        ),
+        Effect::Store { addr, width, value } => store::<Held>(
+            core,
+            regs,
+            caches,
+            mem,
+            Storing {
+                address: addr,
+                width,
+                value,
+            },
+        ),
+        _ => Tried::Stopped,
     }
 }
 
@@ -321,7 +354,7 @@ pub(crate) fn carry_out_held(
     ensures turned { Turned result mem.old mem.new core.old core.new regs.now caches.old.second caches.new.second caches.new.both }
 {
     match micro_op.effect::<Held>(&core.regs, core.pc) {
-        Some(effect) => apply_plain::<Held>(core, regs, caches, mem, effect),
+        Some(effect) => apply_held(core, regs, caches, mem, effect),
         None => Tried::Stopped,
     }
 }
