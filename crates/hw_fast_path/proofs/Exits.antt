@@ -22,7 +22,7 @@ use Rattle.spec_processor.specs.declared.exit.Exit.{Exit}
 use Rattle.spec_processor.specs.declared.hregs.HRegs.{HRegs}
 use Rattle.hart.specs.Cores.{core_of}
 use Rattle.hart.specs.declared.hart.Core.{Core as Kept}
-use Rattle.hw_fast_path.proofs.Going.{Batch, batch_more, batch_starts, course_stays, still_none, was_not_made}
+use Rattle.hw_fast_path.proofs.Going.{Batch, batch_more, batch_starts, batch_stays, course_stays, still_none}
 use Rattle.hw_fast_path.specs.Ends.{with_leaving}
 use Rattle.hw_fast_path.specs.Quick.{Comes, Fetches, GoesOn, SameCourse, Steers, is_made}
 use Rattle.hw_fast_path.specs.Batches.{EndsBy, LeavesBy, call_exit, return_exit}
@@ -141,15 +141,11 @@ pub ends_left : (left : Leaving) (n : ℕ) (r after : Region) (core last next : 
     → ((lines : Lines) → pending last.hregs last.csrs lines ≡ None → LeavesBy left (attempt after last lines) after last next) → Ends left n r core after next
 ends_left left n r after core last next batch course hregs one = λ lines none. (last, (batch lines none, one lines (still_none core last lines course hregs none)))
 
--- where a turn that was tried wasn't made, a row that follows is the row from before it
-pub tried_before : (t : Tried) (left : Leaving) (n : ℕ) (r mid after : Region) (core last next : Core) → is_made t ≡ false
-    → ((lines : Lines) → pending core.hregs core.csrs lines ≡ None → Comes t (attempt r core lines) r mid core last) → Ends left n mid last after next
-    → Ends left n r core after next
-tried_before t left n r mid after core last next stopped comes ends = λ lines none.
-    let same = was_not_made t (attempt r core lines) r mid core last stopped (comes lines none) in
-    subst (λ (x : Region). EndsBy left n x core lines after next) same.0
-    (subst (λ (x : Core). EndsBy left n mid x lines after next) same.1
-    (ends lines (subst (λ (x : Core). pending x.hregs x.csrs lines ≡ None) (sym same.1) none)))
+-- a turn that was tried and wasn't made is a row of none
+pub none_at_once : (t : Tried) (r after : Region) (core next : Core) → is_made t ≡ false
+    → ((lines : Lines) → pending core.hregs core.csrs lines ≡ None → Comes t (attempt r core lines) r after core next) → Ends Stays 0 r core after next
+none_at_once t r after core next stopped comes =
+    ends_there 0 r after core next (batch_stays t 0 r r after core core next (course_stays core.csrs) refl (batch_starts r core) stopped comes)
 
 -- and one that is made is a row of one
 pub made_at_once : (t : Tried) (r after : Region) (core next : Core) → is_made t ≡ true

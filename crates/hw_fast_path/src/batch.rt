@@ -95,8 +95,7 @@ impl Batch {
     }
 }
 
-// The turns themselves. All that they read and change is handed over by itself, so that the loop keeps it in registers; it
-// stands out of line, since the count that follows it would take one of them.
+// The turns themselves. All that they read and change is handed over by itself, so that the loop keeps it in registers.
 #[inline(never)]
 fn batch_of_turns(
     words: &mut FlatWords,
@@ -135,8 +134,7 @@ fn batch_of_turns(
     }
 }
 
-// A turn by itself, by what is held alone. No call stands on its way, so that no register is saved for one. It is made, or all
-// is as it was.
+// A turn by itself, by what is held alone: no call stands on its way. It is made, or all is as it was.
 #[inline(never)]
 fn lone_turn(
     words: &FlatWords,
@@ -159,65 +157,80 @@ fn lone_turn(
     carry_out_held(core, regs, caches, mem, micro_op)
 }
 
-// A row of one turn: by what is held, where that is enough.
-#[inline(always)]
-fn one_turn(
-    words: &mut FlatWords,
-    core: &mut Core,
-    regs: &HRegs,
-    caches: &mut HartCaches,
-    mem: &mut HostMem,
-) -> Batch
-    requires may { MayTurn mem.old core.old regs.now caches.old.second caches.old.both }
-    ensures ends { (lines : Lines) → pending regs.now core.old.csrs lines ≡ None →
-        EndsBy result.left result.made mem.old (core_of core.old regs.now) lines mem.new (core_of core.new regs.now) }
-    ensures most { turns_of result ≤ 1 }
-    ensures on { GoesOn mem.old mem.new core.old core.new regs.now caches.old.second caches.new.second }
-    ensures reach { ReachAgrees mem.new.tables caches.new.both }
-{
-    let tried = lone_turn(words, core, regs, caches, mem);
-    if tried.is_made() {
-        return Batch {
+/// A way by which turns of a hart are made.
+pub trait Way {
+    /// Up to `most` turns of a hart in a row, each of whose attempts carries out its instruction, and one after them that
+    /// leaves the guest. Answers how many were made: what isn't a computation, a load, a store, an atomic operation, or an
+    /// access to a register whose value doesn't go by the wires, or is refused, or misaligned, stops the row before its turn.
+    /// Where the row stops at ECALL in user mode or SRET in kernel mode before it has `most` turns, that turn may be made too,
+    /// and isn't among `made`; its exit is the caller's to answer. After a write of `sstatus`, `sie` or `satp` the row ends,
+    /// since an interrupt may be due then.
+    ///
+    /// The hart has no reservation. No other hart's is looked at. That no interrupt is taken at the start is what the
+    /// clause on turns asks; none comes up on the way, since no register changes that decides it. Each turn is an attempt,
+    /// and counted.
+    fn quick_turns(
+        words: &mut MicroOpCache,
+        core: &mut Core,
+        regs: &HRegs,
+        caches: &mut HartCaches,
+        mem: &mut HostMem,
+        most: u64,
+    ) -> Batch
+        requires may { MayTurn mem.old core.old regs.now caches.old.second caches.old.both }
+        requires count { words.old + most < 2 ^ 64 }
+        ensures ends { (lines : Lines) → pending regs.now core.old.csrs lines ≡ None →
+            EndsBy result.left result.made mem.old (core_of core.old regs.now) lines mem.new (core_of core.new regs.now) }
+        ensures most { turns_of result ≤ most }
+        ensures on { GoesOn mem.old mem.new core.old core.new regs.now caches.old.second caches.new.second }
+        ensures reach { ReachAgrees mem.new.tables caches.new.both }
+        ensures count { words.new ≡ words.old + turns_of result };
+}
+
+/// In a row, by walks where a translation isn't held.
+pub struct InRow;
+
+impl Way for InRow {
+    #[inline(always)]
+    fn quick_turns(
+        words: &mut MicroOpCache,
+        core: &mut Core,
+        regs: &HRegs,
+        caches: &mut HartCaches,
+        mem: &mut HostMem,
+        most: u64,
+    ) -> Batch {
+        let batch = batch_of_turns(&mut words.micro_op, core, regs, caches, mem, most);
+        words.count(batch);
+        batch
+    }
+}
+
+/// One alone, by what is held. Where that isn't enough, none is made.
+pub struct Alone;
+
+impl Way for Alone {
+    #[inline(always)]
+    fn quick_turns(
+        words: &mut MicroOpCache,
+        core: &mut Core,
+        regs: &HRegs,
+        caches: &mut HartCaches,
+        mem: &mut HostMem,
+        most: u64,
+    ) -> Batch {
+        if most == 0 {
+            return Batch::none();
+        }
+        let tried = lone_turn(&words.micro_op, core, regs, caches, mem);
+        if !tried.is_made() {
+            return Batch::none();
+        }
+        let one = Batch {
             made: 1,
             left: Leaving::Stays,
         };
+        words.count(one);
+        one
     }
-    batch_of_turns(words, core, regs, caches, mem, 1)
-}
-
-/// Up to `most` turns of a hart in a row, each of whose attempts carries out its instruction, and one after them that leaves
-/// the guest. Answers how many were made: what isn't a computation, a load, a store, an atomic operation, or an access to a
-/// register whose value doesn't go by the wires, or is refused, or misaligned, stops the row before its turn. Where the row
-/// stops at ECALL in user mode or SRET in kernel mode before it has `most` turns, that turn is made too, and isn't among
-/// `made`; its exit is the caller's to answer. After a write of `sstatus`, `sie` or `satp` the row ends, since an
-/// interrupt may be due then.
-///
-/// The hart has no reservation. No other hart's is looked at. That no interrupt is taken at the start is what the
-/// clause on turns asks; none comes up on the way, since no register changes that decides it. Each turn is an attempt, and
-/// counted.
-#[inline(always)]
-pub fn quick_turns(
-    words: &mut MicroOpCache,
-    core: &mut Core,
-    regs: &HRegs,
-    caches: &mut HartCaches,
-    mem: &mut HostMem,
-    most: u64,
-) -> Batch
-    requires may { MayTurn mem.old core.old regs.now caches.old.second caches.old.both }
-    requires count { words.old + most < 2 ^ 64 }
-    ensures ends { (lines : Lines) → pending regs.now core.old.csrs lines ≡ None →
-        EndsBy result.left result.made mem.old (core_of core.old regs.now) lines mem.new (core_of core.new regs.now) }
-    ensures most { turns_of result ≤ most }
-    ensures on { GoesOn mem.old mem.new core.old core.new regs.now caches.old.second caches.new.second }
-    ensures reach { ReachAgrees mem.new.tables caches.new.both }
-    ensures count { words.new ≡ words.old + turns_of result }
-{
-    let batch = if most == 1 {
-        one_turn(&mut words.micro_op, core, regs, caches, mem)
-    } else {
-        batch_of_turns(&mut words.micro_op, core, regs, caches, mem, most)
-    };
-    words.count(batch);
-    batch
 }

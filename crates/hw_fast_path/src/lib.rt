@@ -15,6 +15,6 @@ mod requests;
 mod tried;
 mod window;
 
-pub use batch::{Batch, quick_turns};
+pub use batch::{Alone, Batch, InRow, Way};
 pub use leaving::Leaving;
 pub use micro_op_cache::MicroOpCache;

@@ -13,13 +13,13 @@ ghost use Rattle.hw_platform.specs.Batches.{AreFree, WalksUnderRoot};
 ghost use Rattle.spec_processor.specs.Bytes.{instruction_size};
 
 use host_mem::HostMem;
-use hw_fast_path::{Batch, MicroOpCache, quick_turns};
+use hw_fast_path::{Batch, MicroOpCache, Way};
 use hw_tlb::HartCaches;
 use monitor_exits::HartSlot;
 
 // Turns of a hart on its side, with its caches.
 #[inline(always)]
-fn batch_in_slot(
+fn batch_in_slot<W: Way>(
     words: &mut MicroOpCache,
     slot: &mut HartSlot,
     own: &mut HartCaches,
@@ -42,12 +42,12 @@ fn batch_in_slot(
     ensures count { words.new ≡ words.old + turns_of result }
 {
     let regs = slot.privilege.registers();
-    quick_turns(words, &mut slot.hart.core, regs, own, mem, most)
+    W::quick_turns(words, &mut slot.hart.core, regs, own, mem, most)
 }
 
 /// Turns of a hart among all harts, each with its caches.
 #[inline(always)]
-pub(crate) fn batch(
+pub(crate) fn batch<W: Way>(
     words: &mut MicroOpCache,
     slots: &mut [HartSlot],
     caches: &mut [HartCaches],
@@ -71,7 +71,7 @@ pub(crate) fn batch(
 {
     let slot = &mut slots[hart as usize];
     let own = &mut caches[hart as usize];
-    batch_in_slot(words, slot, own, mem, most)
+    batch_in_slot::<W>(words, slot, own, mem, most)
 }
 
 /// No hart has a reservation.

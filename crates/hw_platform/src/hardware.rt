@@ -22,7 +22,7 @@ use csr_file::pending;
 use hart::Cpu;
 use host_mem::HostMem;
 use hw_devices::Devices;
-use hw_fast_path::{Batch, MicroOpCache};
+use hw_fast_path::{Batch, MicroOpCache, Way};
 use hw_tlb::HartCaches;
 use monitor_exits::HartSlot;
 use spec_processor::Outcome;
@@ -75,7 +75,7 @@ impl Hardware {
     /// Up to so many turns of a hart, each of which carries out an instruction, and one after them in which it leaves the
     /// guest. The attempts of all are counted.
     #[inline(always)]
-    pub fn batch(&mut self, hart: u8, most: u64) -> Batch
+    pub fn batch<W: Way>(&mut self, hart: u8, most: u64) -> Batch
         requires whole { IsWhole self.old }
         requires there { hart < length self.old.slots.items }
         requires walks { WalksUnderRoot self.old.mem (hart_in (hw_harts_of self.old.slots.items) hart) }
@@ -96,7 +96,7 @@ impl Hardware {
         ensures whole { IsWhole self.new }
         ensures kept { KeepsMemory self.old self.new }
     {
-        batch(
+        batch::<W>(
             &mut self.words,
             &mut self.slots,
             &mut self.caches,

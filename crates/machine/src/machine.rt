@@ -22,7 +22,7 @@ ghost use Rattle.machine.specs.Batches.{MayBatch, reserves_nothing};
 ghost use Rattle.hw_fast_path.specs.Ends.{turns_of};
 
 use crate::events::System;
-use hw_fast_path::Batch;
+use hw_fast_path::{Alone, Batch, InRow, Way};
 use machine_journal::Notes;
 use std::marker::Model;
 use sv_types::{Counts, Event, Note, Verdict};
@@ -75,7 +75,7 @@ impl Machine {
         ensures all { length self.new.journal.printed ≡ length self.old.journal.printed → self.new.journal.verdict ≡ Running → result ≡ count }
     {
         if count == 1 {
-            return self.round(event, 1);
+            return self.one(event);
         }
         self.rounds(event, count)
     }
@@ -89,6 +89,9 @@ impl Machine {
         requires counts { CountsAtMost (max_counts - count) self.old.journal.counts }
         ensures { MadeRow result count self.old event self.new }
     {
+        if count == 1 {
+            return self.one(event);
+        }
         let shown = self.printed().len();
         let mut made = 0;
         'events: while made < count {
@@ -132,6 +135,43 @@ impl Machine {
         }
         self.make(Event::Turn(hart));
         true
+    }
+
+    // The event once: a turn by what is held, where that is enough.
+    #[inline(always)]
+    fn one(&mut self, event: Event) -> u64
+        requires { MayMake self.old 1 }
+        ensures { MadeRow result 1 self.old event self.new }
+    {
+        if let Event::Turn(hart) = event {
+            return self.hart_turn(hart);
+        }
+        self.once(event, 1)
+    }
+
+    // A turn of a hart: by what is held, else as a row of one.
+    #[inline(always)]
+    fn hart_turn(&mut self, hart: u8) -> u64
+        requires { MayMake self.old 1 }
+        ensures { MadeRow result 1 self.old (Turn hart) self.new }
+    {
+        if self.system.is_stopped(hart) {
+            return self.once(Event::Turn(hart), 1);
+        }
+        let made = self.batch::<Alone>(hart, 1).turns();
+        if made == 0 {
+            return self.row_of_one(hart);
+        }
+        made
+    }
+
+    // A row of one turn, kept out of the way of turns that are made by what is held.
+    #[inline(never)]
+    fn row_of_one(&mut self, hart: u8) -> u64
+        requires { MayMake self.old 1 }
+        ensures { MadeRow result 1 self.old (Turn hart) self.new }
+    {
+        self.hart_turns(hart, 1)
     }
 
     // Rounds of one event, up to `count` times.
@@ -184,7 +224,7 @@ impl Machine {
         if self.system.is_stopped(hart) {
             return self.once(Event::Turn(hart), most);
         }
-        let batch = self.batch(hart, most);
+        let batch = self.batch::<InRow>(hart, most);
         let made = batch.turns();
         if made == most || batch.left.is_left() {
             return made;
@@ -195,13 +235,13 @@ impl Machine {
 
     // Turns of a hart that only carry out instructions, and one that leaves the guest by a call or a return, by a shorter way.
     #[inline(always)]
-    fn batch(&mut self, hart: u8, most: u64) -> Batch
+    fn batch<W: Way>(&mut self, hart: u8, most: u64) -> Batch
         requires few { most ≤ max_counts }
         requires counts { CountsAtMost (max_counts - most) self.old.journal.counts }
         ensures { MadeInBatch result.left (turns_of result) most self.old (Turn hart) self.new }
     {
         if self.may_batch(hart) {
-            self.one_row(hart, most)
+            self.one_row::<W>(hart, most)
         } else {
             Batch::none()
         }
@@ -231,13 +271,13 @@ impl Machine {
 
     // A row of turns of a hart, with the answer to the exit by which it left the guest after them.
     #[inline(always)]
-    fn one_row(&mut self, hart: u8, most: u64) -> Batch
+    fn one_row<W: Way>(&mut self, hart: u8, most: u64) -> Batch
         requires may { MayBatch self.old hart }
         requires few { most ≤ max_counts }
         requires counts { CountsAtMost (max_counts - most) self.old.journal.counts }
         ensures { MadeInBatch result.left (turns_of result) most self.old (Turn hart) self.new }
     {
-        let batch = self.system.batch(hart, most);
+        let batch = self.system.batch::<W>(hart, most);
         self.system.answer_leaving(hart, batch.left);
         batch
     }

@@ -176,10 +176,10 @@ fn run_one_by_one<S: EventSource + Drop, O: Sink>(
         if machine.verdict() != Verdict::Running {
             return Ok(());
         }
-        let Some(one) = source.draw(1) else {
+        let Some(event) = source.draw_one() else {
             return Ok(());
         };
-        machine.repeat(one.event, 1);
+        machine.repeat(event, 1);
         left.now -= 1;
         flush_due(machine, out)?;
     }

@@ -1,11 +1,12 @@
 // Where events come from.
 
 ghost use Rattle.std.specs.Prelude.{◌≡◌, ◌<◌, ◌≤◌, IfSome, option_map};
-ghost use Rattle.sv_types.specs.Schedule.{Schedule, next_event};
+ghost use Rattle.sv_types.specs.Schedule.{Schedule, next_event, after_event};
 ghost use Rattle.script.specs.Runs.{BeginsWith};
 
 use crate::burst::Bursts;
 use crate::event_run::EventRun;
+use sv_types::Event;
 use crate::listed::Listed;
 use crate::schedules::{Auto, Rounds, Weave};
 
@@ -21,6 +22,11 @@ pub trait EventSource {
         ensures first { IfSome result (λ run. BeginsWith (schedule self.old) run (schedule self.new)) }
         ensures some { IfSome result (λ run. 0 < run.count) }
         ensures most { IfSome result (λ run. run.count ≤ most) };
+
+    /// The next event, which leaves the source. None exactly at the end.
+    fn draw_one(&mut self) -> Option<Event>
+        ensures event { result ≡ next_event (schedule self.old) }
+        ensures rest { schedule self.new ≡ after_event (schedule self.old) };
 }
 
 impl EventSource for Listed {
@@ -28,6 +34,10 @@ impl EventSource for Listed {
 
     fn draw(&mut self, most: u64) -> Option<EventRun> {
         self.next_run(most)
+    }
+
+    fn draw_one(&mut self) -> Option<Event> {
+        self.next()
     }
 }
 
@@ -38,6 +48,11 @@ impl EventSource for Rounds {
     fn draw(&mut self, most: u64) -> Option<EventRun> {
         Some(self.next_run(most))
     }
+
+    #[inline(always)]
+    fn draw_one(&mut self) -> Option<Event> {
+        Some(self.next())
+    }
 }
 
 impl EventSource for Weave {
@@ -46,6 +61,11 @@ impl EventSource for Weave {
     #[inline(always)]
     fn draw(&mut self, most: u64) -> Option<EventRun> {
         Some(self.next_run(most))
+    }
+
+    #[inline(always)]
+    fn draw_one(&mut self) -> Option<Event> {
+        Some(self.next())
     }
 }
 
@@ -56,6 +76,11 @@ impl EventSource for Auto {
     fn draw(&mut self, most: u64) -> Option<EventRun> {
         Some(self.next_run(most))
     }
+
+    #[inline(always)]
+    fn draw_one(&mut self) -> Option<Event> {
+        Some(self.next())
+    }
 }
 
 impl EventSource for Bursts {
@@ -64,5 +89,10 @@ impl EventSource for Bursts {
     #[inline(always)]
     fn draw(&mut self, most: u64) -> Option<EventRun> {
         Some(self.next_run(most))
+    }
+
+    #[inline(always)]
+    fn draw_one(&mut self) -> Option<Event> {
+        Some(self.next())
     }
 }

@@ -15,7 +15,7 @@ ghost use Rattle.machine.specs.Batches.{AnswersLeaving, EndsBatch, IsQuietAt, co
 ghost use Rattle.machine.specs.EventsLimits.{max_counts};
 
 use crate::events::system::System;
-use hw_fast_path::{Batch, Leaving};
+use hw_fast_path::{Batch, Leaving, Way};
 use machine_journal::Journal;
 use monitor_exits::Trap;
 use spec_processor::{Cause, ExitCause};
@@ -83,7 +83,7 @@ impl System {
     /// Up to so many turns of a hart, each of which carries out an instruction, and one after them in which it leaves the
     /// guest. The attempts of all are counted, and the turns of those that carry out instructions.
     #[inline(always)]
-    pub fn batch(&mut self, hart: u8, most: u64) -> Batch
+    pub fn batch<W: Way>(&mut self, hart: u8, most: u64) -> Batch
         requires may { MayBatch self.old hart }
         requires ready { IsReady self.old.region (hart_in self.old.harts hart) (lines_at self.old.devices hart) }
         requires few { most ≤ max_counts }
@@ -94,7 +94,7 @@ impl System {
         ensures free { AreFree self.new.harts }
         ensures most { turns_of result ≤ most }
     {
-        let batch = self.hardware.batch(hart, most);
+        let batch = self.hardware.batch::<W>(hart, most);
         count_batch(&mut self.journal, batch.made);
         batch
     }

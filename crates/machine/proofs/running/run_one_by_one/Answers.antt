@@ -1,9 +1,11 @@
-use Rattle.std.proofs.Common.{◌≡◌, ◌≢◌, ◌<◌, ◌-◌, ◌+◌, ◌∙◌, IsTrue, ap, subst, sym, length, arith}
+use Rattle.std.proofs.Common.{◌≡◌, ◌≢◌, ◌<◌, ◌-◌, ◌+◌, ◌∙◌, IsTrue, ap, refl, subst, sym, length, arith}
 use Rattle.sv_types.specs.Limits.{max_events}
 use Rattle.sv_types.specs.declared.event.Verdict.TheVariants.{Running}
 use Rattle.sv_types.specs.Schedule.{first_events}
 use Rattle.host_io.specs.Outside.{SinkState}
 use Rattle.host_io.proofs.SinkLemmas.{on_err}
+use Rattle.script.specs.declared.event_run.EventRun.{EventRun}
+use Rattle.script.proofs.EventRuns.{begins_once}
 use Rattle.script.proofs.FirstEvents.{begun_none}
 use Rattle.machine.proofs.Repeated.{counts_within}
 use Rattle.machine.specs.Console.{flush_is_due, HasTaken, RunBrokeFromStart}
@@ -56,24 +58,25 @@ flush_due-requires-clause-sink g c = record {
 
 pub flush_due-requires-clause-room : goal.flush_due-requires-clause-room
 flush_due-requires-clause-room g c =
-    room_again c.repeat.result c.events.machine c.repeat.new.self c.in-Some.one.event c.events.invariant.has c.repeat.ensures.chain c.events.invariant.room
+    room_again c.repeat.result c.events.machine c.repeat.new.self c.in-Some.event c.events.invariant.has c.repeat.ensures.chain c.events.invariant.room
 
 pub returns-in_err-flush_due-clause-some : goal.returns-in_err-flush_due-clause-some
 returns-in_err-flush_due-clause-some g c =
     let some = c.goes_on.ensures.some c.events-test.true in
-    let one : c.in-Some.one.count ≡ 1 = omega (arith, c.in-Some.ensures.some, c.in-Some.ensures.most) in
+    let drawn : EventRun = record { event = c.in-Some.event; count = 1 } in
     let once : c.repeat.result ≡ 1 = omega (arith, c.repeat.ensures.some, c.repeat.ensures.most) in
     let before = g.S.EventSource.schedule c.events.source in
-    let behind = g.S.EventSource.schedule c.draw.new.self in
+    let behind = g.S.EventSource.schedule c.draw_one.new.self in
     let now = c.goes_on.new.self.now in
     let later = c.goes_on.new.self.later in
-    let parts = one_drawn (c.events.left.now + c.events.left.later) now later c.repeat.result c.in-Some.one before behind c.goes_on.ensures.all some one once c.in-Some.ensures.first in
-    let room = room_again c.repeat.result c.events.machine c.repeat.new.self c.in-Some.one.event c.events.invariant.has c.repeat.ensures.chain c.events.invariant.room in
+    let parts = one_drawn (c.events.left.now + c.events.left.later) now later c.repeat.result drawn before behind c.goes_on.ensures.all some refl once
+    (begins_once before behind drawn refl c.in-Some.ensures.event c.draw_one.ensures.rest) in
+    let room = room_again c.repeat.result c.events.machine c.repeat.new.self c.in-Some.event c.events.invariant.has c.repeat.ensures.chain c.events.invariant.room in
     let broke : RunBrokeFromStart c.args.machine.now (first_events c.args.events (g.S.EventSource.schedule c.args.source)) c.flush_due.new.machine
     (g.O.Sink.state c.args.out.now) (g.O.Sink.state c.flush_due.new.out) =
     λ start new. runs_broke c.repeat.result _ start _ (first_events (c.events.left.now + c.events.left.later) before) (first_events (now - 1 + later) behind)
     c.events.machine c.repeat.new.self c.flush_due.new.machine
-    c.in-Some.one.event _ _ _ c.repeat.ensures.some c.events.invariant.rest
+    c.in-Some.event _ _ _ c.repeat.ensures.some c.events.invariant.rest
     (subst (λ k. RunsOn c.args.machine.now start (first_events c.args.events (g.S.EventSource.schedule c.args.source))
     (first_events (c.events.left.now + c.events.left.later) before) c.events.machine (g.O.Sink.state c.args.out.now) k)
     (sym c.goes_on.ensures.sink) (c.events.invariant.on start new)) parts c.repeat.ensures.chain
@@ -84,23 +87,24 @@ pub events-preserved : goal.events-preserved
 events-preserved g c =
     let some = c.goes_on.ensures.some c.events-test.true in
     let all = c.goes_on.ensures.all in
-    let one : c.in-Some.one.count ≡ 1 = omega (arith, c.in-Some.ensures.some, c.in-Some.ensures.most) in
+    let drawn : EventRun = record { event = c.in-Some.event; count = 1 } in
     let once : c.repeat.result ≡ 1 = omega (arith, c.repeat.ensures.some, c.repeat.ensures.most) in
     let before = g.S.EventSource.schedule c.events.source in
-    let behind = g.S.EventSource.schedule c.draw.new.self in
+    let behind = g.S.EventSource.schedule c.draw_one.new.self in
     let now = c.goes_on.new.self.now in
     let later = c.goes_on.new.self.later in
-    let parts = one_drawn (c.events.left.now + c.events.left.later) now later c.repeat.result c.in-Some.one before behind all some one once c.in-Some.ensures.first in
+    let parts = one_drawn (c.events.left.now + c.events.left.later) now later c.repeat.result drawn before behind all some refl once
+    (begins_once before behind drawn refl c.in-Some.ensures.event c.draw_one.ensures.rest) in
     let few = c.events.invariant.few in
     let flushed = c.in_ok-flush_due.ensures.flushed in
     record {
       on = λ start new. runs_more c.repeat.result _ start _ (first_events (c.events.left.now + c.events.left.later) before) (first_events (now - 1 + later) behind)
           c.events.machine c.repeat.new.self c.flush_due.new.machine
-          c.in-Some.one.event _ _ _ c.repeat.ensures.some
+          c.in-Some.event _ _ _ c.repeat.ensures.some
           (subst (λ k. RunsOn c.args.machine.now start (first_events c.args.events (g.S.EventSource.schedule c.args.source))
           (first_events (c.events.left.now + c.events.left.later) before) c.events.machine (g.O.Sink.state c.args.out.now) k)
           (sym c.goes_on.ensures.sink) (c.events.invariant.on start new)) parts c.repeat.ensures.chain flushed;
-      has = state_after c.repeat.result c.events.machine c.repeat.new.self c.flush_due.new.machine c.in-Some.one.event _ _ c.events.invariant.has c.repeat.ensures.chain flushed;
+      has = state_after c.repeat.result c.events.machine c.repeat.new.self c.flush_due.new.machine c.in-Some.event _ _ c.events.invariant.has c.repeat.ensures.chain flushed;
       taken = taken_more _ c.repeat.new.self c.flush_due.new.machine _ _
           (subst (λ k. HasTaken (g.O.Sink.state c.args.out.now) k) (sym c.goes_on.ensures.sink) c.events.invariant.taken) flushed;
       few = omega (arith, few, all);

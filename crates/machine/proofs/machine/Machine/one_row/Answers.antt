@@ -13,25 +13,25 @@ use Rattle.machine.specs.Batches.{MayBatch}
 use Rattle.machine.proofs.machine.Machine.one_row.Goals as goal
 
 pub batch-batch-requires-clause-may : goal.batch-batch-requires-clause-may
-batch-batch-requires-clause-may c = subst (λ (m : Machine). MayBatch m c.args.hart) (sym c.self.view_is) c.requires.may
+batch-batch-requires-clause-may g c = subst (λ (m : Machine). MayBatch m c.args.hart) (sym c.self.view_is) c.requires.may
 
 pub batch-batch-requires-clause-ready : goal.batch-batch-requires-clause-ready
-batch-batch-requires-clause-ready c =
+batch-batch-requires-clause-ready g c =
     let may : MayBatch c.self.inside.system c.args.hart = subst (λ (m : Machine). MayBatch m c.args.hart) (sym c.self.view_is) c.requires.may in
     ready_at c.self.inside.system c.self.invariant.state c.args.hart c.self.invariant.stands may.running may.attempts
 
 pub answer_leaving-requires-clause-hart : goal.answer_leaving-requires-clause-hart
-answer_leaving-requires-clause-hart c =
+answer_leaving-requires-clause-hart g c =
     let may : MayBatch c.self.inside.system c.args.hart = subst (λ (m : Machine). MayBatch m c.args.hart) (sym c.self.view_is) c.requires.may in
     may_trap c.batch-batch.result.left c.batch-batch.result.made c.self.inside.system c.batch-batch.new.self c.args.hart may c.batch-batch.ensures.ends c.batch-batch.ensures.aligned
 
 pub answer_leaving-requires-clause-mode : goal.answer_leaving-requires-clause-mode
-answer_leaving-requires-clause-mode c =
+answer_leaving-requires-clause-mode g c =
     let may : MayBatch c.self.inside.system c.args.hart = subst (λ (m : Machine). MayBatch m c.args.hart) (sym c.self.view_is) c.requires.may in
     in_kernel c.batch-batch.result.left c.batch-batch.result.made c.self.inside.system c.batch-batch.new.self c.args.hart may c.batch-batch.ensures.ends
 
 pub answer_leaving-requires-clause-counts : goal.answer_leaving-requires-clause-counts
-answer_leaving-requires-clause-counts c =
+answer_leaving-requires-clause-counts g c =
     let may : MayBatch c.self.inside.system c.args.hart = subst (λ (m : Machine). MayBatch m c.args.hart) (sym c.self.view_is) c.requires.may in
     let begins : Begins c.self.inside.system c.args.hart = record {
       state = c.self.invariant.state;
@@ -48,7 +48,7 @@ answer_leaving-requires-clause-counts c =
     may_count c.batch-batch.new.self behind
 
 pub answer_leaving-requires-clause-turns : goal.answer_leaving-requires-clause-turns
-answer_leaving-requires-clause-turns c =
+answer_leaving-requires-clause-turns g c =
     let may : MayBatch c.self.inside.system c.args.hart = subst (λ (m : Machine). MayBatch m c.args.hart) (sym c.self.view_is) c.requires.may in
     let begins : Begins c.self.inside.system c.args.hart = record {
       state = c.self.invariant.state;
@@ -65,7 +65,7 @@ answer_leaving-requires-clause-turns c =
     let turns = behind.turns in omega (arith, turns)
 
 pub invariant_of-self : goal.invariant_of-self
-invariant_of-self c =
+invariant_of-self g c =
     let may : MayBatch c.self.inside.system c.args.hart = subst (λ (m : Machine). MayBatch m c.args.hart) (sym c.self.view_is) c.requires.may in
     let begins : Begins c.self.inside.system c.args.hart = record {
       state = c.self.invariant.state;
@@ -92,7 +92,7 @@ invariant_of-self c =
     }
 
 pub returns : goal.returns
-returns c =
+returns g c =
     let may : MayBatch c.self.inside.system c.args.hart = subst (λ (m : Machine). MayBatch m c.args.hart) (sym c.self.view_is) c.requires.may in
     let begins : Begins c.self.inside.system c.args.hart = record {
       state = c.self.invariant.state;
