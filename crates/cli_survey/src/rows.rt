@@ -9,8 +9,8 @@ use machine::{Machine, Notes};
 use script::EventRun;
 use sv_types::{Event, MAX_NOTES};
 
-/// A row of equal events, up to one after which a load is under way. Answers how many were made. One alone needs no row. It has an
-/// instance for each kind of source: LLVM builds in what has one caller, and this is too large for it otherwise.
+/// A row of equal events, up to one after which a load is under way. Answers how many were made. One alone needs no row. Each
+/// caller has an instance of its own: LLVM builds in what has one caller, and this is too large for it otherwise.
 pub(crate) fn make_row<S>(machine: &mut Machine, event: Event, count: u64) -> u64
     requires may { MayMake machine.old count }
     requires clear { is_clear machine.old ≡ true }

@@ -89,9 +89,6 @@ impl Machine {
         requires counts { CountsAtMost (max_counts - count) self.old.journal.counts }
         ensures { MadeRow result count self.old event self.new }
     {
-        if count == 1 {
-            return self.one(event);
-        }
         let shown = self.printed().len();
         let mut made = 0;
         'events: while made < count {

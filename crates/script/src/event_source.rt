@@ -6,9 +6,9 @@ ghost use Rattle.script.specs.Runs.{BeginsWith};
 
 use crate::burst::Bursts;
 use crate::event_run::EventRun;
-use sv_types::Event;
 use crate::listed::Listed;
 use crate::schedules::{Auto, Rounds, Weave};
+use sv_types::Event;
 
 /// Where events come from, in runs of equal ones. A loop over one kind of source asks for its kind no more.
 pub trait EventSource {

@@ -1,8 +1,5 @@
 // The runs of many numbers.
-ghost use Rattle.std.specs.Prelude.{◌≡◌, ◌+◌, ◌^◌, ◌≤◌, ◌%◌, ◌<◌, ℕ, IfOk, IsErrOf, Some, false, length};
-ghost use Rattle.sv_types.specs.Limits.{max_events};
-ghost use Rattle.sv_types.specs.ApprovedPages as pages;
-ghost use Rattle.spec_reference.specs.BlockDisk.{sector_size};
+ghost use Rattle.std.specs.Prelude.{◌≡◌, ◌+◌, ◌^◌, ◌≤◌, ◌<◌, ℕ, IfOk, IsErrOf, Some, false};
 ghost use Rattle.cli_trials.specs.Trials.{boots, schedule_of};
 ghost use Rattle.cli_trials.specs.Sweeps as spec;
 

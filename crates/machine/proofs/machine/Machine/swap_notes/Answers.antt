@@ -1,8 +1,8 @@
-use Rattle.std.proofs.Common.{◌+◌, ◌*◌, ◌<◌, ◌≤◌, ℕ, List, length, sym, subst}
+use Rattle.std.proofs.Common.{◌+◌, ◌*◌, ◌<◌, ◌≤◌, length, sym, subst}
 use Rattle.spec_hardware.specs.Machine.{Machine}
 use Rattle.spec_hardware.specs.StandsFor.{StandsFor}
 use Rattle.machine.specs.Batches.{AreFreeWhere}
-use Rattle.machine.specs.Noting.{noting, hw_noting}
+use Rattle.machine.specs.Noting.{noting}
 use Rattle.machine.proofs.Noted.{noted_stands}
 use Rattle.machine.proofs.machine.Machine.swap_notes.Goals as goal
 
