@@ -1,5 +1,6 @@
 -- A boot from files: its text has the policy's measure, or it is refused.
-use Rattle.std.proofs.Common.{◌≡◌, ℕ, List, ap, sym, ◌∙◌, subst, true, false, IsTrue, Ok}
+use Rattle.std.proofs.Common.{◌≡◌, ℕ, List, ap, refl, sym, ◌∙◌, subst, true, false, IsTrue}
+use Rattle.std.specs.Prelude.{Ok, Err, Option, Some, is_none, is_ok}
 use Rattle.sv_types.specs.Kernel.{text_of}
 use Rattle.sv_types.specs.Measure.{measure}
 use Rattle.sv_types.specs.Policies.{Rules, rules_within}
@@ -14,7 +15,9 @@ use Rattle.machine.specs.Boot.{IsImageOf, image_text}
 use Rattle.policy.specs.Refusals.{Judged}
 use Rattle.policy.specs.Text.{rules_of_text}
 use Rattle.cli_trials.specs.declared.trial.files.RunFiles.{RunFiles}
-use Rattle.cli_trials.specs.Trials.{allows_boot, boots, boots_under}
+use Rattle.sv_types.specs.Schedule.{Schedule}
+use Rattle.cli_trials.specs.declared.trial.order.Order.{Order}
+use Rattle.cli_trials.specs.Trials.{allows_boot, boots, boots_under, is_unread, schedule_of, unread_under}
 
 -- what else a boot asks holds of each machine that has started
 pub measured_boot : (m : Machine) (rules : Rules) (image : KernelImage) (file disk : List ℕ) → IsImageOf file rules.ram_pages image → IsNew m (boot_start rules file disk) →
@@ -34,3 +37,18 @@ measured_boot m rules image file disk is_image is_new measured permitted =
 -- where the rules of the policy's text don't allow it
 pub refused_boot : (files : RunFiles) (rules : Rules) → rules_of_text files.policy.now ≡ Ok rules → allows_boot rules files.image.now ≡ false → boots files ≡ false
 refused_boot files rules reads bad = ap (λ (judged : Judged Rules). boots_under judged files.image.now) reads ∙ bad
+
+-- ---- the order is judged before the boot
+
+unread_of_refused : (judged : Judged Rules) (in_order : Order) → is_ok judged ≡ false → unread_under judged in_order ≡ false
+unread_of_refused (Err fault) in_order bad = refl
+unread_of_refused (Ok rules) in_order bad = absurd (cc)
+
+-- and after the policy
+pub refused_policy_first : (policy : List ℕ) (in_order : Order) → is_ok (rules_of_text policy) ≡ false → is_unread policy in_order ≡ false
+refused_policy_first policy in_order bad = unread_of_refused (rules_of_text policy) in_order bad
+
+pub order_first : (policy : List ℕ) (in_order : Order) (rules : Rules) (schedule : Schedule) → rules_of_text policy ≡ Ok rules → schedule_of in_order rules.harts ≡ Some schedule
+    → is_unread policy in_order ≡ false
+order_first policy in_order rules schedule reads is =
+    ap (λ (judged : Judged Rules). unread_under judged in_order) reads ∙ ap (λ (s : Option Schedule). is_none s) is

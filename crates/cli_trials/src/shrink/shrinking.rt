@@ -42,6 +42,7 @@ pub enum Shrunk {
 
 /// Makes the run of an order small: its events up to the stop are written out as lines, of which as many as can be are taken away,
 /// and halves of their counts.
+#[tactic(auto, using(crate::proofs::Booting::refused_policy_first))]
 pub fn shrink<R: Threads + Sync>(
     rt: &R,
     alloc: Global,
@@ -54,6 +55,7 @@ pub fn shrink<R: Threads + Sync>(
     ensures small { IfOk result (IsShrunk files.now events order.now) }
     ensures unread { IsErrOf result NoOutcome.Script → is_unread files.now.policy.now order.now ≡ true }
     ensures refused { IsErrOf result NoOutcome.Refused → boots files.now ≡ false }
+    ensures first { IsErrOf result NoOutcome.Refused → is_unread files.now.policy.now order.now ≡ false }
 {
     keep_memory(alloc);
     let ending = try_order(rt, alloc, files, order, events)?;

@@ -20,8 +20,8 @@ use std::alloc::Global;
 use std::thread::Threads;
 
 /// How the run of these files ends over the first events of an order. `Script` is answered only of a text that is refused, and
-/// `Refused` only where no machine boots from the files.
-#[tactic(auto, using(crate::proofs::Booting::refused_boot))]
+/// `Refused` only where no machine boots from the files: the policy is judged first, then the order, and then the boot.
+#[tactic(auto, using(crate::proofs::Booting::refused_boot, crate::proofs::Booting::refused_policy_first, crate::proofs::Booting::order_first))]
 pub fn try_order<R: Threads + Sync>(
     rt: &R,
     alloc: Global,
@@ -34,6 +34,7 @@ pub fn try_order<R: Threads + Sync>(
     ensures outcome { IfOk result (λ ending. spec.outcome_in files.now events order.now ≡ Some ending.outcome) }
     ensures unread { IsErrOf result NoOutcome.Script → spec.is_unread files.now.policy.now order.now ≡ true }
     ensures refused { IsErrOf result NoOutcome.Refused → spec.boots files.now ≡ false }
+    ensures first { IsErrOf result NoOutcome.Refused → spec.is_unread files.now.policy.now order.now ≡ false }
 {
     let policy = read_policy(alloc, files.policy)?;
     let script = script_for(alloc, order, policy.harts)?;
