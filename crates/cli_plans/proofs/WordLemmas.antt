@@ -1,5 +1,5 @@
 -- The words of the command line.
-use Rattle.std.proofs.Common.{◌≡◌, ◌≢◌, ◌<◌, ℕ, List, [], ◌∷◌, Bool, true, false, ◌&&◌, IsTrue, length, refl, subst, sym, arith, cond, Option, Some, None, Result, Ok, Err}
+use Rattle.std.proofs.Common.{◌≡◌, ◌≢◌, ◌<◌, ℕ, List, [], ◌∷◌, Bool, true, false, ◌&&◌, IsTrue, ap, length, refl, subst, sym, arith, cond, Option, Some, None, Result, Ok, Err}
 use Rattle.std.specs.Prelude.{◌^◌, ◌-◌, if◌then◌else◌, nat_le, option_map, codes}
 use Rattle.std.specs.Str.{bytes_eq}
 use Rattle.std.specs.Option.{is_some}
@@ -30,8 +30,9 @@ use Rattle.cli_plans.specs.Refusals.{refusal_status}
 use Rattle.cli_plans.specs.CommandLine.{Command, Convert, Source, flat_words, gen_words, source_of}
 use Rattle.cli_plans.specs.CommandLine.{run_words, live_words, live_of, snap_words, snap_of, sweep_with, sweep_words, sweep_of, most_runs}
 use Rattle.cli_plans.specs.CommandLine.{drawn_order_of, resume_words, resume_of, entries_judged, init_of, terms_with, terms_words}
-use Rattle.cli_plans.specs.CommandLine.{terms_judged, making_words, making_judged, flat_judged, gen_judged, run_judged, split_judged}
+use Rattle.cli_plans.specs.CommandLine.{terms_judged, making_words, making_judged, flat_judged, gen_judged, run_judged, split_judged, refusal_in}
 use Rattle.cli_plans.specs.CommandLine.{command_after, live_after, snap_after, sweep_after, shrink_after, resume_after}
+use Rattle.cli_plans.specs.Words.{AreJudged}
 use Rattle.cli_plans.specs.CommandLine.{named_judged, judgement_of_words, live_judged, snap_judged, sweep_judged, shrink_judged}
 use Rattle.cli_plans.specs.CommandLine.{resume_judged, survey_words, survey_after, survey_judged, survey_of, debug_after, debug_judged}
 
@@ -327,3 +328,14 @@ resume_after_no_fault _ rest = λ e. cc e
 pub resume_no_read_fault : (words : List (List ℕ)) → NoReadFault (resume_judged words)
 unfolding resume_judged
 resume_no_read_fault words = named_no_fault resume_after (named_words words) resume_after_no_fault
+
+-- ---- what is wrong with words
+
+none_in : {A : Type 0} (due : Result A Refusal) → IsTrue (is_ok due) → refusal_in due ≡ None
+none_in (Ok asked) right = refl
+none_in (Err refusal) right = absurd (cc)
+
+pub judged_refusal : {S N A : Type 0} (value : S → N → A) (judge : S → Result A Refusal) (split : Option S) (result : Result N Refusal) → AreJudged value judge split result
+    → refusal_in (split_judged judge split) ≡ refusal_in result
+judged_refusal value judge split (Ok said) judged = none_in (split_judged judge split) judged.0
+judged_refusal value judge split (Err refusal) judged = ap refusal_in judged

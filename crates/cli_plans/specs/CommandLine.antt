@@ -394,3 +394,32 @@ resume_judged words = named_judged resume_after (named_words words)
 
 unfoldable pub show_judged : List (List ℕ) → Result ShowSplit Refusal
 show_judged words = named_judged show_after (named_words words)
+
+-- ---- what is wrong with the words of any command
+
+abbrev pub refusal_in : {A : Type 0} → Result A Refusal → Option Refusal
+refusal_in (Ok asked) = None
+refusal_in (Err refusal) = Some refusal
+
+abbrev pub refusal_after : CommandName → List (List ℕ) → Option Refusal
+refusal_after command.Flat rest = refusal_in (split_judged flat_judged (flat_split rest))
+refusal_after command.Generated rest = refusal_in (split_judged gen_judged (gen_split rest))
+refusal_after (command.Run kind) rest = refusal_in (split_judged run_judged (run_split kind rest))
+refusal_after command.Survey rest = refusal_in (split_judged survey_of (survey_split rest))
+refusal_after command.Debug rest = refusal_in (split_judged survey_of (survey_split rest))
+refusal_after (command.Live kind) rest = refusal_in (split_judged live_of (live_split kind rest))
+refusal_after (command.Snap kind) rest = refusal_in (split_judged snap_of (snap_split kind rest))
+refusal_after command.Sweep rest = refusal_in (split_judged sweep_of (sweep_split rest))
+refusal_after command.Shrink rest = refusal_in (split_judged snap_of (snap_split DiskKind.Block rest))
+refusal_after command.Resume rest = refusal_in (split_judged resume_of (resume_split rest))
+refusal_after command.Show rest = refusal_in (split_judged Ok (show_split rest))
+refusal_after command.Measure rest = refusal_in (split_judged making_judged (measure_split rest))
+refusal_after command.Convert rest = refusal_in (split_judged (λ words. Ok (Convert words)) (convert_split rest))
+
+abbrev pub refusal_named : Option Named → Option Refusal
+refusal_named None = Some NoCommand
+refusal_named (Some n) = refusal_after n.command n.rest
+
+-- none where nothing is
+unfoldable pub refusal_of_words : List (List ℕ) → Option Refusal
+refusal_of_words words = refusal_named (named_words words)

@@ -7,7 +7,7 @@ ghost use Rattle.policy_making.specs.Ranges.{terms_within};
 ghost use Rattle.cli_plans.specs.Commands.{flat_split, gen_split, run_split, survey_split, live_split, snap_split, sweep_split};
 ghost use Rattle.cli_plans.specs.Commands.{resume_split, show_split, measure_split, convert_split};
 ghost use Rattle.cli_plans.specs.CommandLine.{Convert, Generated, flat_judged, gen_judged, run_judged, survey_of, live_of, snap_of};
-ghost use Rattle.cli_plans.specs.CommandLine.{sweep_of, resume_of, making_judged, max_live_events};
+ghost use Rattle.cli_plans.specs.CommandLine.{sweep_of, resume_of, making_judged, max_live_events, refusal_after, refusal_in, refusal_of_words};
 ghost use Rattle.cli_plans.specs.Words.{AreJudged, flat_with, run_with, survey_with, live_with, snap_with, sweep_by, resume_with};
 ghost use Rattle.cli_plans.specs.Words.{making_with, terms_value};
 
@@ -26,46 +26,45 @@ use sv_types::MAX_EVENTS;
 const MAX_LIVE_EVENTS: u64 = MAX_EVENTS - MAX_KEYS;
 
 /// Why the words of any command are refused, if they are.
-pub fn judge(words: &[String]) -> Result<(), Refusal> {
-    let Some(naming) = named(words) else {
-        return Err(Refusal::NoCommand);
-    };
-    let rest = naming.rest;
-    match naming.command {
-        CommandName::Flat => {
-            judge_flat(rest)?;
-        }
-        CommandName::Generated => {
-            judge_generated(rest)?;
-        }
-        CommandName::Run(kind) => {
-            judge_run(kind, rest)?;
-        }
-        CommandName::Survey | CommandName::Debug => {
-            judge_survey(rest)?;
-        }
-        CommandName::Live(kind) => {
-            judge_live(kind, rest)?;
-        }
-        CommandName::Snap(kind) => {
-            judge_snap(kind, rest)?;
-        }
-        CommandName::Shrink => {
-            judge_snap(DiskKind::Block, rest)?;
-        }
-        CommandName::Sweep => {
-            judge_sweep(rest)?;
-        }
-        CommandName::Resume => {
-            judge_resume(rest)?;
-        }
-        CommandName::Show => judge_show(rest)?,
-        CommandName::Measure => {
-            judge_measure(rest)?;
-        }
-        CommandName::Convert => judge_convert(rest)?,
+#[tactic(auto, unfolding(crate::specs::CommandLine::refusal_of_words))]
+pub fn judge(words: &[String]) -> Result<(), Refusal>
+    ensures { refusal_in result ≡ refusal_of_words (map string_bytes words.now) }
+{
+    match named(words) {
+        Some(naming) => judge_after(naming.command, naming.rest),
+        None => Err(Refusal::NoCommand),
     }
-    Ok(())
+}
+
+// The same of the words after a command's name.
+#[tactic(auto, using(crate::proofs::WordLemmas::judged_refusal))]
+fn judge_after(command: CommandName, rest: &[String]) -> Result<(), Refusal>
+    ensures { refusal_in result ≡ refusal_after command (map string_bytes rest.now) }
+{
+    match command {
+        CommandName::Flat => refusal_of(judge_flat(rest)),
+        CommandName::Generated => refusal_of(judge_generated(rest)),
+        CommandName::Run(kind) => refusal_of(judge_run(kind, rest)),
+        CommandName::Survey | CommandName::Debug => refusal_of(judge_survey(rest)),
+        CommandName::Live(kind) => refusal_of(judge_live(kind, rest)),
+        CommandName::Snap(kind) => refusal_of(judge_snap(kind, rest)),
+        CommandName::Shrink => refusal_of(judge_snap(DiskKind::Block, rest)),
+        CommandName::Sweep => refusal_of(judge_sweep(rest)),
+        CommandName::Resume => refusal_of(judge_resume(rest)),
+        CommandName::Show => judge_show(rest),
+        CommandName::Measure => refusal_of(judge_measure(rest)),
+        CommandName::Convert => judge_convert(rest),
+    }
+}
+
+// What words say isn't asked for.
+fn refusal_of<T: Drop>(judged: Result<T, Refusal>) -> Result<(), Refusal>
+    ensures { refusal_in result ≡ refusal_in judged }
+{
+    match judged {
+        Ok(_) => Ok(()),
+        Err(refusal) => Err(refusal),
+    }
 }
 
 /// `flat FILE MEASURE EVENTS`
