@@ -157,10 +157,10 @@ fn tend_one<S: EventSource>(
     if !is_running(machine.verdict()) {
         return Ok(false);
     }
-    let Some(one) = source.draw(1) else {
+    let Some(event) = source.draw_one() else {
         return Ok(false);
     };
-    look_and_make(machine, &EventRun::once(one.event), found, spare)?;
+    look_and_make(machine, &EventRun::once(event), found, spare)?;
     Ok(true)
 }
 
@@ -391,11 +391,11 @@ fn make_events<S: EventSource, O: Sink>(
         if !is_clear(machine) {
             return Ok(Some(fit + rest));
         }
-        let Some(one) = source.draw(1) else {
+        let Some(event) = source.draw_one() else {
             return Ok(None);
         };
         fit -= 1;
-        make_one(machine, one.event, out)?;
+        make_one(machine, event, out)?;
     }
     Ok(Some(fit + rest))
 }

@@ -1,6 +1,8 @@
-use Rattle.std.proofs.Common.{◌≡◌, ◌-◌, ◌+◌, ◌∙◌, subst, sym, arith, true}
+use Rattle.std.proofs.Common.{◌≡◌, ◌-◌, ◌+◌, ◌∙◌, refl, subst, sym, arith, true}
 use Rattle.sv_types.specs.Schedule.{first_events}
 use Rattle.host_io.proofs.SinkLemmas.{on_err}
+use Rattle.script.specs.declared.event_run.EventRun.{EventRun}
+use Rattle.script.proofs.EventRuns.{begins_once}
 use Rattle.script.proofs.FirstEvents.{begun_none}
 use Rattle.machine.proofs.Repeated.{counts_within}
 use Rattle.machine.specs.Limits.{max_counts}
@@ -49,37 +51,39 @@ pub returns-in_err-make_one-clause-broke : goal.returns-in_err-make_one-clause-b
 returns-in_err-make_one-clause-broke g c =
     let test = c.events-test.true in
     let fits = c.events.invariant.fits in
-    let one : c.in-Some.one.count ≡ 1 = omega (arith, c.in-Some.ensures.some, c.in-Some.ensures.most) in
+    let drawn : EventRun = record { event = c.in-Some.event; count = 1 } in
     let clear : is_clear c.events.machine ≡ true = sym c.is_clear.ensures ∙ c.if-not-is_clear.false in
-    let at : BreaksAtOne c.events.machine c.in-Some.one.event c.make_one.new.machine (g.O.Sink.state c.events.out) (g.O.Sink.state c.make_one.new.out) = c.in_err-make_one.ensures.broke in
+    let at : BreaksAtOne c.events.machine c.in-Some.event c.make_one.new.machine (g.O.Sink.state c.events.out) (g.O.Sink.state c.make_one.new.out) = c.in_err-make_one.ensures.broke in
     let broke : BreaksWhile (g.S.EventSource.schedule c.args.source.now) c.args.events c.args.machine.now c.make_one.new.machine
     (g.O.Sink.state c.args.out.now) (g.O.Sink.state c.make_one.new.out) = λ later may.
-    over_broke 1 _ _ _ _ (first_events (c.events.fit - 1 + (c.args.events - c.room_for-fit.result) + later) (g.S.EventSource.schedule c.draw.new.self)) _ c.events.machine at.next _
-    c.in-Some.one.event _ _ _ (c.events.invariant.over later may) clear
-    (drawn_one c.events.fit (c.args.events - c.room_for-fit.result) later c.in-Some.one (g.S.EventSource.schedule c.events.source) (g.S.EventSource.schedule c.draw.new.self)
-    (omega (arith, test)) one c.in-Some.ensures.first)
-    (omega (arith, test, fits)) (clear_made 1 c.events.machine at.next c.in-Some.one.event c.events.invariant.may.state clear at.made) at.is_passed at.broke in
+    over_broke 1 _ _ _ _ (first_events (c.events.fit - 1 + (c.args.events - c.room_for-fit.result) + later) (g.S.EventSource.schedule c.draw_one.new.self)) _ c.events.machine at.next _
+    c.in-Some.event _ _ _ (c.events.invariant.over later may) clear
+    (drawn_one c.events.fit (c.args.events - c.room_for-fit.result) later drawn (g.S.EventSource.schedule c.events.source) (g.S.EventSource.schedule c.draw_one.new.self)
+    (omega (arith, test)) refl (begins_once (g.S.EventSource.schedule c.events.source) (g.S.EventSource.schedule c.draw_one.new.self) drawn refl c.in-Some.ensures.event
+    c.draw_one.ensures.rest))
+    (omega (arith, test, fits)) (clear_made 1 c.events.machine at.next c.in-Some.event c.events.invariant.may.state clear at.made) at.is_passed at.broke in
     on_err _ _ broke
 
 pub events-preserved : goal.events-preserved
 events-preserved g c =
     let test = c.events-test.true in
     let fits = c.events.invariant.fits in
-    let one : c.in-Some.one.count ≡ 1 = omega (arith, c.in-Some.ensures.some, c.in-Some.ensures.most) in
+    let drawn : EventRun = record { event = c.in-Some.event; count = 1 } in
     let clear : is_clear c.events.machine ≡ true = sym c.is_clear.ensures ∙ c.if-not-is_clear.false in
-    let it : IsOneMade c.events.machine c.in-Some.one.event c.make_one.new.machine (g.O.Sink.state c.events.out) (g.O.Sink.state c.make_one.new.out) = c.in_ok-make_one.ensures.made in
+    let it : IsOneMade c.events.machine c.in-Some.event c.make_one.new.machine (g.O.Sink.state c.events.out) (g.O.Sink.state c.make_one.new.out) = c.in_ok-make_one.ensures.made in
     record {
       over = λ later may. over_made 1 _ (c.events.fit + (c.args.events - c.room_for-fit.result) + later) (c.events.fit - 1 + (c.args.events - c.room_for-fit.result) + later) _ _
-          (first_events (c.events.fit - 1 + (c.args.events - c.room_for-fit.result) + later) (g.S.EventSource.schedule c.draw.new.self)) _ c.events.machine
-          it.next c.make_one.new.machine c.in-Some.one.event _ _ _ (c.events.invariant.over later may) clear
-          (drawn_one c.events.fit (c.args.events - c.room_for-fit.result) later c.in-Some.one (g.S.EventSource.schedule c.events.source) (g.S.EventSource.schedule c.draw.new.self)
-          (omega (arith, test)) one c.in-Some.ensures.first)
+          (first_events (c.events.fit - 1 + (c.args.events - c.room_for-fit.result) + later) (g.S.EventSource.schedule c.draw_one.new.self)) _ c.events.machine
+          it.next c.make_one.new.machine c.in-Some.event _ _ _ (c.events.invariant.over later may) clear
+          (drawn_one c.events.fit (c.args.events - c.room_for-fit.result) later drawn (g.S.EventSource.schedule c.events.source) (g.S.EventSource.schedule c.draw_one.new.self)
+          (omega (arith, test)) refl (begins_once (g.S.EventSource.schedule c.events.source) (g.S.EventSource.schedule c.draw_one.new.self) drawn refl c.in-Some.ensures.event
+          c.draw_one.ensures.rest))
           (omega (arith, test)) (omega (arith, test, fits))
-          (clear_made 1 c.events.machine it.next c.in-Some.one.event c.events.invariant.may.state clear it.made) it.flushed it.room;
+          (clear_made 1 c.events.machine it.next c.in-Some.event c.events.invariant.may.state clear it.made) it.flushed it.room;
       may = go_made 1 (c.events.fit + (c.args.events - c.room_for-fit.result)) (c.events.fit - 1 + (c.args.events - c.room_for-fit.result)) c.events.machine
-          it.next c.make_one.new.machine c.in-Some.one.event _ _ (omega (arith, test))
-          (clear_made 1 c.events.machine it.next c.in-Some.one.event c.events.invariant.may.state clear it.made) c.events.invariant.may it.flushed it.room;
-      fits = fits_on 1 c.events.fit (c.events.fit - 1) c.events.machine it.next c.make_one.new.machine c.in-Some.one.event _ _
+          it.next c.make_one.new.machine c.in-Some.event _ _ (omega (arith, test))
+          (clear_made 1 c.events.machine it.next c.in-Some.event c.events.invariant.may.state clear it.made) c.events.invariant.may it.flushed it.room;
+      fits = fits_on 1 c.events.fit (c.events.fit - 1) c.events.machine it.next c.make_one.new.machine c.in-Some.event _ _
           c.events.invariant.may.state clear it.made fits (omega (arith, test)) it.flushed;
     }
 

@@ -1,5 +1,5 @@
 use Rattle.std.proofs.Common.{◌∙◌, ap, inl, inr, refl, subst, sym, arith, ◌≡◌}
-use Rattle.script.specs.Runs.{BeginsWith}
+use Rattle.script.proofs.EventRuns.{begins_once}
 use Rattle.report.specs.Views.{loads_view, writes_view}
 use Rattle.cli_survey.specs.Advances.{IsRowMade, MayTend, TellsOn}
 use Rattle.spec_reference.specs.States.{State}
@@ -41,14 +41,13 @@ look_and_make-requires-clause-kept g c =
 
 pub returns-clause-went : goal.returns-clause-went
 returns-clause-went g c =
-    let one : c.in-Some.one.count ≡ 1 = omega (arith, c.in-Some.ensures.some, c.in-Some.ensures.most) in
     let most = c.in_ok-look_and_make.ensures.row.most in
     let some = c.in_ok-look_and_make.ensures.row.made.some in
     let once : c.in_ok-look_and_make.field-0 ≡ 1 = omega (arith, most, some, c.once.ensures.count) in
     record {
-      event = c.in-Some.one.event;
-      begins = subst (λ n. BeginsWith (g.S.EventSource.schedule c.args.source.now) (record { event = c.in-Some.one.event; count = n })
-          (g.S.EventSource.schedule c.draw.new.self)) one c.in-Some.ensures.first;
+      event = c.in-Some.event;
+      begins = begins_once (g.S.EventSource.schedule c.args.source.now) (g.S.EventSource.schedule c.draw_one.new.self) (record { event = c.in-Some.event; count = 1 })
+          refl c.in-Some.ensures.event c.draw_one.ensures.rest;
       advances = record {
         ready = c.pass_write.new.machine;
         passed = record { passed = c.pass_write.ensures.passed; kept = ap writes_view c.look_and_make.ensures.writes ∙ c.in_ok-pass_write.ensures.kept };
@@ -56,10 +55,10 @@ returns-clause-went g c =
         looked = subst (λ e. (r : State) → StandsFor c.pass_write.new.machine r →
             loads_view c.look_and_make.new.found.loads ≡ with_loads (loads_view c.args.found.now.loads) (refusals r e)) c.once.ensures.event
             c.in_ok-look_and_make.ensures.looked;
-        made = subst (λ n. IsRowMade c.pass_write.new.machine c.in-Some.one.event n c.look_and_make.new.machine) once
+        made = subst (λ n. IsRowMade c.pass_write.new.machine c.in-Some.event n c.look_and_make.new.machine) once
             (subst (λ e. IsRowMade c.pass_write.new.machine e c.in_ok-look_and_make.field-0 c.look_and_make.new.machine) c.once.ensures.event
             c.in_ok-look_and_make.ensures.row.made);
-        told = subst (λ n. TellsOn c.pass_write.new.machine c.in-Some.one.event n c.look_and_make.new.machine c.args.found.now.noted c.look_and_make.new.found.noted) once
+        told = subst (λ n. TellsOn c.pass_write.new.machine c.in-Some.event n c.look_and_make.new.machine c.args.found.now.noted c.look_and_make.new.found.noted) once
             (subst (λ e. TellsOn c.pass_write.new.machine e c.in_ok-look_and_make.field-0 c.look_and_make.new.machine c.args.found.now.noted
             c.look_and_make.new.found.noted) c.once.ensures.event c.in_ok-look_and_make.ensures.row.told);
       };
